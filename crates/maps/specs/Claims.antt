@@ -1,0 +1,175 @@
+-- Demands 2 and 3 for every accepted table, order, secrets, tape and probe list, and further laws that tie the definitions
+-- to document 01. The statements only; proofs/ has the proofs.
+-- Assumes nothing.
+use mathlib.Core.Path.{_≡_}
+use mathlib.Core.Bool.{Bool, true, false, _&&_}
+use mathlib.Core.List.{List, [], _∷_, _++_, map}
+use Prim.Native.Nat.{ℕ, zero, suc, _+_, _*_, _≤_, _<_}
+use lib.Dec.{eqb, ltb, leb}
+use lib.ListN.{length, getD, take, drop}
+use Rattle.tables.specs.Refusals.{pick, none, passed}
+use Rattle.tables.specs.Tables.{Kind, NOT, XOR, AND, RANDOM, UNKNOWN, Gate, Table, wires, tableOf, tableBytes, tableLong, tableFault, randomFault}
+use Rattle.tables.specs.Runs.{run, readAll, outputsOf, randoms}
+use Rattle.masks.specs.Shares.{sharesOf, tri}
+use Rattle.masks.specs.Gadgets.{Gadget, isw}
+use Rattle.masks.specs.Wires.{marks, cost, maskedTable, origins, tapeLong}
+use Rattle.masks.specs.Codes.{encode, decode, maskedRun}
+use Rattle.masks.specs.Says.{orderOk, plainFault}
+use Rattle.maps.specs.Maps.{isIn, carried, freeShare, flipped, mappedAt, mapped, tapeFlips}
+
+-- "one byte a bit, 0 or 1"
+abbrev pub allBits : List ℕ → Bool
+allBits [] = true
+allBits (b ∷ bs) = leb b 1 && allBits bs
+
+-- a plain table and an order that neither 1 to 5, 6 nor 7 refuses; without 8 the claims hold of larger tables too
+abbrev pub accepted : List ℕ → ℕ → Bool
+accepted s o = passed (tableFault s) && (orderOk o && passed (randomFault 0 (tableOf s .gates)))
+
+-- "The tapes of demand 3 are all those that neither 10 nor 11 refuses"
+abbrev pub isTape : Gadget → ℕ → Table → List ℕ → Bool
+isTape G o t ts = eqb (length ts) (tapeLong G o t) && allBits ts
+
+abbrev pub areSecrets : Table → List ℕ → Bool
+areSecrets t xs = eqb (length xs) (t .inputs) && allBits xs
+
+abbrev pub allBelow : ℕ → List ℕ → Bool
+allBelow w [] = true
+allBelow w (p ∷ ps) = ltb p w && allBelow w ps
+
+-- "12 more than t; 13 no wire of the masked table"
+abbrev pub areProbes : Gadget → ℕ → Table → List ℕ → Bool
+areProbes G o t ps = leb (length ps) o && allBelow (wires (maskedTable G o t)) ps
+
+-- every list of n bits
+unfoldable pub allTapes : ℕ → List (List ℕ)
+allTapes zero = [] ∷ []
+allTapes (suc n) = map (λ ts. 0 ∷ ts) (allTapes n) ++ map (λ ts. 1 ∷ ts) (allTapes n)
+
+abbrev pub same : List ℕ → List ℕ → Bool
+same [] [] = true
+same [] (y ∷ ys) = false
+same (x ∷ xs) [] = false
+same (x ∷ xs) (y ∷ ys) = eqb x y && same xs ys
+
+-- how many of the lists pass a test
+unfoldable pub howMany : (List ℕ → Bool) → List (List ℕ) → ℕ
+howMany f [] = 0
+howMany f (ts ∷ rest) = pick (f ts) 1 0 + howMany f rest
+
+-- "A pattern lists the values that the probes read, in list order": how many tapes give it
+abbrev pub timesGiven : Gadget → ℕ → Table → List ℕ → List ℕ → List ℕ → ℕ
+timesGiven G o t xs ps pattern =
+    howMany (λ ts. same (readAll (maskedRun G o t xs ts) ps) pattern) (allTapes (tapeLong G o t))
+
+-- demand 2
+pub record Computes (G : Gadget) (t : Table) (o : ℕ) : Type 0 where
+  -- "encode, run, decode gives the plain table's outputs for every secret and tape"
+  pub same-outputs :
+      (xs ts : List ℕ) → areSecrets t xs ≡ true → isTape G o t ts ≡ true
+      → decode o (outputsOf (maskedTable G o t) (maskedRun G o t xs ts)) ≡ outputsOf t (run t xs [])
+  -- "decoding an encoded bit gives the bit"
+  pub decodes :
+      (xs ts : List ℕ) → allBits xs ≡ true → allBits ts ≡ true → length ts ≡ 2 * o * length xs
+      → decode o (encode o xs ts) ≡ xs
+
+-- demand 3
+pub record Hides (G : Gadget) (t : Table) (o : ℕ) : Type 0 where
+  -- "document 01's map takes the tapes one-to-one onto themselves": it gives tapes, and the map from y to x leads back
+  pub a-tape :
+      (xs ys ts ps : List ℕ) → areSecrets t xs ≡ true → areSecrets t ys ≡ true → isTape G o t ts ≡ true
+      → areProbes G o t ps ≡ true → isTape G o t (mapped G o t xs ys ts ps) ≡ true
+  pub back :
+      (xs ys ts ps : List ℕ) → areSecrets t xs ≡ true → areSecrets t ys ≡ true → isTape G o t ts ≡ true
+      → areProbes G o t ps ≡ true → mapped G o t ys xs (mapped G o t xs ys ts ps) ps ≡ ts
+  -- "each read wire keeps its value"
+  pub same-read :
+      (xs ys ts ps : List ℕ) → areSecrets t xs ≡ true → areSecrets t ys ≡ true → isTape G o t ts ≡ true
+      → areProbes G o t ps ≡ true
+      → readAll (maskedRun G o t ys (mapped G o t xs ys ts ps)) ps ≡ readAll (maskedRun G o t xs ts) ps
+  -- "each pattern comes from as many tapes for one key as for the other"
+  pub as-many :
+      (xs ys ps pattern : List ℕ) → areSecrets t xs ≡ true → areSecrets t ys ≡ true → areProbes G o t ps ≡ true
+      → timesGiven G o t xs ps pattern ≡ timesGiven G o t ys ps pattern
+
+-- what masking writes reads back as the masked table, which is accepted and has a tape bit for each random gate
+pub record WrittenBack (s : List ℕ) (o : ℕ) : Type 0 where
+  pub unrefused : tableFault (tableBytes (maskedTable isw o (tableOf s))) ≡ none
+  pub read-back : tableOf (tableBytes (maskedTable isw o (tableOf s))) ≡ maskedTable isw o (tableOf s)
+  pub tape :
+      tapeLong isw o (tableOf s)
+      ≡ 2 * o * tableOf s .inputs + randoms (tableOf (tableBytes (maskedTable isw o (tableOf s))) .gates)
+  -- demands 2 and 3 are of the bytes written: the table read back runs as the masked table does
+  pub same-run :
+      (xs ts : List ℕ)
+      → run
+      (tableOf (tableBytes (maskedTable isw o (tableOf s))))
+      (encode o xs (take (2 * o * tableOf s .inputs) ts))
+      (drop (2 * o * tableOf s .inputs) ts)
+      ≡ maskedRun isw o (tableOf s) xs ts
+
+-- the demands, for every table and order
+pub record Demands : Type 0 where
+  pub second : (s : List ℕ) (o : ℕ) → accepted s o ≡ true → Computes isw (tableOf s) o
+  pub third : (s : List ℕ) (o : ℕ) → accepted s o ≡ true → Hides isw (tableOf s) o
+  pub written-back : (s : List ℕ) (o : ℕ) → passed (plainFault s o) ≡ true → WrittenBack s o
+
+-- how many gates of a kind a table has
+unfoldable pub countKind : (Kind → ℕ) → List Gate → ℕ
+countKind f [] = 0
+countKind f (g ∷ gs) = f (g .kind) + countKind f gs
+
+abbrev pub isAnd : Kind → ℕ
+isAnd NOT = 0
+isAnd XOR = 0
+isAnd AND = 1
+isAnd RANDOM = 0
+isAnd (UNKNOWN k) = 0
+
+-- the closed sizes: "An AND costs n² + 5n(n−1)/2 wires, of which n(n−1)/2 are random"; "The length is 6 + 5G + 2O"
+pub record Sized (G : Gadget) (t : Table) (o : ℕ) : Type 0 where
+  pub wires-are :
+      wires (maskedTable G o t) ≡ sharesOf o * t .inputs + countKind (λ k. cost k (sharesOf o)) (t .gates)
+  pub tape-is : tapeLong G o t ≡ 2 * o * t .inputs + tri (sharesOf o) * countKind isAnd (t .gates)
+  pub outputs-are : length (maskedTable G o t .outputs) ≡ sharesOf o * length (t .outputs)
+  pub bytes-are :
+      length (tableBytes (maskedTable G o t))
+      ≡ tableLong (length (maskedTable G o t .gates)) (length (maskedTable G o t .outputs))
+  -- every wire of the masked table has an origin, and a run a value for every wire
+  pub origins-are : length (origins G o t) ≡ wires (maskedTable G o t)
+  pub values-are :
+      (xs ts : List ℕ) → areSecrets t xs ≡ true → isTape G o t ts ≡ true
+      → length (maskedRun G o t xs ts) ≡ wires (maskedTable G o t)
+
+-- the free share: one of 1 to n, carried by no probe, and every smaller one is carried
+pub record Free (G : Gadget) (t : Table) (o : ℕ) (ps : List ℕ) : Type 0 where
+  pub from-1 : 1 ≤ freeShare G o t ps
+  pub to-n : freeShare G o t ps ≤ sharesOf o
+  pub uncarried : isIn (freeShare G o t ps) (carried (marks G) (origins G o t) ps) ≡ false
+  pub smallest :
+      (i : ℕ) → 1 ≤ i → i < freeShare G o t ps → isIn i (carried (marks G) (origins G o t) ps) ≡ true
+
+-- the map is document 01's: in the two complete runs the tapes differ exactly where its rules say, and no other tape does
+pub record TwoRuns (G : Gadget) (t : Table) (o k : ℕ) : Type 0 where
+  pub flips :
+      (xs ys ts : List ℕ) → areSecrets t xs ≡ true → areSecrets t ys ≡ true → isTape G o t ts ≡ true
+      → mappedAt G o t k xs ys ts
+      ≡ flipped ts (tapeFlips G o t k xs ys (maskedRun G o t xs ts) (maskedRun G o t ys (mappedAt G o t k xs ys ts)))
+  pub only :
+      (xs ys ts us : List ℕ) → areSecrets t xs ≡ true → areSecrets t ys ≡ true → isTape G o t ts ≡ true
+      → us ≡ flipped ts (tapeFlips G o t k xs ys (maskedRun G o t xs ts) (maskedRun G o t ys us))
+      → us ≡ mappedAt G o t k xs ys ts
+  -- equal secrets map a tape to itself
+  pub itself :
+      (xs ts : List ℕ) → areSecrets t xs ≡ true → isTape G o t ts ≡ true → mappedAt G o t k xs xs ts ≡ ts
+
+-- further laws of every accepted table
+pub record Laws : Type 0 where
+  pub sized : (s : List ℕ) (o : ℕ) → accepted s o ≡ true → Sized isw (tableOf s) o
+  pub free :
+      (s : List ℕ) (o : ℕ) (ps : List ℕ) → accepted s o ≡ true → areProbes isw o (tableOf s) ps ≡ true
+      → Free isw (tableOf s) o ps
+  pub two-runs : (s : List ℕ) (o k : ℕ) → accepted s o ≡ true → TwoRuns isw (tableOf s) o k
+  -- every list of n bits stands exactly once among all of them
+  pub once :
+      (n : ℕ) (ts : List ℕ) → length ts ≡ n → allBits ts ≡ true → howMany (λ us. same ts us) (allTapes n) ≡ 1

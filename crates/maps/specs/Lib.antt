@@ -1,0 +1,4 @@
+-- Free shares and the mapped tape, demands 2 and 3 as statements, and what mapping promises.
+pub mod Maps
+pub mod Claims
+pub mod Says

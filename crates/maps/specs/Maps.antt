@@ -1,0 +1,122 @@
+-- The free share and the mapped tape (document 01, "Marks and the mapped tape"). The free share and the mapped tape are the
+-- paper's own terms. A flip is 0 or 1 for each tape bit; the mapped tape is built gate by gate, both runs going along, so that
+-- "what an AND flips depends only on what is built before it".
+-- Assumes nothing.
+use mathlib.Core.Bool.{Bool, true, false, _||_}
+use mathlib.Core.List.{List, [], _∷_, _++_, map}
+use Prim.Native.Nat.{ℕ, zero, suc, _+_, _*_}
+use lib.Dec.{eqb}
+use lib.ListN.{length, getD, take, drop}
+use Rattle.tables.specs.Refusals.{pick}
+use Rattle.tables.specs.Tables.{Kind, NOT, XOR, AND, RANDOM, UNKNOWN, Gate, Table}
+use Rattle.tables.specs.Runs.{xor, runFrom}
+use Rattle.masks.specs.Shares.{sharesOf, upFrom, Pair, pairs}
+use Rattle.masks.specs.Gadgets.{Gadget}
+use Rattle.masks.specs.Wires.{Origin, marks, driverOf, share, newWires, cost, newShares, inputShares, origins}
+use Rattle.masks.specs.Codes.{encode}
+use Rattle.masks.specs.Says.{originAt}
+
+abbrev pub isIn : ℕ → List ℕ → Bool
+isIn x [] = false
+isIn x (y ∷ ys) = eqb x y || isIn x ys
+
+-- the share numbers that the probes carry, each as often as it is carried; mk gives the marks of an origin
+unfoldable pub carried : (Origin → List ℕ) → List Origin → List ℕ → List ℕ
+carried mk os [] = []
+carried mk os (p ∷ ps) = mk (originAt os p) ++ carried mk os ps
+
+-- the smallest number from k on that is not in the list, looking at c numbers
+unfoldable pub freeFrom : ℕ → ℕ → List ℕ → ℕ
+freeFrom zero k cs = k
+freeFrom (suc c) k cs = elim (isIn k cs) [ true ↦ freeFrom c (suc k) cs | false ↦ k ]
+
+-- "the smallest share number that no probe carries; an empty list has k = 1"
+unfoldable pub freeShare : Gadget → ℕ → Table → List ℕ → ℕ
+freeShare G o t ps = freeFrom (sharesOf o) 1 (carried (marks G) (origins G o t) ps)
+
+-- a tape with some bits flipped; "All else is kept"
+unfoldable pub flipped : List ℕ → List ℕ → List ℕ
+flipped [] fs = []
+flipped (t ∷ ts) [] = t ∷ ts
+flipped (t ∷ ts) (f ∷ fs) = xor t f ∷ flipped ts fs
+
+-- "Where k ≤ 2t, tape bit k of each input is flipped if x and y differ there"
+unfoldable pub inputFlips : ℕ → ℕ → List ℕ → List ℕ → List ℕ
+inputFlips o k [] ys = []
+inputFlips o k (x ∷ xs) [] = []
+inputFlips o k (x ∷ xs) (y ∷ ys) =
+    upFrom (2 * o) 1 (λ s. pick (eqb s k) (xor x y) 0) ++ inputFlips o k xs ys
+
+-- whether a_i·b_j differs between the runs v and u: 1 or 0
+abbrev pub differs : (ℕ → ℕ) → (ℕ → ℕ) → ℕ → ℕ → ℕ
+differs v u a b = xor (v a * v b) (u a * u b)
+
+-- what one pair flips
+abbrev pub pairFlip : Gadget → ℕ → List ℕ → List ℕ → (ℕ → ℕ) → (ℕ → ℕ) → Pair → ℕ
+pairFlip G k a b v u p =
+    let i = p .lower in
+    let j = p .upper in
+    G .flip k (suc i) (suc j) (differs v u (share a i) (share b j)) (differs v u (share a j) (share b i))
+
+-- what a plain gate flips of its random bits: "In each AND, z(k,j) for j>k is flipped if a_k·b_j⊕a_j·b_k differs"
+abbrev pub gateFlips : Gadget → Kind → ℕ → ℕ → List ℕ → List ℕ → (ℕ → ℕ) → (ℕ → ℕ) → List ℕ
+gateFlips G NOT n k a b v u = []
+gateFlips G XOR n k a b v u = []
+gateFlips G AND n k a b v u = map (pairFlip G k a b v u) (pairs n)
+gateFlips G RANDOM n k a b v u = []
+gateFlips G (UNKNOWN c) n k a b v u = []
+
+-- "the ANDs in table order": from gate g and wire w on, where S lists the shares so far, rs are the random bits of the first
+-- run, and vs and us are the values of both runs so far; what comes back are the random bits of the second run
+unfoldable pub mapGates : Gadget → ℕ → ℕ → ℕ → ℕ → List (List ℕ) → List Gate → List ℕ → List ℕ → List ℕ → List ℕ
+mapGates G n k g w S [] rs vs us = rs
+mapGates G n k g w S (x ∷ xs) rs vs us =
+    let a = getD S (x .left) [] in
+    let b = getD S (x .right) [] in
+    let fs = gateFlips G (x .kind) n k a b (λ p. getD vs p 0) (λ p. getD us p 0) in
+    let ss = flipped (take (length fs) rs) fs in
+    let gs = map driverOf (newWires G (x .kind) n g w a b) in
+    ss
+    ++ mapGates G n k (suc g) (w + cost (x .kind) n)
+    (S ++ (newShares (x .kind) n w a ∷ []))
+    xs
+    (drop (length fs) rs)
+    (runFrom gs rs vs)
+    (runFrom gs ss us)
+
+-- "From secrets x and y, a tape and a probe list, the mapped tape is built thus, inputs first, then the ANDs in table order",
+-- with the free share k of the list
+unfoldable pub mappedAt : Gadget → ℕ → Table → ℕ → List ℕ → List ℕ → List ℕ → List ℕ
+mappedAt G o t k xs ys tape =
+    let n = sharesOf o in
+    let m = 2 * o * t .inputs in
+    let first = flipped (take m tape) (inputFlips o k xs ys) in
+    first
+    ++ mapGates G n k 0 (n * t .inputs)
+    (inputShares n (t .inputs))
+    (t .gates)
+    (drop m tape)
+    (encode o xs (take m tape))
+    (encode o ys first)
+
+abbrev pub mapped : Gadget → ℕ → Table → List ℕ → List ℕ → List ℕ → List ℕ → List ℕ
+mapped G o t xs ys tape ps = mappedAt G o t (freeShare G o t ps) xs ys tape
+
+-- what document 01's rules flip, read off two complete runs v and u
+unfoldable pub gatesFlips : Gadget → ℕ → ℕ → ℕ → List (List ℕ) → List Gate → (ℕ → ℕ) → (ℕ → ℕ) → List ℕ
+gatesFlips G n k w S [] v u = []
+gatesFlips G n k w S (x ∷ xs) v u =
+    let a = getD S (x .left) [] in
+    let b = getD S (x .right) [] in
+    gateFlips G (x .kind) n k a b v u
+    ++ gatesFlips G n k (w + cost (x .kind) n) (S ++ (newShares (x .kind) n w a ∷ [])) xs v u
+
+unfoldable pub tapeFlips : Gadget → ℕ → Table → ℕ → List ℕ → List ℕ → List ℕ → List ℕ → List ℕ
+tapeFlips G o t k xs ys vs us =
+    let n = sharesOf o in
+    inputFlips o k xs ys
+    ++ gatesFlips G n k (n * t .inputs)
+    (inputShares n (t .inputs))
+    (t .gates)
+    (λ p. getD vs p 0)
+    (λ p. getD us p 0)

@@ -1,0 +1,62 @@
+-- What sets one masked AND apart from another: the five wires of a pair of shares i < j, their marks, which of them the rows
+-- add, and what the map flips. Document 01's AND is `isw` (source document 001, section 3).
+-- Assumes nothing.
+use mathlib.Core.List.{List, [], _∷_}
+use Prim.Native.Nat.{ℕ, suc, _+_}
+use lib.Dec.{eqb}
+use Rattle.tables.specs.Refusals.{pick}
+use Rattle.tables.specs.Tables.{XOR, AND, RANDOM, Gate, gate}
+use Rattle.tables.specs.Runs.{xor}
+
+-- "five wires": those of a pair, in order
+pub data Five : Type 0 where
+  first second third fourth fifth : Five
+
+abbrev pub allFive : List Five
+allFive = first ∷ second ∷ third ∷ fourth ∷ fifth ∷ []
+
+-- how many of the pair's wires come before it
+abbrev pub place : Five → ℕ
+place first = 0
+place second = 1
+place third = 2
+place fourth = 3
+place fifth = 4
+
+pub record Gadget : Type 0 where
+  -- the gates, from the pair's first wire and the wires of a_i, b_j, a_j and b_i
+  pub gates : ℕ → ℕ → ℕ → ℕ → ℕ → Five → Gate
+  -- the share numbers that a wire carries, for the pair of shares i and j of the paper
+  pub marks : ℕ → ℕ → Five → List ℕ
+  -- the wires that row i and row j add
+  pub low : Five
+  pub high : Five
+  -- whether the pair's random bit is flipped: the free share k, shares i and j, whether a_i·b_j and a_j·b_i differ
+  pub flip : ℕ → ℕ → ℕ → ℕ → ℕ → ℕ
+
+-- "random z(i,j); a_i·b_j; z(i,j)⊕a_i·b_j; a_j·b_i; the third ⊕ the fourth, called z(j,i)"
+abbrev pub iswGates : ℕ → ℕ → ℕ → ℕ → ℕ → Five → Gate
+iswGates w ai bj aj bi first = gate RANDOM 0 0
+iswGates w ai bj aj bi second = gate AND ai bj
+iswGates w ai bj aj bi third = gate XOR w (w + 1)
+iswGates w ai bj aj bi fourth = gate AND aj bi
+iswGates w ai bj aj bi fifth = gate XOR (w + 2) (w + 3)
+
+-- "z(i,j) has {i} and z(j,i) has {j}; a_i·b_j, a_j·b_i and z(i,j)⊕a_i·b_j have {i,j}"
+abbrev pub iswMarks : ℕ → ℕ → Five → List ℕ
+iswMarks i j first = i ∷ []
+iswMarks i j second = i ∷ j ∷ []
+iswMarks i j third = i ∷ j ∷ []
+iswMarks i j fourth = i ∷ j ∷ []
+iswMarks i j fifth = j ∷ []
+
+-- row i adds z(i,j), row j adds z(j,i); "z(k,j) for j>k is flipped if a_k·b_j⊕a_j·b_k differs between the two runs"
+abbrev pub isw : Gadget
+isw =
+    record {
+      gates = iswGates;
+      marks = iswMarks;
+      low = first;
+      high = fifth;
+      flip = λ k i j p q. pick (eqb i k) (xor p q) 0;
+    }

@@ -1,0 +1,17 @@
+// What forecasting answers: a refusal's number and place, or 0, 0 and the masked table's four figures.
+pub struct Sizes {
+    pub number: u8,
+    pub place: u32,
+    pub shares: u32,
+    pub wires: u32,
+    pub tape: u32,
+    pub bytes: u32,
+}
+
+// What the marks call answers: a refusal's number and place, or 0, 0 and the share numbers, ascending, 0 for none.
+pub struct Marks {
+    pub number: u8,
+    pub place: u32,
+    pub first: u8,
+    pub second: u8,
+}

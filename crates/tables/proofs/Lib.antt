@@ -1,0 +1,4 @@
+-- Laws of the tables' definitions that callers above cite, by subject.
+pub mod Tests
+pub mod Lists
+pub mod Run

@@ -1,0 +1,5 @@
+-- Gate tables: refusals, the format, runs, and what checking and running promise.
+pub mod Refusals
+pub mod Tables
+pub mod Runs
+pub mod Says

@@ -1,0 +1,49 @@
+-- Running a gate table (document 01, "Tape, encoding, decoding"): "Running any gate table writes one value for each wire;
+-- it takes exactly I inputs and one bit for each random gate." A bit is a byte, 0 or 1.
+-- Assumes nothing.
+use mathlib.Core.List.{List, [], _∷_, _++_}
+use Prim.Native.Nat.{ℕ, zero, suc, _+_, _-_, _*_, _%_}
+use lib.ListN.{getD, drop, length}
+use Rattle.tables.specs.Tables.{Kind, NOT, XOR, AND, RANDOM, UNKNOWN, Gate, Table}
+
+abbrev pub xor : ℕ → ℕ → ℕ
+xor a b = (a + b) % 2
+
+-- what a gate drives: v gives the value of each earlier wire, b is the next random bit
+abbrev pub driven : Kind → ℕ → ℕ → (ℕ → ℕ) → ℕ → ℕ
+driven NOT l r v b = 1 - v l
+driven XOR l r v b = xor (v l) (v r)
+driven AND l r v b = v l * v r
+driven RANDOM l r v b = b
+driven (UNKNOWN k) l r v b = 0
+
+-- how many random bits a gate takes
+abbrev pub drawn : Kind → ℕ
+drawn NOT = 0
+drawn XOR = 0
+drawn AND = 0
+drawn RANDOM = 1
+drawn (UNKNOWN k) = 0
+
+-- the gates in turn, each adding its value; random gates take their bits in wire order
+unfoldable pub runFrom : List Gate → List ℕ → List ℕ → List ℕ
+runFrom [] rs vs = vs
+runFrom (g ∷ gs) rs vs =
+    runFrom gs (drop (drawn (g .kind)) rs)
+    (vs ++ (driven (g .kind) (g .left) (g .right) (λ w. getD vs w 0) (getD rs 0 0) ∷ []))
+
+unfoldable pub run : Table → List ℕ → List ℕ → List ℕ
+run t xs rs = runFrom (t .gates) rs xs
+
+-- the values of some wires, in the list's order
+unfoldable pub readAll : List ℕ → List ℕ → List ℕ
+readAll vs [] = []
+readAll vs (w ∷ ws) = getD vs w 0 ∷ readAll vs ws
+
+abbrev pub outputsOf : Table → List ℕ → List ℕ
+outputsOf t vs = readAll vs (t .outputs)
+
+-- "one bit for each random gate"
+unfoldable pub randoms : List Gate → ℕ
+randoms [] = 0
+randoms (g ∷ gs) = drawn (g .kind) + randoms gs

@@ -1,0 +1,48 @@
+-- What checking and running promise (document 01, "What each call takes and writes" and "What a contract says"): for every
+-- input the number, the place, the value and every lent byte afterwards.
+-- Assumes nothing.
+use mathlib.Core.Path.{_≡_}
+use mathlib.Core.Bool.{Bool, _&&_, _||_, not}
+use mathlib.Core.List.{List, _++_}
+use Prim.Native.Nat.{ℕ}
+use lib.Dec.{eqb, ltb}
+use lib.ListN.{length, drop}
+use Rattle.tables.specs.declared.Answer as DA
+use Rattle.tables.specs.Refusals.{pick, Fault, passed, orElse, refusedIf, badBit}
+use Rattle.tables.specs.Tables.{Table, wires, tableOf, tableFault}
+use Rattle.tables.specs.Runs.{run, outputsOf, randoms}
+
+-- number and place are the fault's; the value is v on success and 0 on a refusal
+pub record Answered (f : Fault) (v : ℕ) (r : DA.Answer) : Type 0 where
+  pub number : r .number ≡ f .number
+  pub place : r .place ≡ f .place
+  pub value : r .value ≡ pick (passed f) v 0
+
+-- "A success changes only the bytes that it is said to write": xs at the front of the lent ys
+abbrev pub over : List ℕ → List ℕ → List ℕ
+over xs ys = xs ++ drop (length xs) ys
+
+-- "Each returns its number and a place, and changes no lent byte": what a lent buffer b holds afterwards
+abbrev pub left : Fault → List ℕ → List ℕ → List ℕ
+left f xs b = pick (passed f) (over xs b) b
+
+-- checking answers the number of wires; "checking and running have 1 to 5"
+pub record CheckSays (s : List ℕ) (r : DA.Answer) : Type 0 where
+  pub answer : Answered (tableFault s) (wires (tableOf s)) r
+
+-- running: 1 to 5, 10, 11, 9; a and b are the lengths lent for the values and the outputs
+unfoldable pub runFault : List ℕ → List ℕ → List ℕ → ℕ → ℕ → Fault
+runFault s xs rs a b =
+    let t = tableOf s in
+    orElse
+    (tableFault s)
+    (orElse
+    (refusedIf (not (eqb (length xs) (t .inputs) && eqb (length rs) (randoms (t .gates)))) 10)
+    (orElse (badBit 0 (xs ++ rs)) (refusedIf (ltb a (wires t) || ltb b (length (t .outputs))) 9)))
+
+-- running answers the number of wires; "it writes wire values and outputs"
+pub record RunSays (s xs rs a a′ b b′ : List ℕ) (r : DA.Answer) : Type 0 where
+  pub answer : Answered (runFault s xs rs (length a) (length b)) (wires (tableOf s)) r
+  pub values : a′ ≡ left (runFault s xs rs (length a) (length b)) (run (tableOf s) xs rs) a
+  pub outputs :
+      b′ ≡ left (runFault s xs rs (length a) (length b)) (outputsOf (tableOf s) (run (tableOf s) xs rs)) b

@@ -1,0 +1,158 @@
+-- The gate table and its bytes (document 01, "Gate table"), and refusals 1 to 5 and 7.
+-- A table is six bytes of sizes, then the kinds, the operand pairs and the output wires; every field of two bytes has its
+-- low byte first. `tableOf` reads bytes, `tableBytes` writes a table, and reading what is written gives the table again.
+-- Assumes nothing.
+use mathlib.Core.Bool.{Bool, true, false, _&&_, _||_, not}
+use mathlib.Core.List.{List, [], _∷_, _++_}
+use Prim.Native.Nat.{ℕ, zero, suc, _+_, _*_, _/_, _%_}
+use lib.Dec.{eqb, ltb}
+use lib.ListN.{length, getD, drop}
+use Rattle.tables.specs.Refusals.{pick, Fault, fault, none, orElse, refusedIf}
+
+-- "Kinds: 0 NOT of left; 1 XOR; 2 AND; 3 random bit"; any other byte is no kind
+pub data Kind : Type 0 where
+  NOT XOR AND RANDOM : Kind
+  UNKNOWN : ℕ → Kind
+
+abbrev pub kindOf : ℕ → Kind
+kindOf zero = NOT
+kindOf (suc zero) = XOR
+kindOf (suc (suc zero)) = AND
+kindOf (suc (suc (suc zero))) = RANDOM
+kindOf (suc (suc (suc (suc k)))) = UNKNOWN (suc (suc (suc (suc k))))
+
+abbrev pub kindByte : Kind → ℕ
+kindByte NOT = 0
+kindByte XOR = 1
+kindByte AND = 2
+kindByte RANDOM = 3
+kindByte (UNKNOWN k) = k
+
+-- a gate: its kind and its operands
+pub record Gate : Type 0 where
+  pub kind : Kind
+  pub left : ℕ
+  pub right : ℕ
+
+abbrev pub gate : Kind → ℕ → ℕ → Gate
+gate k l r = record { kind = k; left = l; right = r }
+
+-- "Inputs are wires 0 to I−1; gate g (from 0) drives wire I+g"
+pub record Table : Type 0 where
+  pub inputs : ℕ
+  pub gates : List Gate
+  pub outputs : List ℕ
+
+abbrev pub wires : Table → ℕ
+wires t = t .inputs + length (t .gates)
+
+-- "All fields of two bytes have the low byte first"
+abbrev pub word : List ℕ → ℕ → ℕ
+word s i = getD s i 0 + 256 * getD s (suc i) 0
+
+abbrev pub two : ℕ → List ℕ
+two v = v % 256 ∷ v / 256 ∷ []
+
+-- "G kinds of one byte, then G operand pairs (left, right), two bytes each"
+unfoldable pub gatesFrom : ℕ → List ℕ → List ℕ → List Gate
+gatesFrom zero ks ps = []
+gatesFrom (suc n) ks ps =
+    gate (kindOf (getD ks 0 0)) (word ps 0) (word ps 2) ∷ gatesFrom n (drop 1 ks) (drop 4 ps)
+
+-- "O output wires, two bytes each"
+unfoldable pub wordsFrom : ℕ → List ℕ → List ℕ
+wordsFrom zero s = []
+wordsFrom (suc n) s = word s 0 ∷ wordsFrom n (drop 2 s)
+
+-- "Sizes: I inputs, G gates, O outputs", and what follows them
+unfoldable pub tableOf : List ℕ → Table
+tableOf s =
+    let g = word s 2 in
+    record {
+      inputs = word s 0;
+      gates = gatesFrom g (drop 6 s) (drop (6 + g) s);
+      outputs = wordsFrom (word s 4) (drop (6 + 5 * g) s);
+    }
+
+unfoldable pub kindBytes : List Gate → List ℕ
+kindBytes [] = []
+kindBytes (g ∷ gs) = kindByte (g .kind) ∷ kindBytes gs
+
+unfoldable pub pairBytes : List Gate → List ℕ
+pairBytes [] = []
+pairBytes (g ∷ gs) = two (g .left) ++ (two (g .right) ++ pairBytes gs)
+
+unfoldable pub wordBytes : List ℕ → List ℕ
+wordBytes [] = []
+wordBytes (w ∷ ws) = two w ++ wordBytes ws
+
+unfoldable pub tableBytes : Table → List ℕ
+tableBytes t =
+    two (t .inputs)
+    ++ (two (length (t .gates))
+    ++ (two (length (t .outputs))
+    ++ (kindBytes (t .gates) ++ (pairBytes (t .gates) ++ wordBytes (t .outputs)))))
+
+-- "The length is 6 + 5G + 2O"
+abbrev pub tableLong : ℕ → ℕ → ℕ
+tableLong g o = 6 + 5 * g + 2 * o
+
+-- "3 kind above 3"
+abbrev pub known : Kind → Bool
+known NOT = true
+known XOR = true
+known AND = true
+known RANDOM = true
+known (UNKNOWN k) = false
+
+-- "An operand is an earlier wire. The unused right operand of NOT and both of a random gate are 0"
+abbrev pub operandsOk : ℕ → Kind → ℕ → ℕ → Bool
+operandsOk w NOT l r = ltb l w && eqb r 0
+operandsOk w XOR l r = ltb l w && ltb r w
+operandsOk w AND l r = ltb l w && ltb r w
+operandsOk w RANDOM l r = eqb l 0 && eqb r 0
+operandsOk w (UNKNOWN k) l r = false
+
+-- "the gates one by one (3 before 4)": gate i, which drives wire w
+abbrev pub gateFault : ℕ → ℕ → Gate → Fault
+gateFault i w g =
+    pick (known (g .kind)) (pick (operandsOk w (g .kind) (g .left) (g .right)) none (fault 4 i)) (fault 3 i)
+
+unfoldable pub gatesFault : ℕ → ℕ → List Gate → Fault
+gatesFault i w [] = none
+gatesFault i w (g ∷ gs) = orElse (gateFault i w g) (gatesFault (suc i) (suc w) gs)
+
+-- "5 an output that is no wire"
+unfoldable pub outputsFault : ℕ → ℕ → List ℕ → Fault
+outputsFault i w [] = none
+outputsFault i w (o ∷ os) = pick (ltb o w) (outputsFault (suc i) w os) (fault 5 i)
+
+-- "2 I or O is 0, or I+G above 65,535"
+abbrev pub sizesBad : ℕ → ℕ → ℕ → Bool
+sizesBad n g o = eqb n 0 || (eqb o 0 || ltb 65535 (n + g))
+
+-- "Order, for the checks that a call has: six bytes, 2, length, the gates one by one (3 before 4), 5"
+unfoldable pub tableFault : List ℕ → Fault
+tableFault s =
+    let n = word s 0 in
+    let g = word s 2 in
+    let o = word s 4 in
+    orElse
+    (refusedIf (ltb (length s) 6) 1)
+    (orElse
+    (refusedIf (sizesBad n g o) 2)
+    (orElse
+    (refusedIf (not (eqb (length s) (tableLong g o))) 1)
+    (orElse (gatesFault 0 n (tableOf s .gates)) (outputsFault 0 (n + g) (tableOf s .outputs)))))
+
+-- "7 a random gate in a table to be masked": "A plain table has no kind 3"
+abbrev pub isRandom : Kind → Bool
+isRandom NOT = false
+isRandom XOR = false
+isRandom AND = false
+isRandom RANDOM = true
+isRandom (UNKNOWN k) = false
+
+unfoldable pub randomFault : ℕ → List Gate → Fault
+randomFault i [] = none
+randomFault i (g ∷ gs) = pick (isRandom (g .kind)) (fault 7 i) (randomFault (suc i) gs)
