@@ -8,11 +8,11 @@ use Prim.Native.Nat.{ℕ, zero, suc, _+_, _*_, _≤_, _<_}
 use lib.Dec.{eqb, ltb, leb}
 use lib.ListN.{length, getD, take, drop}
 use Rattle.tables.specs.Refusals.{pick, none, passed}
-use Rattle.tables.specs.Tables.{Kind, NOT, XOR, AND, RANDOM, UNKNOWN, Gate, Table, wires, tableOf, tableBytes, tableLong, tableFault, randomFault}
+use Rattle.tables.specs.Tables.{Table, wires, tableOf, tableBytes, tableLong, tableFault, randomFault}
 use Rattle.tables.specs.Runs.{run, readAll, outputsOf, randoms}
-use Rattle.masks.specs.Shares.{sharesOf, tri}
+use Rattle.masks.specs.Shares.{sharesOf}
 use Rattle.masks.specs.Gadgets.{Gadget, isw}
-use Rattle.masks.specs.Wires.{marks, cost, maskedTable, origins, tapeLong}
+use Rattle.masks.specs.Wires.{marks, cost, draws, totalOf, maskedTable, origins, tapeLong}
 use Rattle.masks.specs.Codes.{encode, decode, maskedRun}
 use Rattle.masks.specs.Says.{orderOk, plainFault}
 use Rattle.maps.specs.Maps.{isIn, carried, freeShare, flipped, mappedAt, mapped, tapeFlips}
@@ -114,23 +114,11 @@ pub record Demands : Type 0 where
   pub third : (s : List ℕ) (o : ℕ) → accepted s o ≡ true → Hides isw (tableOf s) o
   pub written-back : (s : List ℕ) (o : ℕ) → passed (plainFault s o) ≡ true → WrittenBack s o
 
--- how many gates of a kind a table has
-unfoldable pub countKind : (Kind → ℕ) → List Gate → ℕ
-countKind f [] = 0
-countKind f (g ∷ gs) = f (g .kind) + countKind f gs
-
-abbrev pub isAnd : Kind → ℕ
-isAnd NOT = 0
-isAnd XOR = 0
-isAnd AND = 1
-isAnd RANDOM = 0
-isAnd (UNKNOWN k) = 0
-
 -- the closed sizes: "An AND costs n² + 5n(n−1)/2 wires, of which n(n−1)/2 are random"; "The length is 6 + 5G + 2O"
 pub record Sized (G : Gadget) (t : Table) (o : ℕ) : Type 0 where
   pub wires-are :
-      wires (maskedTable G o t) ≡ sharesOf o * t .inputs + countKind (λ k. cost k (sharesOf o)) (t .gates)
-  pub tape-is : tapeLong G o t ≡ 2 * o * t .inputs + tri (sharesOf o) * countKind isAnd (t .gates)
+      wires (maskedTable G o t) ≡ sharesOf o * t .inputs + totalOf (λ k. cost k (sharesOf o)) (t .gates)
+  pub tape-is : tapeLong G o t ≡ 2 * o * t .inputs + totalOf (λ k. draws k (sharesOf o)) (t .gates)
   pub outputs-are : length (maskedTable G o t .outputs) ≡ sharesOf o * length (t .outputs)
   pub bytes-are :
       length (tableBytes (maskedTable G o t))

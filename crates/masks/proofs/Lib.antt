@@ -1,0 +1,6 @@
+-- Laws of the construction that callers above cite, by subject.
+pub mod Sum
+pub mod Rows
+pub mod Each
+pub mod Lawful
+pub mod Costs

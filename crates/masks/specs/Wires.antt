@@ -99,6 +99,19 @@ cost AND n = 5 * tri n + n * n
 cost RANDOM n = 0
 cost (UNKNOWN k) n = 0
 
+-- "of which n(n−1)/2 are random"
+abbrev pub draws : Kind → ℕ → ℕ
+draws NOT n = 0
+draws XOR n = 0
+draws AND n = tri n
+draws RANDOM n = 0
+draws (UNKNOWN k) n = 0
+
+-- a figure of each gate's kind, added over the gates
+unfoldable pub totalOf : (Kind → ℕ) → List Gate → ℕ
+totalOf f [] = 0
+totalOf f (x ∷ xs) = f (x .kind) + totalOf f xs
+
 -- the wires that carry the shares of the result
 abbrev pub newShares : Kind → ℕ → ℕ → List ℕ → List ℕ
 -- "Shares 2 to n are the operand's wires"

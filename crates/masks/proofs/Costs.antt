@@ -1,0 +1,119 @@
+-- Sizes: the new wires of a gate are as many as it costs, and draw as many random bits as the paper says; the wires of the
+-- shares come before the next wire.
+-- Assumes nothing.
+use mathlib.Core.Path.{_≡_, refl, sym, ap, ap₂, _∙_}
+use mathlib.Core.List.{List, [], _∷_, _++_, map, map-append}
+use Prim.Native.Nat.{ℕ, zero, suc, _+_, _-_, _*_, _≤_, _<_}
+use native.Mathlib.Nat.{zero-add}
+use native.Mathlib.Omega.{arith}
+use lib.ListN.{length, getD, drop, length-append, length-map, length-drop}
+use Rattle.tables.specs.Tables.{Kind, NOT, XOR, AND, RANDOM, UNKNOWN, Gate, gate}
+use Rattle.tables.specs.Runs.{randoms}
+use Rattle.tables.proofs.Lists.{All, all-append, all-getD, all-map}
+use Rattle.tables.proofs.Run.{randoms-append}
+use Rattle.masks.specs.Shares.{upFrom, inTurn, Pair, pairs, tri, row}
+use Rattle.masks.specs.Gadgets.{Gadget}
+use Rattle.masks.specs.Wires.{Wire, wire, Origin, andPart, sum, xorShare, share, driverOf, adding, pairWires, rowWires, pairWire, andWires, newWires, newShares, cost, draws, totalOf, masked, sharesAfter}
+use Rattle.masks.proofs.Sum.{up-length, up-all}
+use Rattle.masks.proofs.Rows.{pairs-length, row-length}
+use Rattle.masks.proofs.Each.{Spans, Draws, in-turn-length, in-turn-draws}
+use Rattle.masks.proofs.Lawful.{Lawful}
+
+pub adding-length :
+    (o : ℕ → Origin) (m last next : ℕ) (zs : List ℕ) → length (adding o m last next zs) ≡ length zs
+unfolding adding
+adding-length o m last next [] = refl
+adding-length o m last next (z ∷ zs) = ap suc (adding-length o (suc m) next (suc next) zs)
+
+pub adding-draws :
+    (o : ℕ → Origin) (m last next : ℕ) (zs : List ℕ) → randoms (map driverOf (adding o m last next zs)) ≡ 0
+unfolding adding randoms
+adding-draws o m last next [] = refl
+adding-draws o m last next (z ∷ zs) = omega (arith, adding-draws o (suc m) next (suc next) zs)
+
+-- what holds of everything holds of every element
+pub all-of : {A : Type 0} (P : A → Type 0) → ((x : A) → P x) → (xs : List A) → All P xs
+unfolding All
+all-of P h [] = tt
+all-of P h (x ∷ xs) = (h x, all-of P h xs)
+
+module _ (G : Gadget) (n g : ℕ) (a b : List ℕ) where
+  pub pairs-span : All (Spans 5 (pairWires G g a b)) (pairs n)
+  pairs-span = all-of _ (λ p w. refl) (pairs n)
+
+  pub rows-span : (low high : ℕ → ℕ) → All (Spans n (rowWires g a b (row n low high))) (upFrom n 0 (λ i. i))
+  rows-span low high =
+      up-all _ n 0 (λ i. i)
+      (λ i _ h w. ap suc (adding-length _ 1 w (suc w) (row n low high i)) ∙ row-length n low high i (omega arith))
+
+  pub pairs-draw : Lawful G → All (Draws 1 (pairWires G g a b)) (pairs n)
+  pairs-draw L = all-of _ (λ p w. L .one-random w _ _ _ _) (pairs n)
+
+  pub rows-draw : (zs : ℕ → List ℕ) → All (Draws 0 (rowWires g a b zs)) (upFrom n 0 (λ i. i))
+  unfolding randoms
+  rows-draw zs =
+      all-of _ (λ i w. zero-add _ ∙ adding-draws (λ m. andPart g (sum i m)) 1 w (suc w) (zs i)) (upFrom n 0 (λ i. i))
+
+pub new-length :
+    (G : Gadget) (k : Kind) (n g w : ℕ) (a b : List ℕ) → length (newWires G k n g w a b) ≡ cost k n
+unfolding andWires
+new-length G NOT n g w a b = refl
+new-length G XOR n g w a b = up-length n 0 _
+new-length G AND n g w a b =
+    let zs = row n (pairWire w (G .low)) (pairWire w (G .high)) in
+    length-append (inTurn 5 w (pairs n) (pairWires G g a b)) _
+    ∙ omega (
+      arith,
+      in-turn-length 5 w (pairs n) (pairWires G g a b) (pairs-span G n g a b),
+      pairs-length n 0,
+      in-turn-length n (w + 5 * tri n) (upFrom n 0 (λ i. i)) (rowWires g a b zs) (rows-span G n g a b _ _),
+      ap (λ (y : ℕ). n * y) (up-length n 0 (λ (i : ℕ). i)),
+    )
+new-length G RANDOM n g w a b = refl
+new-length G (UNKNOWN c) n g w a b = refl
+
+xors-draw :
+    (c s : ℕ) (l r : ℕ → ℕ) (o : ℕ → Origin)
+    → randoms (map driverOf (upFrom c s (λ i. wire (gate XOR (l i) (r i)) (o i)))) ≡ 0
+unfolding upFrom randoms
+xors-draw zero s l r o = refl
+xors-draw (suc c) s l r o = zero-add _ ∙ xors-draw c (suc s) l r o
+
+pub new-draws :
+    {G : Gadget} (L : Lawful G) (k : Kind) (n g w : ℕ) (a b : List ℕ)
+    → randoms (map driverOf (newWires G k n g w a b)) ≡ draws k n
+unfolding andWires randoms
+new-draws L NOT n g w a b = refl
+new-draws L XOR n g w a b = xors-draw n 0 (share a) (share b) (xorShare g)
+new-draws {G} L AND n g w a b =
+    let zs = row n (pairWire w (G .low)) (pairWire w (G .high)) in
+    rw map-append
+    (randoms-append (map driverOf (inTurn 5 w (pairs n) (pairWires G g a b))) _
+    ∙ omega (
+      arith,
+      in-turn-draws 5 1 w (pairs n) (pairWires G g a b) (pairs-draw G n g a b L),
+      pairs-length n 0,
+      in-turn-draws n 0 (w + 5 * tri n) (upFrom n 0 (λ i. i)) (rowWires g a b zs) (rows-draw G n g a b zs),
+    ))
+new-draws L RANDOM n g w a b = refl
+new-draws L (UNKNOWN c) n g w a b = refl
+
+-- as many wires in all as the gates cost
+pub masked-length :
+    (G : Gadget) (n g w : ℕ) (S : List (List ℕ)) (xs : List Gate)
+    → length (masked G n g w S xs) ≡ totalOf (λ k. cost k n) xs
+unfolding masked totalOf
+masked-length G n g w S [] = refl
+masked-length G n g w S (x ∷ xs) =
+    length-append (newWires G (x .kind) n g w (getD S (x .left) []) (getD S (x .right) [])) _
+    ∙ ap₂ (λ (p q : ℕ). p + q) (new-length G (x .kind) n g w _ _) (masked-length G n (suc g) _ _ xs)
+
+pub masked-draws :
+    {G : Gadget} (L : Lawful G) (n g w : ℕ) (S : List (List ℕ)) (xs : List Gate)
+    → randoms (map driverOf (masked G n g w S xs)) ≡ totalOf (λ k. draws k n) xs
+unfolding masked totalOf randoms
+masked-draws L n g w S [] = refl
+masked-draws {G} L n g w S (x ∷ xs) =
+    rw map-append
+    (randoms-append (map driverOf (newWires G (x .kind) n g w (getD S (x .left) []) (getD S (x .right) []))) _
+    ∙ ap₂ (λ (p q : ℕ). p + q) (new-draws L (x .kind) n g w _ _) (masked-draws L n (suc g) _ _ xs))
