@@ -1,0 +1,223 @@
+-- What an accepted table is: the checks that passed, read as facts on its sizes, its gates and its outputs.
+-- Assumes nothing.
+use mathlib.Core.Path.{_≡_, refl, ap}
+use mathlib.Core.Bool.{Bool, true, false, _||_, not}
+use mathlib.Core.List.{List, [], _∷_}
+use Prim.Native.Nat.{ℕ, zero, suc, _+_, _≤_, _<_}
+use native.Mathlib.Omega.{arith}
+use lib.Dec.{eqb, ltb}
+use lib.ListN.{length, drop}
+use borrow.Author.Tests.{ltb-true, ltb-false, eqb-true, eqb-false, not-false}
+use Rattle.tables.specs.Refusals.{pick, Fault, fault, none, passed, orElse, refusedIf}
+use Rattle.tables.specs.Tables.{
+  Kind,
+  NOT,
+  XOR,
+  AND,
+  RANDOM,
+  UNKNOWN,
+  Gate,
+  Table,
+  wires,
+  word,
+  gatesFrom,
+  wordsFrom,
+  tableOf,
+  tableLong,
+  known,
+  operandsOk,
+  gateFault,
+  gatesFault,
+  outputsFault,
+  sizesBad,
+  tableFault,
+  isRandom,
+  randomFault,
+}
+use Rattle.tables.specs.Runs.{drawn, randoms}
+use Rattle.tables.proofs.Tests.{and-true, or-false, both-passed, not-refused}
+use Rattle.tables.proofs.Lists.{All}
+use Rattle.tables.proofs.Run.{Reads, Earlier}
+
+-- a plain gate that drives wire w
+abbrev pub PlainGate : ℕ → Kind → ℕ → ℕ → Type 0
+PlainGate w NOT l r = l < w
+PlainGate w XOR l r = (l < w) × (r < w)
+PlainGate w AND l r = (l < w) × (r < w)
+PlainGate w RANDOM l r = ⊥
+PlainGate w (UNKNOWN k) l r = ⊥
+
+-- plain gates that drive the wires from w on
+unfoldable pub PlainGates : ℕ → List Gate → Type 0
+PlainGates w [] = Unit {0}
+PlainGates w (g ∷ gs) = PlainGate w (g .kind) (g .left) (g .right) × PlainGates (suc w) gs
+
+-- a table that can be masked
+pub record Plain (t : Table) : Type 0 where
+  pub some-input : 1 ≤ t .inputs
+  pub some-output : 1 ≤ length (t .outputs)
+  pub gates : PlainGates (t .inputs) (t .gates)
+  pub outputs : All (λ o. o < wires t) (t .outputs)
+
+plain-reads : (w : ℕ) (k : Kind) (l r : ℕ) → PlainGate w k l r → Reads w k l r
+plain-reads w NOT l r h = h
+plain-reads w XOR l r h = h
+plain-reads w AND l r h = h
+plain-reads w RANDOM l r h = tt
+plain-reads w (UNKNOWN k) l r h = tt
+
+pub plain-earlier : (w : ℕ) (gs : List Gate) → PlainGates w gs → Earlier w gs
+unfolding PlainGates Earlier
+plain-earlier w [] h = tt
+plain-earlier w (g ∷ gs) h =
+    (plain-reads w (g .kind) (g .left) (g .right) (h .0), plain-earlier (suc w) gs (h .1))
+
+plain-drawn : (w : ℕ) (k : Kind) (l r : ℕ) → PlainGate w k l r → drawn k ≡ 0
+plain-drawn w NOT l r h = refl
+plain-drawn w XOR l r h = refl
+plain-drawn w AND l r h = refl
+plain-drawn w RANDOM l r h = absurd h
+plain-drawn w (UNKNOWN k) l r h = refl
+
+pub plain-randoms : (w : ℕ) (gs : List Gate) → PlainGates w gs → randoms gs ≡ 0
+unfolding PlainGates randoms
+plain-randoms w [] h = refl
+plain-randoms w (g ∷ gs) h =
+    omega (arith, plain-drawn w (g .kind) (g .left) (g .right) (h .0), plain-randoms (suc w) gs (h .1))
+
+pub gates-length : (n : ℕ) (ks ps : List ℕ) → length (gatesFrom n ks ps) ≡ n
+unfolding gatesFrom
+gates-length zero ks ps = refl
+gates-length (suc n) ks ps = ap suc (gates-length n (drop 1 ks) (drop 4 ps))
+
+pub words-length : (n : ℕ) (s : List ℕ) → length (wordsFrom n s) ≡ n
+unfolding wordsFrom
+words-length zero s = refl
+words-length (suc n) s = ap suc (words-length n (drop 2 s))
+
+pub inputs-of : (s : List ℕ) → tableOf s .inputs ≡ word s 0
+unfolding tableOf
+inputs-of s = refl
+
+pub gates-of-length : (s : List ℕ) → length (tableOf s .gates) ≡ word s 2
+unfolding tableOf
+gates-of-length s = gates-length (word s 2) _ _
+
+pub outputs-of-length : (s : List ℕ) → length (tableOf s .outputs) ≡ word s 4
+unfolding tableOf
+outputs-of-length s = words-length (word s 4) _
+
+pub wires-of : (s : List ℕ) → wires (tableOf s) ≡ word s 0 + word s 2
+wires-of s = omega (arith, inputs-of s, gates-of-length s)
+
+-- what the checks of a table that passed say
+pub record Accepted (s : List ℕ) : Type 0 where
+  pub some-input : 1 ≤ tableOf s .inputs
+  pub some-output : 1 ≤ length (tableOf s .outputs)
+  pub few-wires : wires (tableOf s) ≤ 65535
+  pub long : length s ≡ tableLong (length (tableOf s .gates)) (length (tableOf s .outputs))
+  pub gates : passed (gatesFault 0 (tableOf s .inputs) (tableOf s .gates)) ≡ true
+  pub outputs : passed (outputsFault 0 (wires (tableOf s)) (tableOf s .outputs)) ≡ true
+
+pub sizes-good : (n g o : ℕ) → sizesBad n g o ≡ false → (1 ≤ n) × ((1 ≤ o) × (n + g ≤ 65535))
+sizes-good n g o h =
+    let a = or-false (eqb n 0) (eqb o 0 || ltb 65535 (n + g)) h in
+    let b = or-false (eqb o 0) (ltb 65535 (n + g)) (a .1) in (
+      omega (arith, eqb-false n 0 (a .0)),
+      (omega (arith, eqb-false o 0 (b .0)), ltb-false 65535 (n + g) (b .1)),
+    )
+
+pub accepted : (s : List ℕ) → passed (tableFault s) ≡ true → Accepted s
+unfolding tableFault
+accepted s h =
+    let n = word s 0 in
+    let g = word s 2 in
+    let o = word s 4 in
+    let sizes = sizesBad n g o in
+    let long = eqb (length s) (tableLong g o) in
+    let gates = gatesFault 0 n (tableOf s .gates) in
+    let outputs = outputsFault 0 (n + g) (tableOf s .outputs) in
+    let inner = orElse gates outputs in
+    let mid = orElse (refusedIf (not long) 1) inner in
+    let a = both-passed (refusedIf (ltb (length s) 6) 1) (orElse (refusedIf sizes 2) mid) h in
+    let b = both-passed (refusedIf sizes 2) mid (a .1) in
+    let d = both-passed (refusedIf (not long) 1) inner (b .1) in
+    let e = both-passed gates outputs (d .1) in
+    let z = sizes-good n g o (not-refused sizes 2 refl (b .0)) in
+    let l = eqb-true (length s) (tableLong g o) (not-false long (not-refused (not long) 1 refl (d .0))) in
+    record {
+      some-input = rw inputs-of (z .0);
+      some-output = rw outputs-of-length (z .1 .0);
+      few-wires = rw wires-of (z .1 .1);
+      long = rw (gates-of-length, outputs-of-length) l;
+      gates = rw inputs-of (e .0);
+      outputs = rw wires-of (e .1);
+    }
+
+pub accepted-sized :
+    (s : List ℕ) → passed (tableFault s) ≡ true
+    → (wires (tableOf s) ≤ 65535) × (length s ≡ tableLong (length (tableOf s .gates)) (length (tableOf s .outputs)))
+accepted-sized s h = let c = accepted s h in (c .few-wires, c .long)
+
+-- a test that refuses where it fails, then the check f
+pub pick-passed :
+    (b : Bool) (f : Fault) (n i : ℕ) → eqb n 0 ≡ false → passed (pick b f (fault n i)) ≡ true
+    → (b ≡ true) × (passed f ≡ true)
+pick-passed true f n i e h = (refl, h)
+pick-passed false f n i e h = (cc, cc)
+
+-- a test that refuses where it holds, then the check f
+pub pick-refused :
+    (b : Bool) (f : Fault) (n i : ℕ) → eqb n 0 ≡ false → passed (pick b (fault n i) f) ≡ true
+    → (b ≡ false) × (passed f ≡ true)
+pick-refused true f n i e h = (cc, cc)
+pick-refused false f n i e h = (refl, h)
+
+-- the two tests of a gate that passed
+pub gate-passed :
+    (i w : ℕ) (g : Gate) → passed (gateFault i w g) ≡ true
+    → (known (g .kind) ≡ true) × (operandsOk w (g .kind) (g .left) (g .right) ≡ true)
+gate-passed i w g h =
+    let ok = operandsOk w (g .kind) (g .left) (g .right) in
+    let a = pick-passed (known (g .kind)) (pick ok none (fault 4 i)) 3 i refl h in
+    (a .0, pick-passed ok none 4 i refl (a .1) .0)
+
+-- a gate that is not random and has good operands is plain
+gate-plain :
+    (w : ℕ) (k : Kind) (l r : ℕ) → operandsOk w k l r ≡ true → isRandom k ≡ false → PlainGate w k l r
+gate-plain w NOT l r h e = ltb-true l w (and-true (ltb l w) (eqb r 0) h .0)
+gate-plain w XOR l r h e = let a = and-true (ltb l w) (ltb r w) h in (ltb-true l w (a .0), ltb-true r w (a .1))
+gate-plain w AND l r h e = let a = and-true (ltb l w) (ltb r w) h in (ltb-true l w (a .0), ltb-true r w (a .1))
+gate-plain w RANDOM l r h e = let z : _≡_ {A = ℕ} 0 1 = cc in omega arith
+gate-plain w (UNKNOWN k) l r h e = let z : _≡_ {A = ℕ} 0 1 = cc in omega arith
+
+pub gates-plain :
+    (i j w : ℕ) (gs : List Gate) → passed (gatesFault i w gs) ≡ true → passed (randomFault j gs) ≡ true
+    → PlainGates w gs
+unfolding gatesFault randomFault PlainGates
+gates-plain i j w [] h e = tt
+gates-plain i j w (g ∷ gs) h e =
+    let a = both-passed (gateFault i w g) (gatesFault (suc i) (suc w) gs) h in
+    let b = pick-refused (isRandom (g .kind)) (randomFault (suc j) gs) 7 j refl e in (
+      gate-plain w (g .kind) (g .left) (g .right) (gate-passed i w g (a .0) .1) (b .0),
+      gates-plain (suc i) (suc j) (suc w) gs (a .1) (b .1),
+    )
+
+pub outputs-passed : (i w : ℕ) (os : List ℕ) → passed (outputsFault i w os) ≡ true → All (λ o. o < w) os
+unfolding outputsFault All
+outputs-passed i w [] h = tt
+outputs-passed i w (o ∷ os) h =
+    let a = pick-passed (ltb o w) (outputsFault (suc i) w os) 5 i refl h in
+    (ltb-true o w (a .0), outputs-passed (suc i) w os (a .1))
+
+pub accepted-plain :
+    (s : List ℕ) → passed (tableFault s) ≡ true → passed (randomFault 0 (tableOf s .gates)) ≡ true
+    → Plain (tableOf s)
+accepted-plain s h e =
+    let c = accepted s h in
+    record {
+      some-input = c .some-input;
+      some-output = c .some-output;
+      gates = gates-plain 0 0 (tableOf s .inputs) (tableOf s .gates) (c .gates) e;
+      outputs = outputs-passed 0 (wires (tableOf s)) (tableOf s .outputs) (c .outputs);
+    }

@@ -1,0 +1,270 @@
+-- Reading what is written: a sound table's bytes have the stated length, pass the checks and read back as the table.
+-- Each part is read from the front of what is left, whatever follows it.
+-- Assumes nothing.
+use mathlib.Core.Path.{_≡_, refl, sym, ap, _∙_}
+use mathlib.Core.Bool.{true}
+use mathlib.Core.List.{List, [], _∷_, _++_, append-assoc, append-nil}
+use Prim.Native.Nat.{ℕ, suc, _+_, _*_, _/_, _%_, _≤_, _<_}
+use native.Mathlib.Omega.{arith}
+use lib.Dec.{eqb, ltb}
+use lib.ListN.{length, drop, length-append}
+use lib.Seq.{drop-at, drop-drop}
+use borrow.Author.Tests.{ltb-true, eqb-true, lt-ltb, le-ltb, eq-eqb, ne-eqb}
+use Rattle.tables.specs.Refusals.{none, passed}
+use Rattle.tables.specs.Tables.{
+  Kind,
+  NOT,
+  XOR,
+  AND,
+  RANDOM,
+  UNKNOWN,
+  kindOf,
+  kindByte,
+  Gate,
+  Table,
+  wires,
+  word,
+  two,
+  gatesFrom,
+  wordsFrom,
+  tableOf,
+  kindBytes,
+  pairBytes,
+  wordBytes,
+  tableBytes,
+  tableLong,
+  known,
+  operandsOk,
+  gateFault,
+  gatesFault,
+  outputsFault,
+  tableFault,
+}
+use Rattle.tables.proofs.Tests.{and-true, both-passed}
+use Rattle.tables.proofs.Lists.{All, all-append}
+use Rattle.tables.proofs.Accept.{inputs-of, accepted, gate-passed}
+
+-- gates that pass the checks, the first driving wire w
+unfoldable pub SoundGates : ℕ → List Gate → Type 0
+SoundGates w [] = Unit {0}
+SoundGates w (g ∷ gs) =
+    (known (g .kind) ≡ true) × ((operandsOk w (g .kind) (g .left) (g .right) ≡ true) × SoundGates (suc w) gs)
+
+-- a table that the format can hold and that passes the checks
+pub record Sound (t : Table) : Type 0 where
+  pub some-input : 1 ≤ t .inputs
+  pub some-output : 1 ≤ length (t .outputs)
+  pub few-wires : wires t ≤ 65535
+  pub few-outputs : length (t .outputs) ≤ 65535
+  pub gates : SoundGates (t .inputs) (t .gates)
+  pub outputs : All (λ o. o < wires t) (t .outputs)
+
+pub kinds-long : (gs : List Gate) → length (kindBytes gs) ≡ length gs
+unfolding kindBytes
+kinds-long [] = refl
+kinds-long (g ∷ gs) = ap suc (kinds-long gs)
+
+pub pairs-long : (gs : List Gate) → length (pairBytes gs) ≡ 4 * length gs
+unfolding pairBytes
+pairs-long [] = refl
+pairs-long (g ∷ gs) = omega (arith, pairs-long gs)
+
+pub words-long : (ws : List ℕ) → length (wordBytes ws) ≡ 2 * length ws
+unfolding wordBytes
+words-long [] = refl
+words-long (w ∷ ws) = omega (arith, words-long ws)
+
+pub table-long : (t : Table) → length (tableBytes t) ≡ tableLong (length (t .gates)) (length (t .outputs))
+unfolding tableBytes
+table-long t = simp (length-append, kinds-long, pairs-long, words-long) (omega arith)
+
+-- two bytes read back
+pub word-two : (v : ℕ) → v % 256 + 256 * (v / 256) ≡ v
+word-two v = omega arith
+
+pub kind-back : (k : Kind) → known k ≡ true → kindOf (kindByte k) ≡ k
+kind-back NOT h = refl
+kind-back XOR h = refl
+kind-back AND h = refl
+kind-back RANDOM h = refl
+kind-back (UNKNOWN k) h = cc
+
+pub words-back : (ws y : List ℕ) → wordsFrom (length ws) (wordBytes ws ++ y) ≡ ws
+unfolding wordsFrom wordBytes
+words-back [] y = refl
+words-back (w ∷ ws) y = rw (word-two, words-back ws y)
+
+pub gates-back :
+    (w : ℕ) (gs : List Gate) (x y : List ℕ) → SoundGates w gs
+    → gatesFrom (length gs) (kindBytes gs ++ x) (pairBytes gs ++ y) ≡ gs
+unfolding SoundGates gatesFrom kindBytes pairBytes
+gates-back w [] x y h = refl
+gates-back w (g ∷ gs) x y h =
+    rw (word-two (g .left), word-two (g .right), kind-back (g .kind) (h .0), gates-back (suc w) gs x y (h .1 .1))
+
+pub inputs-written : (t : Table) → word (tableBytes t) 0 ≡ t .inputs
+unfolding tableBytes
+inputs-written t = word-two (t .inputs)
+
+pub gates-written : (t : Table) → word (tableBytes t) 2 ≡ length (t .gates)
+unfolding tableBytes
+gates-written t = word-two (length (t .gates))
+
+pub outputs-written : (t : Table) → word (tableBytes t) 4 ≡ length (t .outputs)
+unfolding tableBytes
+outputs-written t = word-two (length (t .outputs))
+
+pub table-ext : (t u : Table) → t .inputs ≡ u .inputs → t .gates ≡ u .gates → t .outputs ≡ u .outputs → t ≡ u
+table-ext t u a b c = λ i. record { inputs = a i; gates = b i; outputs = c i }
+
+-- what follows the sizes, the kinds and the pairs
+drop-sizes :
+    (t : Table)
+    → drop 6 (tableBytes t) ≡ kindBytes (t .gates) ++ (pairBytes (t .gates) ++ wordBytes (t .outputs))
+unfolding tableBytes
+drop-sizes t = refl
+
+drop-kinds : (t : Table) → drop (6 + length (t .gates)) (tableBytes t) ≡ pairBytes (t .gates) ++ wordBytes (t .outputs)
+unfolding tableBytes
+drop-kinds t =
+    sym (drop-drop (length (t .gates)) 6 (tableBytes t))
+    ∙ drop-at (kindBytes (t .gates)) _ (length (t .gates)) (kinds-long (t .gates))
+
+drop-pairs : (t : Table) → drop (6 + 5 * length (t .gates)) (tableBytes t) ≡ wordBytes (t .outputs)
+unfolding tableBytes
+drop-pairs t =
+    let ks = kindBytes (t .gates) in
+    let ps = pairBytes (t .gates) in
+    let os = wordBytes (t .outputs) in
+    let n = 5 * length (t .gates) in
+    let long : length (ks ++ ps) ≡ n = simp (length-append, kinds-long, pairs-long) (omega arith) in
+    sym (drop-drop n 6 (tableBytes t))
+    ∙ ap {A = List ℕ} {B = List ℕ} (drop n) (sym (append-assoc ks ps os))
+    ∙ drop-at (ks ++ ps) os n long
+
+pub gates-read : (t : Table) → Sound t → tableOf (tableBytes t) .gates ≡ t .gates
+unfolding tableOf
+gates-read t h = rw (gates-written, drop-sizes, drop-kinds) (gates-back (t .inputs) (t .gates) _ _ (h .gates))
+
+pub outputs-read : (t : Table) → tableOf (tableBytes t) .outputs ≡ t .outputs
+unfolding tableOf
+outputs-read t =
+    rw (gates-written, outputs-written, drop-pairs, ← append-nil (wordBytes (t .outputs)))
+    (words-back (t .outputs) [])
+
+pub read-back : (t : Table) → Sound t → tableOf (tableBytes t) ≡ t
+read-back t h =
+    table-ext
+    (tableOf (tableBytes t))
+    t
+    (inputs-of (tableBytes t) ∙ inputs-written t)
+    (gates-read t h)
+    (outputs-read t)
+
+pub sound-gates-pass : (i w : ℕ) (gs : List Gate) → SoundGates w gs → gatesFault i w gs ≡ none
+unfolding SoundGates gatesFault
+sound-gates-pass i w [] h = refl
+sound-gates-pass i w (g ∷ gs) h =
+    rw (h .0, h .1 .0) (sound-gates-pass (suc i) (suc w) gs (h .1 .1))
+
+pub outputs-pass : (i w : ℕ) (os : List ℕ) → All (λ o. o < w) os → outputsFault i w os ≡ none
+unfolding All outputsFault
+outputs-pass i w [] h = refl
+outputs-pass i w (o ∷ os) h = rw (lt-ltb o w (h .0)) (outputs-pass (suc i) w os (h .1))
+
+pub written-passes : (t : Table) → Sound t → tableFault (tableBytes t) ≡ none
+unfolding tableFault
+written-passes t h =
+    let g = length (t .gates) in
+    let o = length (t .outputs) in
+    rw (
+      read-back t h,
+      inputs-written,
+      gates-written,
+      outputs-written,
+      table-long,
+      le-ltb (tableLong g o) 6 (omega arith),
+      ne-eqb (t .inputs) 0 (λ e. omega (arith, h .some-input)),
+      ne-eqb o 0 (λ e. omega (arith, h .some-output)),
+      le-ltb 65535 (t .inputs + g) (h .few-wires),
+      eq-eqb (tableLong g o) (tableLong g o) refl,
+      sound-gates-pass 0 (t .inputs) (t .gates) (h .gates),
+    )
+    (outputs-pass 0 (wires t) (t .outputs) (h .outputs))
+
+-- the gates of bytes that passed
+pub gates-passed : (i w : ℕ) (gs : List Gate) → passed (gatesFault i w gs) ≡ true → SoundGates w gs
+unfolding SoundGates gatesFault
+gates-passed i w [] h = tt
+gates-passed i w (g ∷ gs) h =
+    let a = both-passed (gateFault i w g) (gatesFault (suc i) (suc w) gs) h in
+    let b = gate-passed i w g (a .0) in
+    (b .0, (b .1, gates-passed (suc i) (suc w) gs (a .1)))
+
+pub passed-sound-gates :
+    (s : List ℕ) → passed (tableFault s) ≡ true → SoundGates (tableOf s .inputs) (tableOf s .gates)
+passed-sound-gates s h = gates-passed 0 (tableOf s .inputs) (tableOf s .gates) (accepted s h .gates)
+
+abbrev pub Bytes : List ℕ → Type 0
+Bytes s = All (λ b. b < 256) s
+
+two-bytes : (v : ℕ) (s : List ℕ) → v < 65536 → Bytes s → Bytes (two v ++ s)
+unfolding All
+two-bytes v s h a = (omega arith, (omega arith, a))
+
+kind-byte : (k : Kind) → known k ≡ true → kindByte k < 256
+kind-byte NOT h = omega arith
+kind-byte XOR h = omega arith
+kind-byte AND h = omega arith
+kind-byte RANDOM h = omega arith
+kind-byte (UNKNOWN k) h = let z : _≡_ {A = ℕ} 0 1 = cc in omega arith
+
+operands-below : (w : ℕ) (k : Kind) (l r : ℕ) → operandsOk w k l r ≡ true → (l ≤ w) × (r ≤ w)
+operands-below w NOT l r h =
+    let a = and-true (ltb l w) (eqb r 0) h in
+    (omega (arith, ltb-true l w (a .0)), omega (arith, eqb-true r 0 (a .1)))
+operands-below w XOR l r h =
+    let a = and-true (ltb l w) (ltb r w) h in
+    (omega (arith, ltb-true l w (a .0)), omega (arith, ltb-true r w (a .1)))
+operands-below w AND l r h =
+    let a = and-true (ltb l w) (ltb r w) h in
+    (omega (arith, ltb-true l w (a .0)), omega (arith, ltb-true r w (a .1)))
+operands-below w RANDOM l r h =
+    let a = and-true (eqb l 0) (eqb r 0) h in
+    (omega (arith, eqb-true l 0 (a .0)), omega (arith, eqb-true r 0 (a .1)))
+operands-below w (UNKNOWN k) l r h = let z : _≡_ {A = ℕ} 0 1 = cc in (omega arith, omega arith)
+
+kinds-bytes : (w : ℕ) (gs : List Gate) → SoundGates w gs → Bytes (kindBytes gs)
+unfolding SoundGates kindBytes All
+kinds-bytes w [] h = tt
+kinds-bytes w (g ∷ gs) h = (kind-byte (g .kind) (h .0), kinds-bytes (suc w) gs (h .1 .1))
+
+pairs-bytes : (w : ℕ) (gs : List Gate) → SoundGates w gs → w + length gs ≤ 65535 → Bytes (pairBytes gs)
+unfolding SoundGates pairBytes All
+pairs-bytes w [] h e = tt
+pairs-bytes w (g ∷ gs) h e =
+    let b = operands-below w (g .kind) (g .left) (g .right) (h .1 .0) in
+    let rest = pairs-bytes (suc w) gs (h .1 .1) (omega arith) in
+    two-bytes (g .left) (two (g .right) ++ pairBytes gs) (omega arith)
+    (two-bytes (g .right) (pairBytes gs) (omega arith) rest)
+
+words-bytes : (w : ℕ) (ws : List ℕ) → w ≤ 65535 → All (λ o. o < w) ws → Bytes (wordBytes ws)
+unfolding wordBytes All
+words-bytes w [] h a = tt
+words-bytes w (v ∷ ws) h a = two-bytes v (wordBytes ws) (omega (arith, a .0)) (words-bytes w ws h (a .1))
+
+-- every number that is written is a byte
+pub table-bytes : (t : Table) → Sound t → Bytes (tableBytes t)
+unfolding tableBytes
+table-bytes t h =
+    let ks = kindBytes (t .gates) in
+    let ps = pairBytes (t .gates) in
+    let os = wordBytes (t .outputs) in
+    let a : Bytes os = words-bytes (wires t) (t .outputs) (h .few-wires) (h .outputs) in
+    let b : Bytes ps = pairs-bytes (t .inputs) (t .gates) (h .gates) (h .few-wires) in
+    let d : Bytes ks = kinds-bytes (t .inputs) (t .gates) (h .gates) in
+    let body : Bytes (ks ++ (ps ++ os)) =
+    all-append (λ b. b < 256) ks (ps ++ os) d (all-append (λ b. b < 256) ps os b a) in
+    two-bytes (t .inputs) _ (omega (arith, h .few-wires))
+    (two-bytes (length (t .gates)) _ (omega (arith, h .few-wires))
+    (two-bytes (length (t .outputs)) _ (omega (arith, h .few-outputs)) body))
