@@ -1,5 +1,4 @@
 -- Laws of the tables' definitions that callers above cite, by subject.
--- Laws of the tables' definitions that callers above cite, by subject.
 pub mod Tests
 pub mod Lists
 pub mod Run
