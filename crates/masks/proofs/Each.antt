@@ -10,8 +10,9 @@ use Rattle.tables.specs.Tables.{Gate}
 use Rattle.tables.specs.Runs.{randoms}
 use Rattle.tables.proofs.Lists.{All}
 use Rattle.tables.proofs.Run.{Solves, Earlier, solves-append, randoms-append}
-use Rattle.masks.specs.Shares.{inTurn}
+use Rattle.masks.specs.Shares.{upFrom, inTurn}
 use Rattle.masks.specs.Wires.{Wire, driverOf}
+use Rattle.masks.proofs.Sum.{up-length, up-at}
 
 -- P of each element with its wire number, the first being w
 unfoldable pub Each : {A : Type 0} → (ℕ → A → Type 0) → ℕ → List A → Type 0
@@ -76,6 +77,30 @@ each-in-turn P size w (x ∷ xs) f e a h =
     (each-in-turn P size (w + size) xs f e (a .1)
     (λ q hq. subst (λ (y : ℕ). Each P y (f y (getD xs q e))) (omega arith) (h (suc q) (omega arith)))))
 
+pub each-up :
+    {A : Type 0} (P : ℕ → A → Type 0) (c s w : ℕ) (f : ℕ → A) → ((i : ℕ) → i < c → P (w + i) (f (s + i)))
+    → Each P w (upFrom c s f)
+unfolding Each upFrom
+each-up P zero s w f h = tt
+each-up P (suc c) s w f h = (
+  subst₂ (λ (y z : ℕ). P y (f z)) {x = w + 0} {y = w} {u = s + 0} {v = s} (omega arith) (omega arith) (h 0 (omega arith)),
+  each-up P c (suc s) (suc w) f
+      (λ i k. subst₂ (λ (y z : ℕ). P y (f z)) {x = w + suc i} {u = s + suc i} (omega arith) (omega arith) (h (suc i) (omega arith))),
+)
+
+-- the same where the blocks are numbered themselves, as rows are
+pub each-rows :
+    {B : Type 0} (P : ℕ → B → Type 0) (size n w : ℕ) (f : ℕ → ℕ → List B) → All (Spans size f) (upFrom n 0 (λ i. i))
+    → ((i : ℕ) → i < n → Each P (w + size * i) (f (w + size * i) i))
+    → Each P w (inTurn size w (upFrom n 0 (λ i. i)) f)
+each-rows P size n w f a h =
+    each-in-turn P size w (upFrom n 0 (λ i. i)) f 0 a
+    (λ q k.
+    let hq : q < n = omega (arith, up-length n 0 (λ (i : ℕ). i)) in
+    subst (λ (i : ℕ). Each P (w + size * q) (f (w + size * q) i))
+    (sym (up-at n 0 (λ (i : ℕ). i) q 0 hq ∙ omega arith))
+    (h q hq))
+
 -- and its equations begin at random bit c + d·q
 pub solves-in-turn :
     {A : Type 0} (size d w c : ℕ) (xs : List A) (f : ℕ → A → List Wire) (e : A) (r v : ℕ → ℕ)
@@ -105,3 +130,12 @@ solves-in-turn size d w c (x ∷ xs) f e r v a b s q h =
         (omega arith)
         (omega arith)
         (ss q (omega arith))
+
+pub solves-rows :
+    (size d n w c : ℕ) (f : ℕ → ℕ → List Wire) (r v : ℕ → ℕ) → All (Spans size f) (upFrom n 0 (λ i. i))
+    → All (Draws d f) (upFrom n 0 (λ i. i)) → Solves w c (map driverOf (inTurn size w (upFrom n 0 (λ i. i)) f)) r v
+    → (i : ℕ) → i < n → Solves (w + size * i) (c + d * i) (map driverOf (f (w + size * i) i)) r v
+solves-rows size d n w c f r v a b s i h =
+    subst (λ (y : ℕ). Solves (w + size * i) (c + d * i) (map driverOf (f (w + size * i) y)) r v)
+    (up-at n 0 (λ (y : ℕ). y) i 0 h ∙ omega arith)
+    (solves-in-turn size d w c (upFrom n 0 (λ y. y)) f 0 r v a b s i (omega (arith, up-length n 0 (λ (y : ℕ). y))))

@@ -5,17 +5,26 @@ use mathlib.Core.Path.{_≡_, refl, sym, ap, _∙_}
 use mathlib.Core.List.{List, [], _∷_, map}
 use Prim.Native.Nat.{ℕ, zero, suc, _+_, _*_, _%_, _≤_, _<_}
 use native.Mathlib.Omega.{arith}
+use mathlib.Core.Bool.{true, _&&_}
+use borrow.Author.Tests.{lt-ltb}
+use lib.Dec.{ltb}
 use lib.ListN.{length}
 use Rattle.tables.specs.Tables.{Gate}
 use Rattle.tables.specs.Runs.{randoms, xor}
-use Rattle.tables.proofs.Run.{Solves, Earlier}
+use Rattle.tables.proofs.Tests.{and-intro}
+use Rattle.tables.proofs.Run.{Solves}
+use Rattle.tables.proofs.Format.{SoundGates}
 use Rattle.masks.specs.Gadgets.{Five, first, second, third, fourth, fifth, allFive, place, Gadget, isw, iswGates, iswMarks}
+
+pub both-below : (l r w : ℕ) → l < w → r < w → ltb l w && ltb r w ≡ true
+both-below l r w h k = and-intro (ltb l w) (ltb r w) (lt-ltb l w h) (lt-ltb r w k)
 
 pub record Lawful (G : Gadget) : Type 0 where
   -- a pair draws one random bit
   pub one-random : (w ai bj aj bi : ℕ) → randoms (map (G .gates w ai bj aj bi) allFive) ≡ 1
-  pub earlier :
-      (w ai bj aj bi : ℕ) → ai < w → bj < w → aj < w → bi < w → Earlier w (map (G .gates w ai bj aj bi) allFive)
+  -- its gates pass the checks of a table
+  pub sound :
+      (w ai bj aj bi : ℕ) → ai < w → bj < w → aj < w → bi < w → SoundGates w (map (G .gates w ai bj aj bi) allFive)
   -- what the two rows add is, modulo 2, a_i·b_j + a_j·b_i
   pub adds :
       (w c ai bj aj bi : ℕ) (r v : ℕ → ℕ) → ((p : ℕ) → v p ≤ 1) → Solves w c (map (G .gates w ai bj aj bi) allFive) r v
@@ -29,10 +38,22 @@ isw-one-random : (w ai bj aj bi : ℕ) → randoms (map (isw .gates w ai bj aj b
 unfolding randoms
 isw-one-random w ai bj aj bi = refl
 
-isw-earlier :
-    (w ai bj aj bi : ℕ) → ai < w → bj < w → aj < w → bi < w → Earlier w (map (isw .gates w ai bj aj bi) allFive)
-unfolding Earlier
-isw-earlier w ai bj aj bi p q x y = omega arith
+isw-sound :
+    (w ai bj aj bi : ℕ) → ai < w → bj < w → aj < w → bi < w → SoundGates w (map (isw .gates w ai bj aj bi) allFive)
+unfolding SoundGates
+isw-sound w ai bj aj bi p q x y = (
+  (refl, refl),
+  (
+    (refl, both-below ai bj (suc w) (omega arith) (omega arith)),
+    (
+      (refl, both-below w (w + 1) (suc (suc w)) (omega arith) (omega arith)),
+      (
+        (refl, both-below aj bi (suc (suc (suc w))) (omega arith) (omega arith)),
+        ((refl, both-below (w + 2) (w + 3) (suc (suc (suc (suc w)))) (omega arith) (omega arith)), tt),
+      ),
+    ),
+  ),
+)
 
 -- the values of a pair's five wires
 pub record IswValues (w c ai bj aj bi : ℕ) (r v : ℕ → ℕ) : Type 0 where
@@ -86,7 +107,7 @@ pub isw-lawful : Lawful isw
 isw-lawful =
     record {
       one-random = isw-one-random;
-      earlier = isw-earlier;
+      sound = isw-sound;
       adds = isw-adds;
       few-marks = isw-few;
       low-mark = λ i j. refl;

@@ -4,3 +4,5 @@ pub mod Rows
 pub mod Each
 pub mod Lawful
 pub mod Costs
+pub mod Placed
+pub mod Codes

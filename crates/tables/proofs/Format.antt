@@ -5,6 +5,7 @@ use mathlib.Core.Path.{_≡_, refl, sym, ap, _∙_}
 use mathlib.Core.Bool.{true}
 use mathlib.Core.List.{List, [], _∷_, _++_, append-assoc, append-nil}
 use Prim.Native.Nat.{ℕ, suc, _+_, _*_, _/_, _%_, _≤_, _<_}
+use native.Mathlib.Nat.{add-zero}
 use native.Mathlib.Omega.{arith}
 use lib.Dec.{eqb, ltb}
 use lib.ListN.{length, drop, length-append}
@@ -41,14 +42,15 @@ use Rattle.tables.specs.Tables.{
   tableFault,
 }
 use Rattle.tables.proofs.Tests.{and-true, both-passed}
-use Rattle.tables.proofs.Lists.{All, all-append}
-use Rattle.tables.proofs.Accept.{inputs-of, accepted, gate-passed}
+use Rattle.tables.proofs.Lists.{All, all-append, all-getD}
+use Rattle.tables.proofs.Run.{Reads, Earlier}
+use Rattle.tables.proofs.Accept.{inputs-of, outputs-of-length, accepted, gate-passed, outputs-passed}
 
 -- gates that pass the checks, the first driving wire w
 unfoldable pub SoundGates : ℕ → List Gate → Type 0
 SoundGates w [] = Unit {0}
 SoundGates w (g ∷ gs) =
-    (known (g .kind) ≡ true) × ((operandsOk w (g .kind) (g .left) (g .right) ≡ true) × SoundGates (suc w) gs)
+    ((known (g .kind) ≡ true) × (operandsOk w (g .kind) (g .left) (g .right) ≡ true)) × SoundGates (suc w) gs
 
 -- a table that the format can hold and that passes the checks
 pub record Sound (t : Table) : Type 0 where
@@ -58,6 +60,27 @@ pub record Sound (t : Table) : Type 0 where
   pub few-outputs : length (t .outputs) ≤ 65535
   pub gates : SoundGates (t .inputs) (t .gates)
   pub outputs : All (λ o. o < wires t) (t .outputs)
+
+pub sound-append :
+    (w : ℕ) (gs hs : List Gate) → SoundGates w gs → SoundGates (w + length gs) hs → SoundGates w (gs ++ hs)
+unfolding SoundGates
+sound-append w [] hs a b = rw add-zero at b
+sound-append w (g ∷ gs) hs a b =
+    let e : w + suc (length gs) ≡ suc w + length gs = omega arith in
+    (a .0, sound-append (suc w) gs hs (a .1) (rw e at b))
+
+sound-reads : (w : ℕ) (k : Kind) (l r : ℕ) → operandsOk w k l r ≡ true → Reads w k l r
+sound-reads w NOT l r h = ltb-true l w (and-true (ltb l w) (eqb r 0) h .0)
+sound-reads w XOR l r h = let a = and-true (ltb l w) (ltb r w) h in (ltb-true l w (a .0), ltb-true r w (a .1))
+sound-reads w AND l r h = let a = and-true (ltb l w) (ltb r w) h in (ltb-true l w (a .0), ltb-true r w (a .1))
+sound-reads w RANDOM l r h = tt
+sound-reads w (UNKNOWN k) l r h = tt
+
+pub sound-earlier : (w : ℕ) (gs : List Gate) → SoundGates w gs → Earlier w gs
+unfolding SoundGates Earlier
+sound-earlier w [] h = tt
+sound-earlier w (g ∷ gs) h =
+    (sound-reads w (g .kind) (g .left) (g .right) (h .0 .1), sound-earlier (suc w) gs (h .1))
 
 pub kinds-long : (gs : List Gate) → length (kindBytes gs) ≡ length gs
 unfolding kindBytes
@@ -100,7 +123,7 @@ pub gates-back :
 unfolding SoundGates gatesFrom kindBytes pairBytes
 gates-back w [] x y h = refl
 gates-back w (g ∷ gs) x y h =
-    rw (word-two (g .left), word-two (g .right), kind-back (g .kind) (h .0), gates-back (suc w) gs x y (h .1 .1))
+    rw (word-two (g .left), word-two (g .right), kind-back (g .kind) (h .0 .0), gates-back (suc w) gs x y (h .1))
 
 pub inputs-written : (t : Table) → word (tableBytes t) 0 ≡ t .inputs
 unfolding tableBytes
@@ -165,7 +188,7 @@ pub sound-gates-pass : (i w : ℕ) (gs : List Gate) → SoundGates w gs → gate
 unfolding SoundGates gatesFault
 sound-gates-pass i w [] h = refl
 sound-gates-pass i w (g ∷ gs) h =
-    rw (h .0, h .1 .0) (sound-gates-pass (suc i) (suc w) gs (h .1 .1))
+    rw (h .0 .0, h .0 .1) (sound-gates-pass (suc i) (suc w) gs (h .1))
 
 pub outputs-pass : (i w : ℕ) (os : List ℕ) → All (λ o. o < w) os → outputsFault i w os ≡ none
 unfolding All outputsFault
@@ -198,13 +221,13 @@ unfolding SoundGates gatesFault
 gates-passed i w [] h = tt
 gates-passed i w (g ∷ gs) h =
     let a = both-passed (gateFault i w g) (gatesFault (suc i) (suc w) gs) h in
-    let b = gate-passed i w g (a .0) in
-    (b .0, (b .1, gates-passed (suc i) (suc w) gs (a .1)))
+    (gate-passed i w g (a .0), gates-passed (suc i) (suc w) gs (a .1))
 
 pub passed-sound-gates :
     (s : List ℕ) → passed (tableFault s) ≡ true → SoundGates (tableOf s .inputs) (tableOf s .gates)
 passed-sound-gates s h = gates-passed 0 (tableOf s .inputs) (tableOf s .gates) (accepted s h .gates)
 
+-- a list of bytes
 abbrev pub Bytes : List ℕ → Type 0
 Bytes s = All (λ b. b < 256) s
 
@@ -237,14 +260,14 @@ operands-below w (UNKNOWN k) l r h = let z : _≡_ {A = ℕ} 0 1 = cc in (omega 
 kinds-bytes : (w : ℕ) (gs : List Gate) → SoundGates w gs → Bytes (kindBytes gs)
 unfolding SoundGates kindBytes All
 kinds-bytes w [] h = tt
-kinds-bytes w (g ∷ gs) h = (kind-byte (g .kind) (h .0), kinds-bytes (suc w) gs (h .1 .1))
+kinds-bytes w (g ∷ gs) h = (kind-byte (g .kind) (h .0 .0), kinds-bytes (suc w) gs (h .1))
 
 pairs-bytes : (w : ℕ) (gs : List Gate) → SoundGates w gs → w + length gs ≤ 65535 → Bytes (pairBytes gs)
 unfolding SoundGates pairBytes All
 pairs-bytes w [] h e = tt
 pairs-bytes w (g ∷ gs) h e =
-    let b = operands-below w (g .kind) (g .left) (g .right) (h .1 .0) in
-    let rest = pairs-bytes (suc w) gs (h .1 .1) (omega arith) in
+    let b = operands-below w (g .kind) (g .left) (g .right) (h .0 .1) in
+    let rest = pairs-bytes (suc w) gs (h .1) (omega arith) in
     two-bytes (g .left) (two (g .right) ++ pairBytes gs) (omega arith)
     (two-bytes (g .right) (pairBytes gs) (omega arith) rest)
 
@@ -268,3 +291,18 @@ table-bytes t h =
     two-bytes (t .inputs) _ (omega (arith, h .few-wires))
     (two-bytes (length (t .gates)) _ (omega (arith, h .few-wires))
     (two-bytes (length (t .outputs)) _ (omega (arith, h .few-outputs)) body))
+
+-- bytes that pass hold a sound table
+pub passed-sound : (s : List ℕ) → Bytes s → passed (tableFault s) ≡ true → Sound (tableOf s)
+passed-sound s b h =
+    let c = accepted s h in
+    let low = all-getD (λ b. b < 256) s 4 0 b (omega (arith, c .long)) in
+    let high = all-getD (λ b. b < 256) s 5 0 b (omega (arith, c .long)) in
+    record {
+      some-input = c .some-input;
+      some-output = c .some-output;
+      few-wires = c .few-wires;
+      few-outputs = omega (arith, outputs-of-length s, low, high);
+      gates = passed-sound-gates s h;
+      outputs = outputs-passed 0 (wires (tableOf s)) (tableOf s .outputs) (c .outputs);
+    }

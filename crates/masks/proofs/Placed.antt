@@ -1,0 +1,212 @@
+-- Where shares stand: each plain wire has n shares on wires before the next new wire, so every operand of a masked gate is an
+-- earlier wire.
+-- Assumes nothing.
+use mathlib.Core.Path.{_≡_, refl, sym, ap, _∙_, subst}
+use mathlib.Core.List.{List, [], _∷_, _++_, map, map-append}
+use Prim.Native.Nat.{ℕ, zero, suc, _+_, _-_, _*_, _≤_, _<_}
+use mathlib.Core.Bool.{true}
+use borrow.Author.Tests.{lt-ltb}
+use Rattle.tables.proofs.Tests.{and-intro}
+use native.Mathlib.Nat.{mul-le-mul-left}
+use native.Mathlib.Omega.{arith}
+use lib.ListN.{length, getD, drop, length-append, length-map, length-drop, List·getD-append}
+use lib.Seq.{getD-at}
+use Rattle.tables.specs.Tables.{Kind, NOT, XOR, AND, RANDOM, UNKNOWN, Gate, gate, known, operandsOk}
+use Rattle.tables.specs.Runs.{randoms}
+use Rattle.tables.proofs.Lists.{All, all-append, all-getD, all-map}
+use Rattle.tables.proofs.Format.{SoundGates, sound-append}
+use Rattle.tables.proofs.Accept.{PlainGate, PlainGates}
+use Rattle.masks.specs.Shares.{upFrom, inTurn, Pair, pairOf, pairs, tri, pairAt, row}
+use Rattle.masks.specs.Gadgets.{Five, first, second, third, fourth, fifth, place, Gadget}
+use Rattle.masks.specs.Wires.{Wire, wire, Origin, andPart, sum, xorShare, share, driverOf, adding, pairWires, rowWires, pairWire, andWires, newWires, newShares, inputShares, cost, draws, masked, sharesAfter}
+use Rattle.masks.proofs.Sum.{up-length, up-all, up-at}
+use Rattle.masks.proofs.Rows.{pairs-length, pairs-in, pair-below, row-length, row-all}
+use Rattle.masks.proofs.Each.{Each, each-append, each-in-turn, each-up, each-rows, in-turn-length}
+use Rattle.masks.proofs.Lawful.{Lawful, both-below}
+use Rattle.masks.proofs.Costs.{pairs-span, rows-span, new-length, adding-length}
+
+-- n wires, all before wire w
+abbrev pub Stands : ℕ → ℕ → List ℕ → Type 0
+Stands n w a = (length a ≡ n) × All (λ x. x < w) a
+
+abbrev pub Placed : ℕ → ℕ → List (List ℕ) → Type 0
+Placed n w S = All (Stands n w) S
+
+pub stands-later : (n w w′ : ℕ) → w ≤ w′ → (a : List ℕ) → Stands n w a → Stands n w′ a
+stands-later n w w′ h a s = (s .0, all-map _ _ (λ x k. omega arith) a (s .1))
+
+pub share-below : (n w : ℕ) (a : List ℕ) → Stands n w a → (i : ℕ) → i < n → share a i < w
+share-below n w a s i h = all-getD _ a i 0 (s .1) (omega (arith, s .0))
+
+all-drop : {A : Type 0} (P : A → Type 0) (n : ℕ) (xs : List A) → All P xs → All P (drop n xs)
+unfolding All
+all-drop P zero xs a = a
+all-drop P (suc n) [] a = a
+all-drop P (suc n) (x ∷ xs) a = all-drop P n xs (a .1)
+
+-- row i of n rows of n wires ends before the AND does
+row-ends : (n i : ℕ) → i < n → n * i + n ≤ n * n
+row-ends n i h = omega (arith, mul-le-mul-left n h)
+
+-- the wires of a result's shares come before what follows the gate
+pub new-stands :
+    (k : Kind) (n w p l r : ℕ) (a : List ℕ) → 1 ≤ n → PlainGate p k l r → Stands n w a
+    → Stands n (w + cost k n) (newShares k n w a)
+unfolding All
+new-stands NOT n w p l r a h g s =
+    (omega (arith, length-drop 1 a, s .0), (omega arith, all-map (λ x. x < w) (λ x. x < w + 1) (λ x k. omega arith) (drop 1 a) (all-drop _ 1 a (s .1))))
+new-stands XOR n w p l r a h g s = (up-length n w _, up-all _ n w _ (λ i _ k. k))
+new-stands AND n w p l r a h g s =
+    (up-length n 0 _, up-all _ n 0 _ (λ i _ k. omega (arith, row-ends n i (omega arith))))
+new-stands RANDOM n w p l r a h g s = absurd g
+new-stands (UNKNOWN c) n w p l r a h g s = absurd g
+
+pub placed-inputs : (n m : ℕ) → Placed n (n * m) (inputShares n m)
+placed-inputs n m =
+    up-all _ m 0 _
+    (λ i _ k. (up-length n (n * i) _, up-all _ n (n * i) _ (λ x _ h. omega (arith, mul-le-mul-left {m = suc i} {n = m} n (omega arith)))))
+
+-- the shares that a plain gate reads
+pub placed-at : (n w : ℕ) (S : List (List ℕ)) (i : ℕ) → Placed n w S → i < length S → Stands n w (getD S i [])
+placed-at n w S i P h = all-getD (Stands n w) S i [] P h
+
+pub placed-step :
+    (k : Kind) (n w l r : ℕ) (S : List (List ℕ)) → 1 ≤ n → PlainGate (length S) k l r → Placed n w S
+    → Placed n (w + cost k n) (S ++ (newShares k n w (getD S l []) ∷ []))
+unfolding All
+placed-step k n w l r S h g P =
+    all-append _ S _
+    (all-map _ _ (stands-later n w (w + cost k n) (omega arith)) S P)
+    (new-stands k n w (length S) l r (getD S l []) h g (placed-at n w S l P (left-below k g)), tt)
+  where
+    left-below : (k : Kind) → PlainGate (length S) k l r → l < length S
+    left-below NOT g = g
+    left-below XOR g = g .0
+    left-below AND g = g .0
+    left-below RANDOM g = absurd g
+    left-below (UNKNOWN c) g = absurd g
+
+-- a wire whose gate passes the checks
+abbrev pub Ok : ℕ → Wire → Type 0
+Ok w x =
+    let g = x .driver in
+    (known (g .kind) ≡ true) × (operandsOk w (g .kind) (g .left) (g .right) ≡ true)
+
+pub each-sound : (w : ℕ) (xs : List Wire) → SoundGates w (map driverOf xs) → Each Ok w xs
+unfolding SoundGates Each
+each-sound w [] s = tt
+each-sound w (x ∷ xs) s = (s .0, each-sound (suc w) xs (s .1))
+
+pub sound-each : (w : ℕ) (xs : List Wire) → Each Ok w xs → SoundGates w (map driverOf xs)
+unfolding SoundGates Each
+sound-each w [] s = tt
+sound-each w (x ∷ xs) s = (s .0, sound-each (suc w) xs (s .1))
+
+adding-ok :
+    (o : ℕ → Origin) (m last next : ℕ) (zs : List ℕ) → last < next → All (λ z. z < next) zs
+    → Each Ok next (adding o m last next zs)
+unfolding All Each adding
+adding-ok o m last next [] h a = tt
+adding-ok o m last next (z ∷ zs) h a = (
+  (refl, both-below last z next h (a .0)),
+  adding-ok o (suc m) next (suc next) zs (omega arith) (all-map _ _ (λ z k. omega arith) zs (a .1)),
+)
+
+place-small : (f : Five) → place f < 5
+place-small first = omega arith
+place-small second = omega arith
+place-small third = omega arith
+place-small fourth = omega arith
+place-small fifth = omega arith
+
+module _ {G : Gadget} (L : Lawful G) (n g w : ℕ) (a b : List ℕ) (sa : Stands n w a) (sb : Stands n w b) where
+  pairs-ok : Each Ok w (inTurn 5 w (pairs n) (pairWires G g a b))
+  pairs-ok =
+      each-in-turn Ok 5 w (pairs n) (pairWires G g a b) (pairOf 0 0) (pairs-span G n g a b)
+      (λ q h.
+      let p = getD (pairs n) q (pairOf 0 0) in
+      let k = all-getD _ (pairs n) q (pairOf 0 0) (pairs-in n) h in
+      let below : (i : ℕ) → i < n → (share a i < w + 5 * q) × (share b i < w + 5 * q) =
+      λ i hi. omega (arith, share-below n w a sa i hi, share-below n w b sb i hi) in
+      let lo = below (p .lower) (omega arith) in
+      let up = below (p .upper) (k .1) in
+      each-sound (w + 5 * q) _ (L .sound (w + 5 * q) _ _ _ _ (lo .0) (up .1) (up .0) (lo .1)))
+
+  pair-wire-below : (f : Five) (q : ℕ) → q < tri n → pairWire w f q < w + 5 * tri n
+  pair-wire-below f q h = omega (arith, place-small f)
+
+  rows-ok :
+      Each Ok (w + 5 * tri n)
+      (inTurn n (w + 5 * tri n) (upFrom n 0 (λ i. i))
+      (rowWires g a b (row n (pairWire w (G .low)) (pairWire w (G .high)))))
+  unfolding Each
+  rows-ok =
+      each-rows Ok n n (w + 5 * tri n) _ (rows-span G n g a b _ _)
+      (λ i h.
+      let v = w + 5 * tri n + n * i in
+      let zs = row n (pairWire w (G .low)) (pairWire w (G .high)) i in
+      let ha : share a i < v = omega (arith, share-below n w a sa i h) in
+      let hb : share b i < v = omega (arith, share-below n w b sb i h) in (
+        (refl, both-below (share a i) (share b i) v ha hb),
+        adding-ok _ 1 v (suc v) zs (omega arith)
+            (row-all (λ z. z < suc v) n _ _ i h
+            (λ j k. omega (arith, pair-wire-below (G .high) (pairAt n j i) (pair-below n j i k h)))
+            (λ j k l. omega (arith, pair-wire-below (G .low) (pairAt n i j) (pair-below n i j k l)))),
+      ))
+
+pub new-sound :
+    {G : Gadget} (L : Lawful G) (k : Kind) (n g w l r : ℕ) (S : List (List ℕ)) → 1 ≤ n → PlainGate (length S) k l r
+    → Placed n w S → SoundGates w (map driverOf (newWires G k n g w (getD S l []) (getD S r [])))
+unfolding andWires SoundGates
+new-sound L NOT n g w l r S h x P =
+    let sa = placed-at n w S l P x in
+    ((refl, and-intro _ true (lt-ltb _ w (share-below n w _ sa 0 h)) refl), tt)
+new-sound L XOR n g w l r S h x P =
+    let a = getD S l [] in
+    let b = getD S r [] in
+    let sa = placed-at n w S l P (x .0) in
+    let sb = placed-at n w S r P (x .1) in
+    sound-each w _
+    (each-up Ok n 0 w _
+    (λ i k.
+    let ha : share a (0 + i) < w + i = omega (arith, share-below n w a sa (0 + i) (omega arith)) in
+    let hb : share b (0 + i) < w + i = omega (arith, share-below n w b sb (0 + i) (omega arith)) in
+    (refl, both-below _ _ (w + i) ha hb)))
+new-sound {G} L AND n g w l r S h x P =
+    let a = getD S l [] in
+    let b = getD S r [] in
+    let sa = placed-at n w S l P (x .0) in
+    let sb = placed-at n w S r P (x .1) in
+    let ps = inTurn 5 w (pairs n) (pairWires G g a b) in
+    let long : w + length ps ≡ w + 5 * tri n =
+    omega (arith, in-turn-length 5 w (pairs n) (pairWires G g a b) (pairs-span G n g a b), pairs-length n 0) in
+    let zs = row n (pairWire w (G .low)) (pairWire w (G .high)) in
+    let rs = inTurn n (w + 5 * tri n) (upFrom n 0 (λ i. i)) (rowWires g a b zs) in
+    sound-each w (ps ++ rs)
+    (each-append Ok w ps rs
+    (pairs-ok L n g w a b sa sb)
+    (subst (λ (y : ℕ). Each Ok y rs) (sym long) (rows-ok L n g w a b sa sb)))
+new-sound L RANDOM n g w l r S h x P = absurd x
+new-sound L (UNKNOWN c) n g w l r S h x P = absurd x
+
+pub masked-sound :
+    {G : Gadget} (L : Lawful G) (n g w : ℕ) (S : List (List ℕ)) (xs : List Gate) → 1 ≤ n → PlainGates (length S) xs
+    → Placed n w S → SoundGates w (map driverOf (masked G n g w S xs))
+unfolding masked PlainGates SoundGates
+masked-sound L n g w S [] h x P = tt
+masked-sound {G} L n g w S (y ∷ ys) h x P =
+    let k = y .kind in
+    let a = getD S (y .left) [] in
+    let ws = newWires G k n g w a (getD S (y .right) []) in
+    let T = S ++ (newShares k n w a ∷ []) in
+    let long : w + length (map driverOf ws) ≡ w + cost k n =
+    ap (λ (z : ℕ). w + z) (length-map ws driverOf ∙ new-length G k n g w a (getD S (y .right) [])) in
+    let one : suc (length S) ≡ length T = sym (length-append S (newShares k n w a ∷ []) ∙ omega arith) in
+    let rest = map driverOf (masked G n (suc g) (w + cost k n) T ys) in
+    rw map-append
+    (sound-append w (map driverOf ws) rest
+    (new-sound L k n g w (y .left) (y .right) S h (x .0) P)
+    (subst (λ (z : ℕ). SoundGates z rest) (sym long)
+    (masked-sound L n (suc g) (w + cost k n) T ys h
+    (subst (λ (z : ℕ). PlainGates z ys) one (x .1))
+    (placed-step k n w (y .left) (y .right) S h (x .0) P))))
