@@ -6,3 +6,5 @@ pub mod Lawful
 pub mod Costs
 pub mod Placed
 pub mod Codes
+pub mod And
+pub mod Shares
