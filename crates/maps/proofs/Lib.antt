@@ -3,4 +3,6 @@ pub mod Bits
 pub mod Count
 pub mod Free
 pub mod Inputs
+pub mod Begun
+pub mod Computing
 pub mod Examples
