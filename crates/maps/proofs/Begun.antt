@@ -41,33 +41,45 @@ pub run-is :
 unfolding maskedRun run maskedTable
 run-is G o t xs ts = refl
 
-pub tape-is :
+pub tape-length :
     {G : Gadget} (L : Lawful G) (o : ℕ) (t : Table)
     → tapeLong G o t ≡ 2 * o * t .inputs + totalOf (λ k. draws k (sharesOf o)) (t .gates)
 unfolding tapeLong maskedTable
-tape-is L o t = ap (λ (y : ℕ). 2 * o * t .inputs + y) (masked-draws L (sharesOf o) 0 _ _ (t .gates))
+tape-length L o t = ap (λ (y : ℕ). 2 * o * t .inputs + y) (masked-draws L (sharesOf o) 0 _ _ (t .gates))
+
+-- secrets and tapes as facts
+pub secrets-are : (t : Table) (xs : List ℕ) → areSecrets t xs ≡ true → (length xs ≡ t .inputs) × Bits xs
+secrets-are t xs h =
+    let both = and-true (eqb (length xs) (t .inputs)) (allBits xs) h in
+    (eqb-true (length xs) (t .inputs) (both .0), all-bits xs (both .1))
+
+pub tape-is :
+    (G : Gadget) (o : ℕ) (t : Table) (ts : List ℕ) → isTape G o t ts ≡ true → (length ts ≡ tapeLong G o t) × Bits ts
+tape-is G o t ts h =
+    let both = and-true (eqb (length ts) (tapeLong G o t)) (allBits ts) h in
+    (eqb-true (length ts) (tapeLong G o t) (both .0), all-bits ts (both .1))
 
 module _ {G : Gadget} (L : Lawful G) (o : ℕ) (t : Table) (P : Plain t) (xs ts : List ℕ)
     (hx : areSecrets t xs ≡ true) (ht : isTape G o t ts ≡ true) where
   pub secrets-long : length xs ≡ t .inputs
-  secrets-long = eqb-true _ _ (and-true (eqb (length xs) (t .inputs)) (allBits xs) hx .0)
+  secrets-long = secrets-are t xs hx .0
 
   pub secret-bits : Bits xs
-  secret-bits = all-bits xs (and-true (eqb (length xs) (t .inputs)) (allBits xs) hx .1)
+  secret-bits = secrets-are t xs hx .1
 
   pub tape-long : length ts ≡ tapeLong G o t
-  tape-long = eqb-true _ _ (and-true (eqb (length ts) (tapeLong G o t)) (allBits ts) ht .0)
+  tape-long = tape-is G o t ts ht .0
 
   pub tape-bits : Bits ts
-  tape-bits = all-bits ts (and-true (eqb (length ts) (tapeLong G o t)) (allBits ts) ht .1)
+  tape-bits = tape-is G o t ts ht .1
 
   pub front-long : length (take (2 * o * t .inputs) ts) ≡ 2 * o * length xs
   front-long =
-      length-take-le (2 * o * t .inputs) ts (omega (arith, tape-long, tape-is L o t))
+      length-take-le (2 * o * t .inputs) ts (omega (arith, tape-long, tape-length L o t))
       ∙ ap (λ (y : ℕ). 2 * o * y) (sym secrets-long)
 
   pub rest-long : length (drop (2 * o * t .inputs) ts) ≡ totalOf (λ k. draws k (sharesOf o)) (t .gates)
-  rest-long = length-drop (2 * o * t .inputs) ts ∙ omega (arith, tape-long, tape-is L o t)
+  rest-long = length-drop (2 * o * t .inputs) ts ∙ omega (arith, tape-long, tape-length L o t)
 
   pub shares-long : length (encode o xs (take (2 * o * t .inputs) ts)) ≡ sharesOf o * t .inputs
   shares-long = encode-length o xs _ front-long ∙ ap (λ (y : ℕ). sharesOf o * y) secrets-long

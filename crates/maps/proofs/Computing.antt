@@ -20,19 +20,12 @@ use Rattle.masks.specs.Wires.{newShares, cost, inputShares, sharesAfter, output
 use Rattle.masks.specs.Codes.{encode, decode, maskedRun}
 use Rattle.masks.proofs.Sum.{sumOf, sum-cong, up-length, up-at, up-all}
 use Rattle.masks.proofs.Lawful.{Lawful}
+use Rattle.masks.proofs.Placed.{shares-after-length}
 use Rattle.masks.proofs.Codes.{encode-adds, joined, decode-groups, decode-encode}
 use Rattle.masks.proofs.Shares.{Shared, masked-shares}
 use Rattle.maps.specs.Claims.{allBits, isTape, areSecrets, Computes}
 use Rattle.maps.proofs.Bits.{all-bits}
 use Rattle.maps.proofs.Begun.{secrets-long, secret-bits, front-long, shares-long, value-bits, values-solve, value-of-input}
-
-pub shares-after-length :
-    (n w : ℕ) (S : List (List ℕ)) (gs : List Gate) → length (sharesAfter n w S gs) ≡ length S + length gs
-unfolding sharesAfter
-shares-after-length n w S [] = omega arith
-shares-after-length n w S (g ∷ gs) =
-    shares-after-length n _ (S ++ (newShares (g .kind) n w (getD S (g .left) []) ∷ [])) gs
-    ∙ omega (arith, length-append S (newShares (g .kind) n w (getD S (g .left) []) ∷ []))
 
 read-length : (vs ws : List ℕ) → length (readAll vs ws) ≡ length ws
 unfolding readAll

@@ -138,7 +138,8 @@ only-zero zero s k i = refl
 only-zero (suc c) s k zero = only-none k s
 only-zero (suc c) s k (suc i) = only-zero c (suc s) k i
 
-zero-append :
+-- nothing flipped by either part
+pub zero-append :
     (xs ys : List ℕ) → ((i : ℕ) → getD xs i 0 ≡ 0) → ((i : ℕ) → getD ys i 0 ≡ 0) → (i : ℕ) → getD (xs ++ ys) i 0 ≡ 0
 zero-append [] ys hx hy i = hy i
 zero-append (x ∷ xs) ys hx hy zero = hx 0

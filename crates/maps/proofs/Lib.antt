@@ -3,6 +3,13 @@ pub mod Bits
 pub mod Count
 pub mod Free
 pub mod Inputs
+pub mod Flips
 pub mod Begun
+pub mod TwoRuns
+pub mod Hiding
+pub mod Agree
+pub mod Kept
 pub mod Computing
+pub mod Written
+pub mod Whole
 pub mod Examples

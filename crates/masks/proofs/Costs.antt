@@ -13,7 +13,7 @@ use Rattle.tables.proofs.Lists.{All, all-append, all-getD, all-map}
 use Rattle.tables.proofs.Run.{randoms-append}
 use Rattle.masks.specs.Shares.{upFrom, inTurn, Pair, pairs, tri, row}
 use Rattle.masks.specs.Gadgets.{Gadget}
-use Rattle.masks.specs.Wires.{Wire, wire, Origin, andPart, sum, xorShare, share, driverOf, adding, pairWires, rowWires, pairWire, andWires, newWires, newShares, cost, draws, totalOf, masked, sharesAfter}
+use Rattle.masks.specs.Wires.{Wire, wire, Origin, andPart, sum, xorShare, share, driverOf, adding, pairWires, rowWires, pairWire, andWires, newWires, newShares, cost, draws, totalOf, masked, inputShare, inputOrigins}
 use Rattle.masks.proofs.Sum.{up-length, up-all}
 use Rattle.masks.proofs.Rows.{pairs-length, row-length}
 use Rattle.masks.proofs.Each.{Spans, Draws, in-turn-length, in-turn-draws}
@@ -117,3 +117,10 @@ masked-draws {G} L n g w S (x ∷ xs) =
     rw map-append
     (randoms-append (map driverOf (newWires G (x .kind) n g w (getD S (x .left) []) (getD S (x .right) []))) _
     ∙ ap₂ (λ (p q : ℕ). p + q) (new-draws L (x .kind) n g w _ _) (masked-draws L n (suc g) _ _ xs))
+
+pub input-origins-length : (n m : ℕ) → length (inputOrigins n m) ≡ n * m
+unfolding inputOrigins
+input-origins-length n m =
+    in-turn-length n 0 (upFrom m 0 (λ i. i)) (λ w i. upFrom n 0 (λ s. inputShare i s))
+    (all-of _ (λ i w. up-length n 0 _) _)
+    ∙ ap (λ (y : ℕ). n * y) (up-length m 0 (λ (i : ℕ). i))

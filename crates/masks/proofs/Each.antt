@@ -36,6 +36,13 @@ each-at P w (x ∷ xs) zero d a h = subst (λ (y : ℕ). P y x) (omega arith) (a
 each-at P w (x ∷ xs) (suc i) d a h =
     subst (λ (y : ℕ). P y (getD xs i d)) (omega arith) (each-at P (suc w) xs i d (a .1) (omega arith))
 
+pub each-map :
+    {A B : Type 0} (P : ℕ → A → Type 0) (Q : ℕ → B → Type 0) (f : A → B) → ((w : ℕ) (x : A) → P w x → Q w (f x))
+    → (w : ℕ) (xs : List A) → Each P w xs → Each Q w (map f xs)
+unfolding Each
+each-map P Q f h w [] a = tt
+each-map P Q f h w (x ∷ xs) a = (h w x (a .0), each-map P Q f h (suc w) xs (a .1))
+
 -- every block has as many wires as its size, and draws d random bits
 abbrev pub Spans : {A B : Type 0} → ℕ → (ℕ → A → List B) → A → Type 0
 Spans size f x = (w : ℕ) → length (f w x) ≡ size

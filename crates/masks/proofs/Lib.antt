@@ -5,6 +5,7 @@ pub mod Each
 pub mod Lawful
 pub mod Costs
 pub mod Placed
+pub mod Passed
 pub mod Codes
 pub mod And
 pub mod Shares

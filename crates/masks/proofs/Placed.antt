@@ -18,7 +18,7 @@ use Rattle.tables.proofs.Format.{SoundGates, sound-append}
 use Rattle.tables.proofs.Accept.{PlainGate, PlainGates}
 use Rattle.masks.specs.Shares.{upFrom, inTurn, Pair, pairOf, pairs, tri, pairAt, row}
 use Rattle.masks.specs.Gadgets.{Five, first, second, third, fourth, fifth, place, Gadget}
-use Rattle.masks.specs.Wires.{Wire, wire, Origin, andPart, sum, xorShare, share, driverOf, adding, pairWires, rowWires, pairWire, andWires, newWires, newShares, inputShares, cost, draws, masked, sharesAfter}
+use Rattle.masks.specs.Wires.{Wire, wire, Origin, andPart, sum, xorShare, share, driverOf, adding, pairWires, rowWires, pairWire, andWires, newWires, newShares, inputShares, cost, draws, masked, sharesAfter, outputShares, totalOf}
 use Rattle.masks.proofs.Sum.{up-length, up-all, up-at}
 use Rattle.masks.proofs.Rows.{pairs-length, pairs-in, pair-below, row-length, row-all}
 use Rattle.masks.proofs.Each.{Each, each-append, each-in-turn, each-up, each-rows, in-turn-length}
@@ -210,3 +210,43 @@ masked-sound {G} L n g w S (y ∷ ys) h x P =
     (masked-sound L n (suc g) (w + cost k n) T ys h
     (subst (λ (z : ℕ). PlainGates z ys) one (x .1))
     (placed-step k n w (y .left) (y .right) S h (x .0) P))))
+
+-- once the gates are masked, every plain wire's shares stand among the wires
+pub placed-after :
+    (n w : ℕ) (S : List (List ℕ)) (xs : List Gate) → 1 ≤ n → PlainGates (length S) xs → Placed n w S
+    → Placed n (w + totalOf (λ k. cost k n) xs) (sharesAfter n w S xs)
+unfolding PlainGates sharesAfter totalOf
+placed-after n w S [] h x P = subst (λ (y : ℕ). Placed n y S) {x = w} {y = w + 0} (omega arith) P
+placed-after n w S (y ∷ ys) h x P =
+    let k = y .kind in
+    let a = newShares k n w (getD S (y .left) []) in
+    let T = S ++ (a ∷ []) in
+    let one : suc (length S) ≡ length T = sym (length-append S (a ∷ []) ∙ omega arith) in
+    subst (λ (z : ℕ). Placed n z (sharesAfter n (w + cost k n) T ys))
+    {x = w + cost k n + totalOf (λ k. cost k n) ys}
+    {y = w + (cost k n + totalOf (λ k. cost k n) ys)}
+    (omega arith)
+    (placed-after n (w + cost k n) T ys h
+    (subst (λ (z : ℕ). PlainGates z ys) one (x .1))
+    (placed-step k n w (y .left) (y .right) S h (x .0) P))
+
+pub shares-after-length :
+    (n w : ℕ) (S : List (List ℕ)) (gs : List Gate) → length (sharesAfter n w S gs) ≡ length S + length gs
+unfolding sharesAfter
+shares-after-length n w S [] = omega arith
+shares-after-length n w S (g ∷ gs) =
+    shares-after-length n _ (S ++ (newShares (g .kind) n w (getD S (g .left) []) ∷ [])) gs
+    ∙ omega (arith, length-append S (newShares (g .kind) n w (getD S (g .left) []) ∷ []))
+
+-- the masked outputs: n wires for each output
+pub outputs-stand :
+    (n w : ℕ) (S : List (List ℕ)) (os : List ℕ) → Placed n w S → All (λ o. o < length S) os
+    → Stands (n * length os) w (outputShares S os)
+unfolding All outputShares
+outputs-stand n w S [] P a = (omega arith, tt)
+outputs-stand n w S (o ∷ os) P a =
+    let s = placed-at n w S o P (a .0) in
+    let rest = outputs-stand n w S os P (a .1) in (
+      length-append (getD S o []) (outputShares S os) ∙ omega (arith, s .0, rest .0),
+      all-append (λ x. x < w) (getD S o []) (outputShares S os) (s .1) (rest .1),
+    )

@@ -1,0 +1,386 @@
+-- Two runs whose random bits differ by the map's flips agree on every wire that does not carry the free share k, and so
+-- on every share other than k: gate by gate, the AND by its pairs and its rows.
+-- Assumes nothing.
+use mathlib.Core.Path.{_≡_, refl, sym, ap, ap₂, _∙_, subst, subst₂}
+use mathlib.Core.Bool.{false}
+use mathlib.Core.List.{List, [], _∷_, _++_, map, map-append}
+use Prim.Native.Nat.{ℕ, zero, suc, _+_, _-_, _*_, _≤_, _<_}
+use native.Mathlib.Omega.{arith}
+use lib.Dec.{eqb}
+use lib.ListN.{length, getD, drop, length-append, length-map, length-drop, List·getD-append}
+use lib.Seq.{getD-drop, getD-append-add}
+use borrow.Author.Tests.{ne-eqb}
+use Rattle.tables.specs.Tables.{Kind, NOT, XOR, AND, RANDOM, UNKNOWN, Gate, gate}
+use Rattle.tables.specs.Runs.{xor, randoms}
+use Rattle.tables.proofs.Tests.{or-intro}
+use Rattle.tables.proofs.Lists.{All, all-append, all-getD}
+use Rattle.tables.proofs.Run.{Solves, solves-append}
+use Rattle.tables.proofs.Accept.{PlainGate, PlainGates}
+use Rattle.masks.specs.Shares.{upFrom, inTurn, Pair, pairOf, pairs, tri, pairAt}
+use Rattle.masks.specs.Gadgets.{Five, first, second, third, fourth, fifth, allFive, place, Gadget}
+use Rattle.masks.specs.Wires.{
+  Origin,
+  andPart,
+  pair,
+  own,
+  sum,
+  xorShare,
+  Wire,
+  wire,
+  marks,
+  driverOf,
+  share,
+  adding,
+  pairWires,
+  rowWires,
+  pairWire,
+  andWires,
+  newWires,
+  newShares,
+  cost,
+  draws,
+  totalOf,
+  masked,
+  sharesAfter,
+}
+use Rattle.masks.proofs.Sum.{up-length, up-at}
+use Rattle.masks.proofs.Rows.{pairs-length, pairs-in, pair-at, row-length, row-all}
+use Rattle.masks.proofs.Each.{Each, each-append, each-at, each-in-turn, each-up, each-rows, in-turn-length}
+use Rattle.masks.proofs.Lawful.{Lawful}
+use Rattle.masks.proofs.Costs.{adding-length, pairs-span, rows-span, new-length, new-draws}
+use Rattle.masks.proofs.And.{rowTerms, and-pair, and-row}
+use Rattle.maps.specs.Maps.{isIn, pairFlip, gateFlips, gatesFlips}
+use Rattle.maps.proofs.Flips.{gate-flips-length}
+use Rattle.maps.proofs.Hiding.{Hiding, not-first}
+
+-- shares other than k have the same value in both runs
+abbrev pub Off : (ℕ → ℕ) → (ℕ → ℕ) → ℕ → List ℕ → Type 0
+Off v u k a = (i : ℕ) → i < length a → (suc i ≡ k → ⊥) → v (share a i) ≡ u (share a i)
+
+-- a wire that does not carry k
+abbrev pub Kept : Gadget → ℕ → (ℕ → ℕ) → (ℕ → ℕ) → ℕ → Wire → Type 0
+Kept G k v u w x = isIn k (marks G (x .origin)) ≡ false → v w ≡ u w
+
+-- n shares that agree off k
+abbrev pub Alike : ℕ → (ℕ → ℕ) → (ℕ → ℕ) → ℕ → List ℕ → Type 0
+Alike n v u k a = (length a ≡ n) × Off v u k a
+
+-- what is known of the right operand, where a gate has one
+abbrev pub OfRight : Kind → Type 0 → Type 0
+OfRight NOT T = Unit {0}
+OfRight XOR T = T
+OfRight AND T = T
+OfRight RANDOM T = Unit {0}
+OfRight (UNKNOWN c) T = Unit {0}
+
+uncarried : (k i : ℕ) → (i ≡ k → ⊥) → isIn k (i ∷ []) ≡ false
+uncarried k i h = or-intro (eqb k i) false (ne-eqb k i (λ e. h (sym e))) refl
+
+map-at : {A : Type 0} (f : A → ℕ) (xs : List A) (q : ℕ) (d : A) → q < length xs → getD (map f xs) q 0 ≡ f (getD xs q d)
+map-at f [] q d h = absurd (omega arith)
+map-at f (x ∷ xs) zero d h = refl
+map-at f (x ∷ xs) (suc q) d h = map-at f xs q d (omega arith)
+
+-- what holds of each of the five wires
+each-five :
+    (P : ℕ → Wire → Type 0) (w : ℕ) (x : Five → Wire) → ((f : Five) → P (w + place f) (x f)) → Each P w (map x allFive)
+unfolding Each
+each-five P w x h = (
+  subst (λ (y : ℕ). P y (x first)) (omega arith) (h first),
+  (
+    subst (λ (y : ℕ). P y (x second)) (omega arith) (h second),
+    (
+      subst (λ (y : ℕ). P y (x third)) (omega arith) (h third),
+      (
+        subst (λ (y : ℕ). P y (x fourth)) (omega arith) (h fourth),
+        (subst (λ (y : ℕ). P y (x fifth)) (omega arith) (h fifth), tt),
+      ),
+    ),
+  ),
+)
+
+-- the value of each XOR of shares
+xors-drive :
+    (m t w c : ℕ) (x y : ℕ → ℕ) (o : ℕ → Origin) (r v : ℕ → ℕ)
+    → Solves w c (map driverOf (upFrom m t (λ i. wire (gate XOR (x i) (y i)) (o i)))) r v
+    → (i : ℕ) → i < m → v (w + i) ≡ xor (v (x (t + i))) (v (y (t + i)))
+unfolding upFrom Solves
+xors-drive zero t w c x y o r v s i h = absurd (omega arith)
+xors-drive (suc m) t w c x y o r v s zero h =
+    let e : t + 0 ≡ t = omega arith in
+    ap v {x = w + 0} {y = w} (omega arith) ∙ rw e (s .0)
+xors-drive (suc m) t w c x y o r v s (suc i) h =
+    let e : t + suc i ≡ suc t + i = omega arith in
+    ap v {x = w + suc i} {y = suc w + i} (omega arith)
+    ∙ rw e (xors-drive m (suc t) (suc w) (c + 0) x y o r v (s .1) i (omega arith))
+
+-- a running sum of what agrees agrees
+adding-agrees :
+    (o : ℕ → Origin) (m last next c : ℕ) (zs : List ℕ) (r s v u : ℕ → ℕ) → v last ≡ u last → All (λ z. v z ≡ u z) zs
+    → Solves next c (map driverOf (adding o m last next zs)) r v
+    → Solves next c (map driverOf (adding o m last next zs)) s u
+    → Each (λ p x. v p ≡ u p) next (adding o m last next zs)
+unfolding All Each adding Solves
+adding-agrees o m last next c [] r s v u e a sv su = tt
+adding-agrees o m last next c (z ∷ zs) r s v u e a sv su =
+    let here : v next ≡ u next = sv .0 ∙ ap₂ xor e (a .0) ∙ sym (su .0) in
+    (here, adding-agrees o (suc m) next (suc next) (c + 0) zs r s v u here (a .1) (sv .1) (su .1))
+
+-- the sums of row i carry share i alone
+adding-kept :
+    (G : Gadget) (k g i m last next : ℕ) (zs : List ℕ) (v u : ℕ → ℕ)
+    → ((suc i ≡ k → ⊥) → Each (λ p x. v p ≡ u p) next (adding (λ m. andPart g (sum i m)) m last next zs))
+    → Each (Kept G k v u) next (adding (λ m. andPart g (sum i m)) m last next zs)
+unfolding Each adding
+adding-kept G k g i m last next [] v u h = tt
+adding-kept G k g i m last next (z ∷ zs) v u h = (
+  (λ e. h (not-first k (suc i) [] e .0) .0),
+  adding-kept G k g i (suc m) next (suc next) zs v u (λ ne. h ne .1),
+)
+
+module _
+    {G : Gadget} (H : Hiding G) (n g w c k : ℕ) (a b : List ℕ) (r s v u : ℕ → ℕ)
+    (sa : Alike n v u k a) (sb : Alike n v u k b)
+    (bv : (p : ℕ) → v p ≤ 1) (bu : (p : ℕ) → u p ≤ 1) (br : (q : ℕ) → r q ≤ 1)
+    (sv : Solves w c (map driverOf (andWires G n g w a b)) r v)
+    (su : Solves w c (map driverOf (andWires G n g w a b)) s u)
+    (flips :
+    (q : ℕ) → q < tri n → s (c + q) ≡ xor (r (c + q)) (getD (map (pairFlip G k a b v u) (pairs n)) q 0))
+  where
+    both-agree : (i : ℕ) → i < n → (suc i ≡ k → ⊥) → (v (share a i) ≡ u (share a i)) × (v (share b i) ≡ u (share b i))
+    both-agree i h ne = (sa .1 i (omega (arith, sa .0)) ne, sb .1 i (omega (arith, sb .0)) ne)
+
+    -- the wires of pair number q agree where they do not carry k, p being its shares
+    abbrev Agreed : ℕ → Pair → Type 0
+    Agreed q p =
+        (f : Five) → isIn k (G .marks (suc (p .lower)) (suc (p .upper)) f) ≡ false
+        → v (pairWire w f q) ≡ u (pairWire w f q)
+
+    pair-agrees : (q : ℕ) → q < tri n → Agreed q (getD (pairs n) q (pairOf 0 0))
+    pair-agrees q h =
+        let p = getD (pairs n) q (pairOf 0 0) in
+        let long : q < length (pairs n) = omega (arith, pairs-length n 0) in
+        let inside = all-getD _ (pairs n) q (pairOf 0 0) (pairs-in n) long in
+        H .agrees k (suc (p .lower)) (suc (p .upper)) (w + 5 * q) (c + q) _ _ _ _ r s v u
+        (λ e. omega arith)
+        bv
+        bu
+        (br (c + q))
+        (and-pair (H .lawful) n g w c a b r v sv q h)
+        (and-pair (H .lawful) n g w c a b s u su q h)
+        (flips q h ∙ ap (λ (y : ℕ). xor (r (c + q)) y) (map-at (pairFlip G k a b v u) (pairs n) q (pairOf 0 0) long))
+        (both-agree (p .lower) (omega arith))
+        (both-agree (p .upper) (omega arith))
+
+    -- the same where the pair is known
+    pair-agrees-at :
+        (q i j : ℕ) → q < tri n → getD (pairs n) q (pairOf 0 0) ≡ pairOf i j → Agreed q (pairOf i j)
+    pair-agrees-at q i j h e = subst (Agreed q) e (pair-agrees q h)
+
+    pairs-kept : Each (Kept G k v u) w (inTurn 5 w (pairs n) (pairWires G g a b))
+    pairs-kept =
+        each-in-turn _ 5 w (pairs n) (pairWires G g a b) (pairOf 0 0) (pairs-span G n g a b)
+        (λ q h.
+        let p = getD (pairs n) q (pairOf 0 0) in
+        each-five _ (w + 5 * q)
+        (λ f.
+        wire
+        (G .gates (w + 5 * q) (share a (p .lower)) (share b (p .upper)) (share a (p .upper)) (share b (p .lower)) f)
+        (andPart g (pair f (p .lower) (p .upper))))
+        (pair-agrees q (omega (arith, pairs-length n 0))))
+
+    -- what row i adds carries share i alone
+    terms-agree : (i : ℕ) → i < n → (suc i ≡ k → ⊥) → All (λ z. v z ≡ u z) (rowTerms G n w i)
+    terms-agree i h ne =
+        row-all (λ z. v z ≡ u z) n _ _ i h
+        (λ j l.
+        let at = pair-at n j i (pairOf 0 0) l h in
+        pair-agrees-at (pairAt n j i) j i (at .0) (at .1) (G .high)
+        (ap (isIn k) (H .lawful .high-mark (suc j) (suc i)) ∙ uncarried k (suc i) ne))
+        (λ j l m.
+        let at = pair-at n i j (pairOf 0 0) l m in
+        pair-agrees-at (pairAt n i j) i j (at .0) (at .1) (G .low)
+        (ap (isIn k) (H .lawful .low-mark (suc i) (suc j)) ∙ uncarried k (suc i) ne))
+
+    abbrev rowFrom : ℕ → ℕ
+    rowFrom i = w + 5 * tri n + n * i
+
+    row-agrees :
+        (i : ℕ) → i < n → (suc i ≡ k → ⊥)
+        → Each (λ p x. v p ≡ u p) (rowFrom i) (rowWires g a b (rowTerms G n w) (rowFrom i) i)
+    unfolding Each Solves
+    row-agrees i h ne =
+        let tv = and-row (H .lawful) n g w c a b r v sv i h in
+        let tu = and-row (H .lawful) n g w c a b s u su i h in
+        let both = both-agree i h ne in
+        let here : v (rowFrom i) ≡ u (rowFrom i) =
+        tv .0 ∙ ap₂ (λ (x y : ℕ). x * y) (both .0) (both .1) ∙ sym (tu .0) in
+        (here, adding-agrees _ 1 _ _ _ _ r s v u here (terms-agree i h ne) (tv .1) (tu .1))
+
+    row-kept :
+        (i : ℕ) → i < n → Each (Kept G k v u) (rowFrom i) (rowWires g a b (rowTerms G n w) (rowFrom i) i)
+    unfolding Each
+    row-kept i h = (
+      (λ e. row-agrees i h (not-first k (suc i) [] e .0) .0),
+      adding-kept G k g i 1 _ _ _ v u (λ ne. row-agrees i h ne .1),
+    )
+
+    and-kept : Each (Kept G k v u) w (andWires G n g w a b)
+    unfolding andWires
+    and-kept =
+        let ps = inTurn 5 w (pairs n) (pairWires G g a b) in
+        let rs = inTurn n (w + 5 * tri n) (upFrom n 0 (λ i. i)) (rowWires g a b (rowTerms G n w)) in
+        let long : w + 5 * tri n ≡ w + length ps =
+        omega (arith, in-turn-length 5 w (pairs n) (pairWires G g a b) (pairs-span G n g a b), pairs-length n 0) in
+        each-append _ w ps rs pairs-kept
+        (subst (λ (y : ℕ). Each (Kept G k v u) y rs) long
+        (each-rows _ n n (w + 5 * tri n) _ (rows-span G n g a b _ _) row-kept))
+
+    -- the last wire of each row
+    and-off : Off v u k (newShares AND n w a)
+    and-off i h ne =
+        let below : i < n = omega (arith, up-length n 0 (λ i. w + 5 * tri n + n * i + (n - 1))) in
+        let long : n - 1 < length (rowWires g a b (rowTerms G n w) (rowFrom i) i) =
+        omega (
+          arith,
+          adding-length (λ m. andPart g (sum i m)) 1 (rowFrom i) (suc (rowFrom i)) (rowTerms G n w i),
+          row-length n (pairWire w (G .low)) (pairWire w (G .high)) i below,
+        ) in
+        let at : share (newShares AND n w a) i ≡ rowFrom i + (n - 1) =
+        up-at n 0 (λ i. rowFrom i + (n - 1)) i 0 below
+        ∙ ap (λ (i : ℕ). rowFrom i + (n - 1)) {x = 0 + i} {y = i} (omega arith) in
+        ap v at
+        ∙ each-at _ (rowFrom i) _ (n - 1) (wire (gate AND 0 0) (andPart g (own i))) (row-agrees i below ne) long
+        ∙ sym (ap u at)
+
+not-off :
+    (a : List ℕ) (w k : ℕ) (v u : ℕ → ℕ) → Off v u k a → ((1 ≡ k → ⊥) → v w ≡ u w) → Off v u k (w ∷ drop 1 a)
+not-off a w k v u o h zero l ne = h ne
+not-off a w k v u o h (suc i) l ne =
+    let at : share (drop 1 a) i ≡ share a (suc i) =
+    getD-drop 1 a i 0 ∙ ap (share a) {x = 1 + i} {y = suc i} (omega arith) in
+    ap v at ∙ o (suc i) (omega (arith, length-drop 1 a)) ne ∙ sym (ap u at)
+
+-- one gate, by kind
+pub new-agrees :
+    {G : Gadget} (H : Hiding G) (kd : Kind) (n g w c k p l r′ : ℕ) (a b : List ℕ) (r s v u : ℕ → ℕ) → 1 ≤ n
+    → PlainGate p kd l r′ → Alike n v u k a → OfRight kd (Alike n v u k b) → ((p : ℕ) → v p ≤ 1)
+    → ((p : ℕ) → u p ≤ 1) → ((q : ℕ) → r q ≤ 1) → Solves w c (map driverOf (newWires G kd n g w a b)) r v
+    → Solves w c (map driverOf (newWires G kd n g w a b)) s u
+    → ((q : ℕ) → q < draws kd n → s (c + q) ≡ xor (r (c + q)) (getD (gateFlips G kd n k a b v u) q 0))
+    → Each (Kept G k v u) w (newWires G kd n g w a b) × Off v u k (newShares kd n w a)
+unfolding Each Solves
+new-agrees H NOT n g w c k p l r′ a b r s v u h x sa sb bv bu br sv su fl =
+    let here : (1 ≡ k → ⊥) → v w ≡ u w =
+    λ ne. sv .0 ∙ ap (λ (y : ℕ). 1 - y) (sa .1 0 (omega (arith, sa .0)) ne) ∙ sym (su .0) in
+    (((λ e. here (not-first k 1 [] e .0)), tt), not-off a w k v u (sa .1) here)
+new-agrees H XOR n g w c k p l r′ a b r s v u h x sa sb bv bu br sv su fl =
+    let here : (i : ℕ) → i < n → (suc (0 + i) ≡ k → ⊥) → v (w + i) ≡ u (w + i) =
+    λ i hi ne.
+    xors-drive n 0 w c (share a) (share b) (xorShare g) r v sv i hi
+    ∙ ap₂ xor (sa .1 (0 + i) (omega (arith, sa .0)) ne) (sb .1 (0 + i) (omega (arith, sb .0)) ne)
+    ∙ sym (xors-drive n 0 w c (share a) (share b) (xorShare g) s u su i hi) in
+    let off : Off v u k (newShares XOR n w a) =
+    λ i hi ne.
+    let below : i < n = omega (arith, up-length n w (λ (z : ℕ). z)) in
+    let at : share (newShares XOR n w a) i ≡ w + i = up-at n w (λ z. z) i 0 below in
+    ap v at ∙ here i below (λ e. ne (omega arith)) ∙ sym (ap u at) in
+    (each-up _ n 0 w _ (λ i hi e. here i hi (not-first k (suc (0 + i)) [] e .0)), off)
+new-agrees H AND n g w c k p l r′ a b r s v u h x sa sb bv bu br sv su fl =
+    (and-kept H n g w c k a b r s v u sa sb bv bu br sv su fl, and-off H n g w c k a b r s v u sa sb bv bu br sv su fl)
+new-agrees H RANDOM n g w c k p l r′ a b r s v u h x sa sb bv bu br sv su fl = absurd x
+new-agrees H (UNKNOWN d) n g w c k p l r′ a b r s v u h x sa sb bv bu br sv su fl = absurd x
+
+pub new-shares-length :
+    (kd : Kind) (n w p l r : ℕ) (a : List ℕ) → 1 ≤ n → PlainGate p kd l r → length a ≡ n
+    → length (newShares kd n w a) ≡ n
+new-shares-length NOT n w p l r a h x e = omega (arith, length-drop 1 a)
+new-shares-length XOR n w p l r a h x e = up-length n w _
+new-shares-length AND n w p l r a h x e = up-length n 0 _
+new-shares-length RANDOM n w p l r a h x e = absurd x
+new-shares-length (UNKNOWN c) n w p l r a h x e = absurd x
+
+-- the operands of a plain gate, of wires that all have a property
+pub left-of :
+    (P : List ℕ → Type 0) (kd : Kind) (l r : ℕ) (S : List (List ℕ)) → PlainGate (length S) kd l r → All P S
+    → P (getD S l [])
+left-of P NOT l r S x A = all-getD P S l [] A x
+left-of P XOR l r S x A = all-getD P S l [] A (x .0)
+left-of P AND l r S x A = all-getD P S l [] A (x .0)
+left-of P RANDOM l r S x A = absurd x
+left-of P (UNKNOWN c) l r S x A = absurd x
+
+pub right-of :
+    (P : List ℕ → Type 0) (kd : Kind) (l r : ℕ) (S : List (List ℕ)) → PlainGate (length S) kd l r → All P S
+    → OfRight kd (P (getD S r []))
+right-of P NOT l r S x A = tt
+right-of P XOR l r S x A = all-getD P S r [] A (x .1)
+right-of P AND l r S x A = all-getD P S r [] A (x .1)
+right-of P RANDOM l r S x A = absurd x
+right-of P (UNKNOWN c) l r S x A = absurd x
+
+-- the random bits of the second run: the first m and those after them
+pub flips-split :
+    (fs gs : List ℕ) (m t c : ℕ) (r s : ℕ → ℕ) → length fs ≡ m
+    → ((q : ℕ) → q < m + t → s (c + q) ≡ xor (r (c + q)) (getD (fs ++ gs) q 0))
+    → ((q : ℕ) → q < m → s (c + q) ≡ xor (r (c + q)) (getD fs q 0))
+    × ((q : ℕ) → q < t → s (c + m + q) ≡ xor (r (c + m + q)) (getD gs q 0))
+flips-split fs gs m t c r s e h = (
+  (λ q l. h q (omega arith) ∙ ap (xor (r (c + q))) (List·getD-append fs gs 0 q (omega arith))),
+  (λ q l.
+      let at : c + m + q ≡ c + (length fs + q) = omega arith in
+      rw at (h (length fs + q) (omega arith) ∙ ap (xor (r (c + (length fs + q)))) (getD-append-add fs gs q 0))),
+)
+
+-- the equations of the first gate's wires and of the others
+pub masked-split :
+    {G : Gadget} (L : Lawful G) (kd : Kind) (n g w c : ℕ) (a b : List ℕ) (rest : List Wire) (r v : ℕ → ℕ)
+    → Solves w c (map driverOf (newWires G kd n g w a b ++ rest)) r v
+    → Solves w c (map driverOf (newWires G kd n g w a b)) r v
+    × Solves (w + cost kd n) (c + draws kd n) (map driverOf rest) r v
+masked-split {G} L kd n g w c a b rest r v s =
+    let ws = newWires G kd n g w a b in
+    let t = solves-append w c (map driverOf ws) (map driverOf rest) r v (rw map-append at s) in
+    let long : w + length (map driverOf ws) ≡ w + cost kd n =
+    ap (λ (y : ℕ). w + y) (length-map ws driverOf ∙ new-length G kd n g w a b) in
+    let bits : c + randoms (map driverOf ws) ≡ c + draws kd n =
+    ap (λ (y : ℕ). c + y) (new-draws L kd n g w a b) in
+    (t .0, subst₂ (λ (x y : ℕ). Solves x y (map driverOf rest) r v) long bits (t .1))
+
+-- by induction over the gates; the shares come along, so that clocks can go on from them
+pub masked-agrees :
+    {G : Gadget} (H : Hiding G) (n g w c k : ℕ) (S : List (List ℕ)) (gs : List Gate) (r s v u : ℕ → ℕ) → 1 ≤ n
+    → PlainGates (length S) gs → ((p : ℕ) → v p ≤ 1) → ((p : ℕ) → u p ≤ 1) → ((q : ℕ) → r q ≤ 1)
+    → Solves w c (map driverOf (masked G n g w S gs)) r v
+    → Solves w c (map driverOf (masked G n g w S gs)) s u
+    → ((q : ℕ) → q < totalOf (λ kd. draws kd n) gs
+    → s (c + q) ≡ xor (r (c + q)) (getD (gatesFlips G n k w S gs v u) q 0))
+    → All (Alike n v u k) S
+    → Each (Kept G k v u) w (masked G n g w S gs) × All (Alike n v u k) (sharesAfter n w S gs)
+unfolding All Each masked sharesAfter PlainGates totalOf gatesFlips
+masked-agrees H n g w c k S [] r s v u h x bv bu br sv su fl A = (tt, A)
+masked-agrees {G} H n g w c k S (y ∷ ys) r s v u h x bv bu br sv su fl A =
+    let kd = y .kind in
+    let a = getD S (y .left) [] in
+    let b = getD S (y .right) [] in
+    let ws = newWires G kd n g w a b in
+    let T = S ++ (newShares kd n w a ∷ []) in
+    let rest = masked G n (suc g) (w + cost kd n) T ys in
+    let sa = left-of (Alike n v u k) kd (y .left) (y .right) S (x .0) A in
+    let sb = right-of (Alike n v u k) kd (y .left) (y .right) S (x .0) A in
+    let tv = masked-split (H .lawful) kd n g w c a b rest r v sv in
+    let tu = masked-split (H .lawful) kd n g w c a b rest s u su in
+    let fs = flips-split (gateFlips G kd n k a b v u) (gatesFlips G n k (w + cost kd n) T ys v u) (draws kd n)
+    (totalOf (λ kd. draws kd n) ys) c r s (gate-flips-length G kd n k a b v u) fl in
+    let one = new-agrees H kd n g w c k (length S) (y .left) (y .right) a b r s v u h (x .0) sa sb bv bu br
+    (tv .0) (tu .0) (fs .0) in
+    let long : w + cost kd n ≡ w + length ws = ap (λ (z : ℕ). w + z) (sym (new-length G kd n g w a b)) in
+    let more : suc (length S) ≡ length T = sym (length-append S (newShares kd n w a ∷ []) ∙ omega arith) in
+    let B : All (Alike n v u k) T =
+    all-append _ S (newShares kd n w a ∷ []) A
+    ((new-shares-length kd n w (length S) (y .left) (y .right) a h (x .0) (sa .0), one .1), tt) in
+    let others = masked-agrees H n (suc g) (w + cost kd n) (c + draws kd n) k T ys r s v u h
+    (subst (λ (z : ℕ). PlainGates z ys) more (x .1)) bv bu br (tv .1) (tu .1) (fs .1) B in (
+      each-append _ w ws rest (one .0) (subst (λ (z : ℕ). Each (Kept G k v u) z rest) long (others .0)),
+      others .1,
+    )

@@ -1,0 +1,363 @@
+-- The map built gate by gate satisfies document 01's law read off the two complete runs, and nothing else does: what a
+-- gate flips depends on earlier wires alone, and those keep their values to the end of the run.
+-- Assumes nothing.
+use mathlib.Core.Path.{_≡_, refl, sym, ap, ap₂, _∙_, subst}
+use mathlib.Core.List.{List, [], _∷_, _++_, map, map-append}
+use Prim.Native.Nat.{ℕ, zero, suc, _+_, _≤_, _<_}
+use native.Mathlib.Omega.{arith}
+use lib.ListN.{length, getD, take, drop, length-append, length-map, length-drop, take-append-drop}
+use lib.Seq.{length-take-le, take-at, drop-at}
+use Rattle.tables.specs.Tables.{Kind, NOT, XOR, AND, RANDOM, UNKNOWN, Gate}
+use Rattle.tables.specs.Runs.{runFrom, randoms}
+use Rattle.tables.proofs.Lists.{All, all-map}
+use Rattle.tables.proofs.Accept.{PlainGate, PlainGates}
+use Rattle.tables.proofs.Run.{run-length, run-keep, run-append, run-prefix}
+use Rattle.masks.specs.Shares.{pairs}
+use Rattle.masks.specs.Gadgets.{Gadget}
+use Rattle.masks.specs.Wires.{driverOf, newWires, newShares, cost, draws, totalOf, masked}
+use Rattle.masks.proofs.Rows.{pairs-length, pairs-in}
+use Rattle.masks.proofs.Lawful.{Lawful}
+use Rattle.masks.proofs.Costs.{new-length, new-draws, all-of}
+use Rattle.masks.proofs.Placed.{Stands, Placed, share-below, placed-at, placed-step}
+use Rattle.maps.specs.Maps.{flipped, differs, pairFlip, gateFlips, mapGates, gatesFlips}
+use Rattle.maps.proofs.Inputs.{flipped-length, flipped-append, flipped-nil, zero-append}
+
+pub gate-flips-length :
+    (G : Gadget) (kd : Kind) (n k : ℕ) (a b : List ℕ) (v u : ℕ → ℕ) → length (gateFlips G kd n k a b v u) ≡ draws kd n
+gate-flips-length G NOT n k a b v u = refl
+gate-flips-length G XOR n k a b v u = refl
+gate-flips-length G AND n k a b v u = length-map (pairs n) (pairFlip G k a b v u) ∙ pairs-length n 0
+gate-flips-length G RANDOM n k a b v u = refl
+gate-flips-length G (UNKNOWN c) n k a b v u = refl
+
+pub gates-flips-length :
+    (G : Gadget) (n k w : ℕ) (S : List (List ℕ)) (gs : List Gate) (v u : ℕ → ℕ)
+    → length (gatesFlips G n k w S gs v u) ≡ totalOf (λ kd. draws kd n) gs
+unfolding gatesFlips totalOf
+gates-flips-length G n k w S [] v u = refl
+gates-flips-length G n k w S (x ∷ xs) v u =
+    length-append (gateFlips G (x .kind) n k (getD S (x .left) []) (getD S (x .right) []) v u) _
+    ∙ ap₂ (λ (p q : ℕ). p + q) (gate-flips-length G (x .kind) n k _ _ v u) (gates-flips-length G n k _ _ xs v u)
+
+map-same : {A : Type 0} (f g : A → ℕ) (xs : List A) → All (λ x. f x ≡ g x) xs → map f xs ≡ map g xs
+unfolding All
+map-same f g [] a = refl
+map-same f g (x ∷ xs) a = ap₂ (λ (y : ℕ) (ys : List ℕ). y ∷ ys) (a .0) (map-same f g xs (a .1))
+
+-- two runs agree on the wires before w
+abbrev pub SameBelow : ℕ → (ℕ → ℕ) → (ℕ → ℕ) → Type 0
+SameBelow w v v′ = (q : ℕ) → q < w → v q ≡ v′ q
+
+differs-local :
+    (w a b : ℕ) (v u v′ u′ : ℕ → ℕ) → a < w → b < w → SameBelow w v v′ → SameBelow w u u′
+    → differs v u a b ≡ differs v′ u′ a b
+differs-local w a b v u v′ u′ ha hb ev eu = rw (ev a ha, ev b hb, eu a ha, eu b hb)
+
+and-flips-local :
+    (G : Gadget) (n k w : ℕ) (a b : List ℕ) (v u v′ u′ : ℕ → ℕ) → Stands n w a → Stands n w b → SameBelow w v v′
+    → SameBelow w u u′ → map (pairFlip G k a b v u) (pairs n) ≡ map (pairFlip G k a b v′ u′) (pairs n)
+and-flips-local G n k w a b v u v′ u′ sa sb ev eu =
+    map-same (pairFlip G k a b v u) (pairFlip G k a b v′ u′) (pairs n)
+    (all-map _ _
+    (λ p h.
+    let i = p .lower in
+    let j = p .upper in
+    let hi : i < n = omega arith in
+    ap₂ (G .flip k (suc i) (suc j))
+    (differs-local w _ _ v u v′ u′ (share-below n w a sa i hi) (share-below n w b sb j (h .1)) ev eu)
+    (differs-local w _ _ v u v′ u′ (share-below n w a sa j (h .1)) (share-below n w b sb i hi) ev eu))
+    (pairs n)
+    (pairs-in n))
+
+-- what a gate flips depends on the wires of its operands' shares alone
+pub gate-flips-local :
+    (G : Gadget) (kd : Kind) (n k w l r : ℕ) (S : List (List ℕ)) (v u v′ u′ : ℕ → ℕ) → PlainGate (length S) kd l r
+    → Placed n w S → SameBelow w v v′ → SameBelow w u u′
+    → gateFlips G kd n k (getD S l []) (getD S r []) v u ≡ gateFlips G kd n k (getD S l []) (getD S r []) v′ u′
+gate-flips-local G NOT n k w l r S v u v′ u′ g P ev eu = refl
+gate-flips-local G XOR n k w l r S v u v′ u′ g P ev eu = refl
+gate-flips-local G AND n k w l r S v u v′ u′ g P ev eu =
+    and-flips-local G n k w _ _ v u v′ u′ (placed-at n w S l P (g .0)) (placed-at n w S r P (g .1)) ev eu
+gate-flips-local G RANDOM n k w l r S v u v′ u′ g P ev eu = refl
+gate-flips-local G (UNKNOWN c) n k w l r S v u v′ u′ g P ev eu = refl
+
+differs-sym : (v u : ℕ → ℕ) (a b : ℕ) → differs v u a b ≡ differs u v a b
+differs-sym v u a b = omega arith
+
+-- swapping the runs changes nothing
+pub gate-flips-sym :
+    (G : Gadget) (kd : Kind) (n k : ℕ) (a b : List ℕ) (v u : ℕ → ℕ)
+    → gateFlips G kd n k a b v u ≡ gateFlips G kd n k a b u v
+gate-flips-sym G NOT n k a b v u = refl
+gate-flips-sym G XOR n k a b v u = refl
+gate-flips-sym G AND n k a b v u =
+    map-same (pairFlip G k a b v u) (pairFlip G k a b u v) (pairs n)
+    (all-of _
+    (λ p. ap₂ (G .flip k (suc (p .lower)) (suc (p .upper))) (differs-sym v u _ _) (differs-sym v u _ _))
+    (pairs n))
+gate-flips-sym G RANDOM n k a b v u = refl
+gate-flips-sym G (UNKNOWN c) n k a b v u = refl
+
+pub gates-flips-sym :
+    (G : Gadget) (n k w : ℕ) (S : List (List ℕ)) (gs : List Gate) (v u : ℕ → ℕ)
+    → gatesFlips G n k w S gs v u ≡ gatesFlips G n k w S gs u v
+unfolding gatesFlips
+gates-flips-sym G n k w S [] v u = refl
+gates-flips-sym G n k w S (x ∷ xs) v u =
+    ap₂ (λ (p q : List ℕ). p ++ q) (gate-flips-sym G (x .kind) n k _ _ v u) (gates-flips-sym G n k _ _ xs v u)
+
+map-none : {A : Type 0} (f : A → ℕ) (xs : List A) → ((x : A) → f x ≡ 0) → (i : ℕ) → getD (map f xs) i 0 ≡ 0
+map-none f [] h i = refl
+map-none f (x ∷ xs) h zero = h x
+map-none f (x ∷ xs) h (suc i) = map-none f xs h i
+
+differs-none : (v : ℕ → ℕ) (a b : ℕ) → differs v v a b ≡ 0
+differs-none v a b = omega arith
+
+-- one run against itself flips nothing
+pub gate-flips-none :
+    (G : Gadget) → ((k i j : ℕ) → G .flip k i j 0 0 ≡ 0) → (kd : Kind) (n k : ℕ) (a b : List ℕ) (v : ℕ → ℕ) (i : ℕ)
+    → getD (gateFlips G kd n k a b v v) i 0 ≡ 0
+gate-flips-none G none NOT n k a b v i = refl
+gate-flips-none G none XOR n k a b v i = refl
+gate-flips-none G none AND n k a b v i =
+    map-none (pairFlip G k a b v v) (pairs n)
+    (λ p.
+    ap₂ (G .flip k (suc (p .lower)) (suc (p .upper))) (differs-none v _ _) (differs-none v _ _)
+    ∙ none k (suc (p .lower)) (suc (p .upper)))
+    i
+gate-flips-none G none RANDOM n k a b v i = refl
+gate-flips-none G none (UNKNOWN c) n k a b v i = refl
+
+pub gates-flips-none :
+    (G : Gadget) → ((k i j : ℕ) → G .flip k i j 0 0 ≡ 0) → (n k w : ℕ) (S : List (List ℕ)) (gs : List Gate) (v : ℕ → ℕ)
+    (i : ℕ) → getD (gatesFlips G n k w S gs v v) i 0 ≡ 0
+unfolding gatesFlips
+gates-flips-none G none n k w S [] v i = refl
+gates-flips-none G none n k w S (x ∷ xs) v i =
+    zero-append (gateFlips G (x .kind) n k (getD S (x .left) []) (getD S (x .right) []) v v) _
+    (gate-flips-none G none (x .kind) n k _ _ v)
+    (gates-flips-none G none n k _ _ xs v)
+    i
+
+-- flips in two parts, of which the first has d bits
+pub flipped-split :
+    (d : ℕ) (rs fs hs : List ℕ) → length fs ≡ d → d ≤ length rs
+    → flipped rs (fs ++ hs) ≡ flipped (take d rs) fs ++ flipped (drop d rs) hs
+flipped-split d rs fs hs e h =
+    ap (λ (ts : List ℕ). flipped ts (fs ++ hs)) (sym (take-append-drop d rs))
+    ∙ flipped-append (take d rs) (drop d rs) fs hs (length-take-le d rs h ∙ sym e)
+
+-- the gates' flips, read off the complete runs from vs on the random bits rs and from us on the random bits ss
+abbrev pub runsFlips :
+    Gadget → ℕ → ℕ → ℕ → ℕ → List (List ℕ) → List Gate → List ℕ → List ℕ → List ℕ → List ℕ → List ℕ
+runsFlips G n k g w S gs rs ss vs us =
+    let hs = map driverOf (masked G n g w S gs) in
+    gatesFlips G n k w S gs (λ p. getD (runFrom hs rs vs) p 0) (λ p. getD (runFrom hs ss us) p 0)
+
+-- one gate x, and the gates xs that follow it
+module _ {G : Gadget} (L : Lawful G) (n k g w : ℕ) (S : List (List ℕ)) (x : Gate) (xs : List Gate) where
+  abbrev leftShares : List ℕ
+  leftShares = getD S (x .left) []
+
+  abbrev rightShares : List ℕ
+  rightShares = getD S (x .right) []
+
+  abbrev nextShares : List (List ℕ)
+  nextShares = S ++ (newShares (x .kind) n w leftShares ∷ [])
+
+  abbrev nextWire : ℕ
+  nextWire = w + cost (x .kind) n
+
+  abbrev bitsTaken : ℕ
+  bitsTaken = draws (x .kind) n
+
+  -- the masked gates of x, and those of xs
+  abbrev these : List Gate
+  these = map driverOf (newWires G (x .kind) n g w leftShares rightShares)
+
+  abbrev others : List Gate
+  others = map driverOf (masked G n (suc g) nextWire nextShares xs)
+
+  -- what x flips, after the runs so far
+  abbrev flipsAt : List ℕ → List ℕ → List ℕ
+  flipsAt vs us = gateFlips G (x .kind) n k leftShares rightShares (λ p. getD vs p 0) (λ p. getD us p 0)
+
+  -- the random bits of x in the second run
+  abbrev front : List ℕ → List ℕ → List ℕ → List ℕ
+  front rs vs us = flipped (take bitsTaken rs) (flipsAt vs us)
+
+  -- those of xs
+  abbrev next : List ℕ → List ℕ → List ℕ → List ℕ
+  next rs vs us =
+      mapGates G n k (suc g) nextWire nextShares xs
+      (drop bitsTaken rs)
+      (runFrom these rs vs)
+      (runFrom these (front rs vs us) us)
+
+  -- what xs flip, where the second run has the random bits ps for x and qs for xs
+  abbrev nextFlips : List ℕ → List ℕ → List ℕ → List ℕ → List ℕ → List ℕ
+  nextFlips rs vs us ps qs =
+      runsFlips G n k (suc g) nextWire nextShares xs (drop bitsTaken rs) qs (runFrom these rs vs) (runFrom these ps us)
+
+  these-draw : randoms these ≡ bitsTaken
+  these-draw = new-draws L (x .kind) n g w leftShares rightShares
+
+  next-length : (rs vs : List ℕ) → length vs ≡ w → length (runFrom these rs vs) ≡ nextWire
+  next-length rs vs e =
+      omega (
+        arith,
+        run-length these rs vs,
+        length-map (newWires G (x .kind) n g w leftShares rightShares) driverOf,
+        new-length G (x .kind) n g w leftShares rightShares,
+      )
+
+  -- the complete run is that of the gates that follow, after that of x
+  run-split :
+      (rs vs : List ℕ)
+      → runFrom (map driverOf (masked G n g w S (x ∷ xs))) rs vs
+      ≡ runFrom others (drop bitsTaken rs) (runFrom these rs vs)
+  unfolding masked
+  run-split rs vs = rw map-append (run-append these others rs vs ∙ rw these-draw)
+
+  map-step :
+      (rs vs us : List ℕ) → mapGates G n k g w S (x ∷ xs) rs vs us ≡ front rs vs us ++ next rs vs us
+  unfolding mapGates
+  map-step rs vs us =
+      rw (gate-flips-length G (x .kind) n k leftShares rightShares (λ p. getD vs p 0) (λ p. getD us p 0))
+
+  module _ (P : PlainGate (length S) (x .kind) (x .left) (x .right)) (placed : Placed n w S) (rs vs us : List ℕ)
+      (long-v : length vs ≡ w) (long-u : length us ≡ w) where
+    -- the flips of x are the same after the complete runs, whatever their later random bits
+    flips-step :
+        (ps qs : List ℕ) → length ps ≡ bitsTaken
+        → runsFlips G n k g w S (x ∷ xs) rs (ps ++ qs) vs us ≡ flipsAt vs us ++ nextFlips rs vs us ps qs
+    unfolding gatesFlips
+    flips-step ps qs e =
+        let all = map driverOf (masked G n g w S (x ∷ xs)) in
+        let second : runFrom all (ps ++ qs) us ≡ runFrom others qs (runFrom these ps us) =
+        run-split (ps ++ qs) us
+        ∙ ap₂ (runFrom others) (drop-at ps qs bitsTaken e) (run-prefix these ps qs us (e ∙ sym these-draw)) in
+        ap₂ (λ (f h : List ℕ). f ++ h)
+        (gate-flips-local G (x .kind) n k w (x .left) (x .right) S _ _ (λ p. getD vs p 0) (λ p. getD us p 0) P placed
+        (λ p h. run-keep all rs vs p (omega arith))
+        (λ p h. run-keep all (ps ++ qs) us p (omega arith)))
+        (ap₂ (λ (A B : List ℕ). gatesFlips G n k nextWire nextShares xs (λ p. getD A p 0) (λ p. getD B p 0))
+        (run-split rs vs)
+        second)
+
+    module _ (enough : bitsTaken ≤ length rs) where
+      law-step :
+          (ps qs : List ℕ) → length ps ≡ bitsTaken
+          → flipped rs (runsFlips G n k g w S (x ∷ xs) rs (ps ++ qs) vs us)
+          ≡ front rs vs us ++ flipped (drop bitsTaken rs) (nextFlips rs vs us ps qs)
+      law-step ps qs e =
+          ap (flipped rs) (flips-step ps qs e)
+          ∙ flipped-split bitsTaken rs (flipsAt vs us) _
+          (gate-flips-length G (x .kind) n k leftShares rightShares _ _)
+          enough
+
+      front-length : length (front rs vs us) ≡ bitsTaken
+      front-length = flipped-length (take bitsTaken rs) (flipsAt vs us) ∙ length-take-le bitsTaken rs enough
+
+      -- the law holds from x on where it holds from the next gate on
+      holds-step :
+          next rs vs us ≡ flipped (drop bitsTaken rs) (nextFlips rs vs us (front rs vs us) (next rs vs us))
+          → mapGates G n k g w S (x ∷ xs) rs vs us
+          ≡ flipped rs (runsFlips G n k g w S (x ∷ xs) rs (mapGates G n k g w S (x ∷ xs) rs vs us) vs us)
+      holds-step after =
+          subst (λ (M : List ℕ). M ≡ flipped rs (runsFlips G n k g w S (x ∷ xs) rs M vs us)) (sym (map-step rs vs us))
+          (ap (λ (M : List ℕ). front rs vs us ++ M) after ∙ sym (law-step (front rs vs us) (next rs vs us) front-length))
+
+      -- only the map has the law from x on where only it has the law from the next gate on
+      only-step :
+          (ss : List ℕ)
+          → ((qs : List ℕ)
+          → qs ≡ flipped (drop bitsTaken rs) (nextFlips rs vs us (front rs vs us) qs) → qs ≡ next rs vs us)
+          → ss ≡ flipped rs (runsFlips G n k g w S (x ∷ xs) rs ss vs us)
+          → ss ≡ mapGates G n k g w S (x ∷ xs) rs vs us
+      only-step ss after e =
+          let ps = take bitsTaken ss in
+          let qs = drop bitsTaken ss in
+          let whole : ps ++ qs ≡ ss = take-append-drop bitsTaken ss in
+          let long : length ss ≡ length rs = ap length e ∙ flipped-length rs _ in
+          let long-p : length ps ≡ bitsTaken = length-take-le bitsTaken ss (omega arith) in
+          let rest = flipped (drop bitsTaken rs) (nextFlips rs vs us ps qs) in
+          let both : ss ≡ front rs vs us ++ rest =
+          e
+          ∙ ap (λ (M : List ℕ). flipped rs (runsFlips G n k g w S (x ∷ xs) rs M vs us)) (sym whole)
+          ∙ law-step ps qs long-p in
+          let first : ps ≡ front rs vs us =
+          ap (take bitsTaken) both ∙ take-at (front rs vs us) rest bitsTaken front-length in
+          let second : qs ≡ rest = ap (drop bitsTaken) both ∙ drop-at (front rs vs us) rest bitsTaken front-length in
+          let is-next : qs ≡ next rs vs us =
+          after qs
+          (second ∙ ap (λ (M : List ℕ). flipped (drop bitsTaken rs) (nextFlips rs vs us M qs)) first) in
+          sym whole ∙ ap₂ (λ (p q : List ℕ). p ++ q) first is-next ∙ sym (map-step rs vs us)
+
+-- the random bits of the gates that follow x
+rest-long :
+    (n : ℕ) (x : Gate) (xs : List Gate) (rs : List ℕ) → length rs ≡ totalOf (λ kd. draws kd n) (x ∷ xs)
+    → (draws (x .kind) n ≤ length rs) × (length (drop (draws (x .kind) n) rs) ≡ totalOf (λ kd. draws kd n) xs)
+unfolding totalOf
+rest-long n x xs rs e = (omega arith, omega (arith, length-drop (draws (x .kind) n) rs))
+
+next-plain :
+    (n w : ℕ) (S : List (List ℕ)) (x : Gate) (xs : List Gate) → PlainGates (suc (length S)) xs
+    → PlainGates (length (S ++ (newShares (x .kind) n w (getD S (x .left) []) ∷ []))) xs
+next-plain n w S x xs P =
+    let one : suc (length S) ≡ length (S ++ (newShares (x .kind) n w (getD S (x .left) []) ∷ [])) =
+    sym (length-append S (newShares (x .kind) n w (getD S (x .left) []) ∷ []) ∙ omega arith) in
+    subst (λ (z : ℕ). PlainGates z xs) one P
+
+map-nil :
+    (G : Gadget) (n k g w : ℕ) (S : List (List ℕ)) (rs vs us : List ℕ) → mapGates G n k g w S [] rs vs us ≡ rs
+unfolding mapGates
+map-nil G n k g w S rs vs us = refl
+
+flips-nil :
+    (G : Gadget) (n k w : ℕ) (S : List (List ℕ)) (rs : List ℕ) (v u : ℕ → ℕ)
+    → flipped rs (gatesFlips G n k w S [] v u) ≡ rs
+unfolding gatesFlips
+flips-nil G n k w S rs v u = flipped-nil rs
+
+-- the second run's random bits are the first's with the flips that the complete runs give
+pub map-gates-flips :
+    {G : Gadget} (L : Lawful G) (n k g w : ℕ) (S : List (List ℕ)) (gs : List Gate) (rs vs us : List ℕ) → 1 ≤ n
+    → PlainGates (length S) gs → Placed n w S → length vs ≡ w → length us ≡ w
+    → length rs ≡ totalOf (λ kd. draws kd n) gs
+    → mapGates G n k g w S gs rs vs us
+    ≡ flipped rs (runsFlips G n k g w S gs rs (mapGates G n k g w S gs rs vs us) vs us)
+unfolding PlainGates
+map-gates-flips {G} L n k g w S [] rs vs us h P placed ev eu long =
+    map-nil G n k g w S rs vs us ∙ sym (flips-nil G n k w S rs _ _)
+map-gates-flips {G} L n k g w S (x ∷ xs) rs vs us h P placed ev eu long =
+    let rest = rest-long n x xs rs long in
+    holds-step L n k g w S x xs (P .0) placed rs vs us ev eu (rest .0)
+    (map-gates-flips L n k (suc g) _ _ xs _ _ _ h
+    (next-plain n w S x xs (P .1))
+    (placed-step (x .kind) n w (x .left) (x .right) S h (P .0) placed)
+    (next-length L n k g w S x xs rs vs ev)
+    (next-length L n k g w S x xs _ us eu)
+    (rest .1))
+
+-- no other random bits are
+pub map-gates-only :
+    {G : Gadget} (L : Lawful G) (n k g w : ℕ) (S : List (List ℕ)) (gs : List Gate) (rs vs us ss : List ℕ) → 1 ≤ n
+    → PlainGates (length S) gs → Placed n w S → length vs ≡ w → length us ≡ w
+    → length rs ≡ totalOf (λ kd. draws kd n) gs
+    → ss ≡ flipped rs (runsFlips G n k g w S gs rs ss vs us) → ss ≡ mapGates G n k g w S gs rs vs us
+unfolding PlainGates
+map-gates-only {G} L n k g w S [] rs vs us ss h P placed ev eu long e =
+    e ∙ flips-nil G n k w S rs _ _ ∙ sym (map-nil G n k g w S rs vs us)
+map-gates-only {G} L n k g w S (x ∷ xs) rs vs us ss h P placed ev eu long e =
+    let rest = rest-long n x xs rs long in
+    only-step L n k g w S x xs (P .0) placed rs vs us ev eu (rest .0) ss
+    (λ qs.
+    map-gates-only L n k (suc g) _ _ xs _ _ _ qs h
+    (next-plain n w S x xs (P .1))
+    (placed-step (x .kind) n w (x .left) (x .right) S h (P .0) placed)
+    (next-length L n k g w S x xs rs vs ev)
+    (next-length L n k g w S x xs _ us eu)
+    (rest .1))
+    e

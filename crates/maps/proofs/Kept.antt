@@ -1,0 +1,153 @@
+-- Demand 3's heart: in two runs whose tapes differ by the map's flips, every wire of the masked table that does not carry the
+-- free share has the same value; the input wires by the encoder, the others by their gates.
+-- Assumes nothing.
+use mathlib.Core.Path.{_≡_, refl, sym, ap, ap₂, _∙_, subst}
+use mathlib.Core.Bool.{true, false}
+use mathlib.Core.List.{List, [], _∷_, _++_, map}
+use Prim.Native.Nat.{ℕ, zero, suc, _+_, _*_, _≤_, _<_}
+use native.Mathlib.Nat.{mul-le-mul-left}
+use native.Mathlib.Omega.{arith}
+use lib.ListN.{length, getD, take, drop, length-append, length-drop}
+use lib.Seq.{take-at, drop-at}
+use Rattle.tables.specs.Tables.{Table, wires}
+use Rattle.tables.specs.Runs.{xor, readAll}
+use Rattle.tables.proofs.Lists.{All, Bits, bits-take, bits-drop}
+use Rattle.tables.proofs.Run.{Solves}
+use Rattle.tables.proofs.Accept.{PlainGates, Plain}
+use Rattle.masks.specs.Shares.{sharesOf, upFrom, inTurn}
+use Rattle.masks.specs.Gadgets.{Gadget}
+use Rattle.masks.specs.Wires.{Wire, originOf, Origin, inputShare, marks, share, draws, totalOf, inputShares, inputOrigins, maskedWires, maskedTable, origins}
+use Rattle.masks.specs.Codes.{encode, maskedRun}
+use Rattle.masks.specs.Says.{originAt}
+use Rattle.masks.proofs.Sum.{up-length, up-at, up-all}
+use Rattle.masks.proofs.Each.{Each, each-append, each-up, each-rows, each-map}
+use Rattle.masks.proofs.Lawful.{Lawful}
+use Rattle.masks.proofs.Costs.{all-of, input-origins-length}
+use Rattle.maps.specs.Maps.{isIn, flipped, inputFlips, gatesFlips, tapeFlips}
+use Rattle.maps.specs.Claims.{isTape, areSecrets}
+use Rattle.maps.proofs.Inputs.{flipped-take, flipped-drop, flipped-at, flipped-length, input-flips-length, encode-off}
+use Rattle.maps.proofs.Flips.{gates-flips-length}
+use Rattle.maps.proofs.Begun.{secrets-long, secret-bits, tape-bits, front-long, rest-long, value-bits, values-solve, value-of-input}
+use Rattle.maps.proofs.Hiding.{Hiding, not-first}
+use Rattle.maps.proofs.Agree.{Alike, Kept, masked-agrees}
+
+module _ {G : Gadget} (H : Hiding G) (o : ℕ) (t : Table) (P : Plain t) (k : ℕ) (k1 : 1 ≤ k) (kn : k ≤ sharesOf o)
+    (xs ys ts ms : List ℕ) (hx : areSecrets t xs ≡ true) (hy : areSecrets t ys ≡ true) (ht : isTape G o t ts ≡ true)
+    (hm : isTape G o t ms ≡ true)
+    (law : ms ≡ flipped ts (tapeFlips G o t k xs ys (maskedRun G o t xs ts) (maskedRun G o t ys ms))) where
+  -- a wire with an origin that does not carry k
+  abbrev Same : ℕ → Origin → Type 0
+  Same w x =
+      isIn k (marks G x) ≡ false → getD (maskedRun G o t xs ts) w 0 ≡ getD (maskedRun G o t ys ms) w 0
+
+  same-length : length xs ≡ length ys
+  same-length = secrets-long (H .lawful) o t P xs ts hx ht ∙ sym (secrets-long (H .lawful) o t P ys ms hy hm)
+
+  flips-long : length (inputFlips o k xs ys) ≡ 2 * o * t .inputs
+  flips-long =
+      input-flips-length o k xs ys same-length
+      ∙ ap (λ (y : ℕ). 2 * o * y) (secrets-long (H .lawful) o t P xs ts hx ht)
+
+  front : take (2 * o * t .inputs) ms ≡ flipped (take (2 * o * t .inputs) ts) (inputFlips o k xs ys)
+  unfolding tapeFlips
+  front =
+      ap (take (2 * o * t .inputs)) law
+      ∙ flipped-take (2 * o * t .inputs) ts _
+      ∙ ap (flipped (take (2 * o * t .inputs) ts)) (take-at (inputFlips o k xs ys) _ _ flips-long)
+
+  -- input share s of input i
+  input-same :
+      (i s : ℕ) → i < t .inputs → s < sharesOf o → (suc s ≡ k → ⊥)
+      → getD (maskedRun G o t xs ts) (sharesOf o * i + s) 0 ≡ getD (maskedRun G o t ys ms) (sharesOf o * i + s) 0
+  input-same i s hi hs off =
+      let n = sharesOf o in
+      let below : n * i + s < n * t .inputs = omega (arith, mul-le-mul-left n hi) in
+      let m = 2 * o * t .inputs in
+      value-of-input (H .lawful) o t P xs ts hx ht (n * i + s) below
+      ∙ encode-off o k xs ys (take m ts) k1 kn same-length
+      (secret-bits (H .lawful) o t P xs ts hx ht)
+      (secret-bits (H .lawful) o t P ys ms hy hm)
+      (bits-take m ts (tape-bits (H .lawful) o t P xs ts hx ht))
+      (front-long (H .lawful) o t P xs ts hx ht)
+      i s (omega (arith, secrets-long (H .lawful) o t P xs ts hx ht)) hs off
+      ∙ ap (λ (l : List ℕ). getD (encode o ys l) (n * i + s) 0) (sym front)
+      ∙ sym (value-of-input (H .lawful) o t P ys ms hy hm (n * i + s) below)
+
+  inputs-kept : Each Same 0 (inputOrigins (sharesOf o) (t .inputs))
+  unfolding inputOrigins
+  inputs-kept =
+      let n = sharesOf o in
+      each-rows Same n (t .inputs) 0 (λ w i. upFrom n 0 (λ s. inputShare i s)) (all-of _ (λ i w. up-length n 0 _) _)
+      (λ i hi.
+      each-up Same n 0 (0 + n * i) (λ s. inputShare i s)
+      (λ s hs lacks.
+      subst (λ (w : ℕ). getD (maskedRun G o t xs ts) w 0 ≡ getD (maskedRun G o t ys ms) w 0)
+      {x = n * i + s}
+      {y = 0 + n * i + s}
+      (omega arith)
+      (input-same i s hi hs (λ e. not-first k (suc (0 + s)) [] lacks .0 (omega arith)))))
+
+  inputs-alike :
+      All (Alike (sharesOf o) (λ p. getD (maskedRun G o t xs ts) p 0) (λ p. getD (maskedRun G o t ys ms) p 0) k)
+      (inputShares (sharesOf o) (t .inputs))
+  inputs-alike =
+      let n = sharesOf o in
+      up-all _ (t .inputs) 0 (λ i. upFrom n (n * i) (λ w. w))
+      (λ i _ hi. (
+        up-length n (n * i) _,
+        λ s hs off.
+            let h : s < n = omega (arith, up-length n (n * i) (λ (w : ℕ). w)) in
+            rw (up-at n (n * i) (λ (w : ℕ). w) s 0 h) (input-same i s (omega arith) h off),
+      ))
+
+  random-flips :
+      (q : ℕ) → q < totalOf (λ kd. draws kd (sharesOf o)) (t .gates)
+      → getD (drop (2 * o * t .inputs) ms) (0 + q) 0
+      ≡ xor (getD (drop (2 * o * t .inputs) ts) (0 + q) 0)
+      (getD
+      (gatesFlips G (sharesOf o) k (sharesOf o * t .inputs) (inputShares (sharesOf o) (t .inputs)) (t .gates)
+      (λ p. getD (maskedRun G o t xs ts) p 0)
+      (λ p. getD (maskedRun G o t ys ms) p 0))
+      q
+      0)
+  unfolding tapeFlips
+  random-flips q h =
+      let m = 2 * o * t .inputs in
+      let fs =
+      gatesFlips G (sharesOf o) k (sharesOf o * t .inputs) (inputShares (sharesOf o) (t .inputs)) (t .gates)
+      (λ p. getD (maskedRun G o t xs ts) p 0)
+      (λ p. getD (maskedRun G o t ys ms) p 0) in
+      let rest : drop m ms ≡ flipped (drop m ts) fs =
+      ap (drop m) law
+      ∙ flipped-drop m ts _
+      ∙ ap (flipped (drop m ts)) (drop-at (inputFlips o k xs ys) fs m flips-long) in
+      let e : 0 + q ≡ q = omega arith in
+      rw e
+      (ap (λ (l : List ℕ). getD l q 0) rest
+      ∙ flipped-at (drop m ts) fs q
+      (omega (arith, rest-long (H .lawful) o t P xs ts hx ht))
+      (omega (arith, gates-flips-length G (sharesOf o) k (sharesOf o * t .inputs) (inputShares (sharesOf o) (t .inputs)) (t .gates) (λ p. getD (maskedRun G o t xs ts) p 0) (λ p. getD (maskedRun G o t ys ms) p 0))))
+
+  gates-kept : Each (Kept G k (λ p. getD (maskedRun G o t xs ts) p 0) (λ p. getD (maskedRun G o t ys ms) p 0)) (sharesOf o * t .inputs) (maskedWires G o t)
+  gates-kept =
+      let n = sharesOf o in
+      masked-agrees H n 0 (n * t .inputs) 0 k (inputShares n (t .inputs)) (t .gates) _ _ _ _ (omega arith)
+      (subst (λ (y : ℕ). PlainGates y (t .gates)) (sym (up-length (t .inputs) 0 _)) (P .gates))
+      (value-bits (H .lawful) o t P xs ts hx ht)
+      (value-bits (H .lawful) o t P ys ms hy hm)
+      (bits-drop (2 * o * t .inputs) ts (tape-bits (H .lawful) o t P xs ts hx ht))
+      (values-solve (H .lawful) o t P xs ts hx ht)
+      (values-solve (H .lawful) o t P ys ms hy hm)
+      random-flips
+      inputs-alike
+      .0
+
+  pub all-kept : Each Same 0 (origins G o t)
+  unfolding origins
+  all-kept =
+      let n = sharesOf o in
+      each-append Same 0 (inputOrigins n (t .inputs)) (map originOf (maskedWires G o t)) inputs-kept
+      (subst (λ (w : ℕ). Each Same w (map originOf (maskedWires G o t)))
+      {x = n * t .inputs}
+      (omega (arith, input-origins-length n (t .inputs)))
+      (each-map _ Same originOf (λ w x h. h) (n * t .inputs) (maskedWires G o t) gates-kept))

@@ -1,0 +1,115 @@
+-- What masking writes: the closed sizes, and that the bytes pass the checks and read back as the masked table.
+-- Assumes nothing.
+use mathlib.Core.Path.{_≡_, refl, sym, ap, ap₂, _∙_, subst}
+use mathlib.Core.Bool.{true}
+use mathlib.Core.List.{List, [], _∷_, _++_, map}
+use Prim.Native.Nat.{ℕ, zero, suc, _+_, _*_, _≤_, _<_}
+use native.Mathlib.Nat.{mul-le-mul-left}
+use native.Mathlib.Omega.{arith}
+use lib.ListN.{length, getD, take, drop, length-append, length-map}
+use Rattle.tables.specs.Refusals.{passed}
+use Rattle.tables.specs.Tables.{Table, wires, tableOf, tableBytes}
+use Rattle.tables.specs.Runs.{run, randoms}
+use Rattle.tables.proofs.Lists.{All, all-map}
+use Rattle.tables.proofs.Accept.{PlainGates, Plain}
+use Rattle.tables.proofs.Format.{Sound, SoundGates, table-long, read-back, written-passes}
+use Rattle.masks.specs.Shares.{sharesOf}
+use Rattle.masks.specs.Gadgets.{Gadget, isw}
+use Rattle.masks.specs.Wires.{driverOf, originOf, inputShares, inputOrigins, cost, totalOf, sharesAfter, outputShares, maskedWires, maskedTable, origins, tapeLong}
+use Rattle.masks.specs.Codes.{encode, maskedRun}
+use Rattle.masks.specs.Says.{plainFault}
+use Rattle.masks.proofs.Sum.{up-length}
+use Rattle.masks.proofs.Lawful.{Lawful, isw-lawful}
+use Rattle.masks.proofs.Costs.{masked-length, input-origins-length}
+use Rattle.masks.proofs.Placed.{Stands, placed-inputs, placed-after, shares-after-length, outputs-stand, masked-sound}
+use Rattle.masks.proofs.Passed.{plain-passed}
+use Rattle.maps.specs.Claims.{Sized, WrittenBack}
+use Rattle.maps.proofs.Begun.{tape-length, values-long}
+
+module _ {G : Gadget} (L : Lawful G) (o : ℕ) (t : Table) (P : Plain t) where
+  pub wires-are : wires (maskedTable G o t) ≡ sharesOf o * t .inputs + totalOf (λ k. cost k (sharesOf o)) (t .gates)
+  unfolding maskedTable
+  wires-are =
+      ap (λ (y : ℕ). sharesOf o * t .inputs + y)
+      (length-map (maskedWires G o t) driverOf ∙ masked-length G (sharesOf o) 0 _ _ (t .gates))
+
+  -- the masked outputs, n for each, are wires of the masked table
+  pub outputs-placed : Stands (sharesOf o * length (t .outputs)) (wires (maskedTable G o t)) (maskedTable G o t .outputs)
+  unfolding maskedTable
+  outputs-placed =
+      let n = sharesOf o in
+      let w = n * t .inputs in
+      let S = inputShares n (t .inputs) in
+      let long : length S ≡ t .inputs = up-length (t .inputs) 0 _ in
+      let all : length (sharesAfter n w S (t .gates)) ≡ wires t =
+      shares-after-length n w S (t .gates) ∙ ap (λ (y : ℕ). y + length (t .gates)) long in
+      let placed =
+      placed-after n w S (t .gates) (omega arith)
+      (subst (λ (y : ℕ). PlainGates y (t .gates)) (sym long) (P .gates))
+      (placed-inputs n (t .inputs)) in
+      subst (λ (y : ℕ). Stands (n * length (t .outputs)) y (outputShares (sharesAfter n w S (t .gates)) (t .outputs)))
+      (sym wires-are)
+      (outputs-stand n _ (sharesAfter n w S (t .gates)) (t .outputs) placed
+      (all-map _ _ (λ i h. omega (arith, all)) (t .outputs) (P .outputs)))
+
+  origins-are : length (origins G o t) ≡ wires (maskedTable G o t)
+  unfolding origins
+  origins-are =
+      let n = sharesOf o in
+      length-append (inputOrigins n (t .inputs)) (map originOf (maskedWires G o t))
+      ∙ ap₂ (λ (y z : ℕ). y + z)
+      (input-origins-length n (t .inputs))
+      (length-map (maskedWires G o t) originOf ∙ masked-length G n 0 _ _ (t .gates))
+      ∙ sym wires-are
+
+  pub sized : Sized G t o
+  sized =
+      record {
+        wires-are = wires-are;
+        tape-is = tape-length L o t;
+        outputs-are = outputs-placed .0;
+        bytes-are = table-long (maskedTable G o t);
+        origins-are = origins-are;
+        values-are = λ xs ts hx ht. values-long L o t P xs ts hx ht;
+      }
+
+  masked-gates-sound : SoundGates (maskedTable G o t .inputs) (maskedTable G o t .gates)
+  unfolding maskedTable
+  masked-gates-sound =
+      let n = sharesOf o in
+      masked-sound L n 0 (n * t .inputs) _ (t .gates) (omega arith)
+      (subst (λ (y : ℕ). PlainGates y (t .gates)) (sym (up-length (t .inputs) 0 _)) (P .gates))
+      (placed-inputs n (t .inputs))
+
+  some-masked-input : 1 ≤ maskedTable G o t .inputs
+  unfolding maskedTable
+  some-masked-input = omega (arith, mul-le-mul-left (sharesOf o) (P .some-input))
+
+  pub masked-table-sound :
+      wires (maskedTable G o t) ≤ 65535 → sharesOf o * length (t .outputs) ≤ 65535 → Sound (maskedTable G o t)
+  masked-table-sound hw ho =
+      record {
+        some-input = some-masked-input;
+        some-output = omega (arith, outputs-placed .0, mul-le-mul-left (sharesOf o) (P .some-output));
+        few-wires = hw;
+        few-outputs = omega (arith, outputs-placed .0);
+        gates = masked-gates-sound;
+        outputs = outputs-placed .1;
+      }
+
+pub written : (s : List ℕ) (o : ℕ) → passed (plainFault s o) ≡ true → WrittenBack s o
+unfolding tapeLong maskedRun
+written s o h =
+    let t = tableOf s in
+    let p = plain-passed s o h in
+    let sound = masked-table-sound isw-lawful o t (p .plain) (p .few-wires) (p .few-outputs) in
+    let same = read-back (maskedTable isw o t) sound in
+    record {
+      unrefused = written-passes (maskedTable isw o t) sound;
+      read-back = same;
+      tape = ap (λ (m : Table). 2 * o * t .inputs + randoms (m .gates)) (sym same);
+      same-run = λ xs ts.
+          ap
+          (λ (m : Table). run m (encode o xs (take (2 * o * t .inputs) ts)) (drop (2 * o * t .inputs) ts))
+          same;
+    }
