@@ -34,6 +34,10 @@ orElse f g = pick (passed f) g f
 abbrev pub refusedIf : Bool → ℕ → Fault
 refusedIf b n = pick b (fault n 0) none
 
+-- number n at place i, or none where n is 0
+abbrev pub numbered : ℕ → ℕ → Fault
+numbered n i = pick (eqb n 0) none (fault n i)
+
 -- "11 a byte above 1", its place counted from i
 unfoldable pub badBit : ℕ → List ℕ → Fault
 badBit i [] = none

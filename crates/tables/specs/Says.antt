@@ -8,9 +8,15 @@ use Prim.Native.Nat.{ℕ}
 use lib.Dec.{eqb, ltb}
 use lib.ListN.{length, drop}
 use Rattle.tables.specs.declared.Answer as DA
+use Rattle.tables.specs.declared.Refusal as DR
 use Rattle.tables.specs.Refusals.{pick, Fault, passed, orElse, refusedIf, badBit}
 use Rattle.tables.specs.Tables.{Table, wires, tableOf, tableFault}
 use Rattle.tables.specs.Runs.{run, outputsOf, randoms}
+
+-- number and place are the fault's
+pub record Refused (f : Fault) (r : DR.Refusal) : Type 0 where
+  pub number : r .number ≡ f .number
+  pub place : r .place ≡ f .place
 
 -- number and place are the fault's; the value is v on success and 0 on a refusal
 pub record Answered (f : Fault) (v : ℕ) (r : DA.Answer) : Type 0 where
