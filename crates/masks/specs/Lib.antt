@@ -3,5 +3,6 @@ pub mod Shares
 pub mod Gadgets
 pub mod Wires
 pub mod Codes
+pub mod Layout
 pub mod Lines
 pub mod Says

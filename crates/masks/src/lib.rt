@@ -15,3 +15,10 @@ pub struct Marks {
     pub first: u8,
     pub second: u8,
 }
+
+// Where the shares of a plain wire are: share 1 on wire first, share s on wire base + (s − 2)·step.
+pub struct Places {
+    pub first: usize,
+    pub base: usize,
+    pub step: usize,
+}
