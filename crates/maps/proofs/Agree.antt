@@ -17,7 +17,7 @@ use Rattle.tables.proofs.Lists.{All, all-append, all-getD}
 use Rattle.tables.proofs.Run.{Solves, solves-append}
 use Rattle.tables.proofs.Accept.{PlainGate, PlainGates}
 use Rattle.masks.specs.Shares.{upFrom, inTurn, Pair, pairOf, pairs, tri, pairAt}
-use Rattle.masks.specs.Gadgets.{Five, first, second, third, fourth, fifth, allFive, place, Gadget}
+use Rattle.masks.specs.Gadgets.{isIn, Five, first, second, third, fourth, fifth, allFive, place, Gadget}
 use Rattle.masks.specs.Wires.{
   Origin,
   andPart,
@@ -49,9 +49,9 @@ use Rattle.masks.proofs.Each.{Each, each-append, each-at, each-in-turn, each-up
 use Rattle.masks.proofs.Lawful.{Lawful}
 use Rattle.masks.proofs.Costs.{adding-length, pairs-span, rows-span, new-length, new-draws}
 use Rattle.masks.proofs.And.{rowTerms, and-pair, and-row}
-use Rattle.maps.specs.Maps.{isIn, pairFlip, gateFlips, gatesFlips}
+use Rattle.maps.specs.Maps.{pairFlip, gateFlips, gatesFlips}
 use Rattle.maps.proofs.Flips.{gate-flips-length}
-use Rattle.maps.proofs.Hiding.{Hiding, not-first}
+use Rattle.masks.proofs.Hiding.{Hiding, not-first}
 
 -- shares other than k have the same value in both runs
 abbrev pub Off : (ℕ → ℕ) → (ℕ → ℕ) → ℕ → List ℕ → Type 0

@@ -13,13 +13,13 @@ use Rattle.tables.proofs.Lists.{All, all-map}
 use Rattle.tables.proofs.Accept.{PlainGate, PlainGates}
 use Rattle.tables.proofs.Run.{run-length, run-keep, run-append, run-prefix}
 use Rattle.masks.specs.Shares.{pairs}
-use Rattle.masks.specs.Gadgets.{Gadget}
+use Rattle.masks.specs.Gadgets.{differs, Gadget}
 use Rattle.masks.specs.Wires.{driverOf, newWires, newShares, cost, draws, totalOf, masked}
 use Rattle.masks.proofs.Rows.{pairs-length, pairs-in}
 use Rattle.masks.proofs.Lawful.{Lawful}
 use Rattle.masks.proofs.Costs.{new-length, new-draws, all-of}
 use Rattle.masks.proofs.Placed.{Stands, Placed, share-below, placed-at, placed-step}
-use Rattle.maps.specs.Maps.{flipped, differs, pairFlip, gateFlips, mapGates, gatesFlips}
+use Rattle.maps.specs.Maps.{flipped, pairFlip, gateFlips, mapGates, gatesFlips}
 use Rattle.maps.proofs.Inputs.{flipped-length, flipped-append, flipped-nil, zero-append}
 
 pub gate-flips-length :

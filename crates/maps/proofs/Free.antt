@@ -14,10 +14,10 @@ use Rattle.tables.specs.Tables.{Table}
 use Rattle.tables.proofs.Tests.{or-false}
 use Rattle.tables.proofs.Lists.{All}
 use Rattle.masks.specs.Shares.{sharesOf}
-use Rattle.masks.specs.Gadgets.{Gadget, isw, first, second, third, fourth, fifth}
+use Rattle.masks.specs.Gadgets.{isIn, Gadget, isw, first, second, third, fourth, fifth}
 use Rattle.masks.specs.Wires.{pair, own, sum, Origin, inputShare, notOf, xorShare, andPart, marks, origins}
 use Rattle.masks.specs.Says.{originAt}
-use Rattle.maps.specs.Maps.{isIn, carried, freeFrom, freeShare}
+use Rattle.maps.specs.Maps.{carried, freeFrom, freeShare}
 use Rattle.maps.specs.Claims.{Free}
 
 -- how many of the c numbers from k on are in the list

@@ -15,7 +15,7 @@ use Rattle.tables.proofs.Lists.{All, Bits, bits-take, bits-drop}
 use Rattle.tables.proofs.Run.{Solves}
 use Rattle.tables.proofs.Accept.{PlainGates, Plain}
 use Rattle.masks.specs.Shares.{sharesOf, upFrom, inTurn}
-use Rattle.masks.specs.Gadgets.{Gadget}
+use Rattle.masks.specs.Gadgets.{isIn, Gadget}
 use Rattle.masks.specs.Wires.{Wire, originOf, Origin, inputShare, marks, share, draws, totalOf, inputShares, inputOrigins, maskedWires, maskedTable, origins}
 use Rattle.masks.specs.Codes.{encode, maskedRun}
 use Rattle.masks.specs.Says.{originAt}
@@ -23,12 +23,12 @@ use Rattle.masks.proofs.Sum.{up-length, up-at, up-all}
 use Rattle.masks.proofs.Each.{Each, each-append, each-up, each-rows, each-map}
 use Rattle.masks.proofs.Lawful.{Lawful}
 use Rattle.masks.proofs.Costs.{all-of, input-origins-length}
-use Rattle.maps.specs.Maps.{isIn, flipped, inputFlips, gatesFlips, tapeFlips}
+use Rattle.maps.specs.Maps.{flipped, inputFlips, gatesFlips, tapeFlips}
 use Rattle.maps.specs.Claims.{isTape, areSecrets}
 use Rattle.maps.proofs.Inputs.{flipped-take, flipped-drop, flipped-at, flipped-length, input-flips-length, encode-off}
 use Rattle.maps.proofs.Flips.{gates-flips-length}
 use Rattle.maps.proofs.Begun.{secrets-long, secret-bits, tape-bits, front-long, rest-long, value-bits, values-solve, value-of-input}
-use Rattle.maps.proofs.Hiding.{Hiding, not-first}
+use Rattle.masks.proofs.Hiding.{Hiding, not-first}
 use Rattle.maps.proofs.Agree.{Alike, Kept, masked-agrees}
 
 module _ {G : Gadget} (H : Hiding G) (o : ℕ) (t : Table) (P : Plain t) (k : ℕ) (k1 : 1 ≤ k) (kn : k ≤ sharesOf o)

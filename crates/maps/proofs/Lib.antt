@@ -6,7 +6,6 @@ pub mod Inputs
 pub mod Flips
 pub mod Begun
 pub mod TwoRuns
-pub mod Hiding
 pub mod Agree
 pub mod Kept
 pub mod Computing

@@ -15,18 +15,18 @@ use Rattle.tables.proofs.Tests.{and-true, and-intro}
 use Rattle.tables.proofs.Lists.{All}
 use Rattle.tables.proofs.Accept.{Plain, accepted-plain}
 use Rattle.masks.specs.Shares.{sharesOf}
-use Rattle.masks.specs.Gadgets.{Gadget, isw}
+use Rattle.masks.specs.Gadgets.{isIn, Gadget, isw}
 use Rattle.masks.specs.Wires.{Origin, marks, maskedTable, origins, tapeLong, inputShare}
 use Rattle.masks.specs.Codes.{maskedRun}
 use Rattle.masks.specs.Says.{orderOk, originAt}
 use Rattle.masks.proofs.Each.{Each, each-at}
-use Rattle.maps.specs.Maps.{isIn, carried, freeShare, mappedAt, mapped}
+use Rattle.maps.specs.Maps.{carried, freeShare, mappedAt, mapped}
 use Rattle.maps.specs.Claims.{accepted, isTape, areSecrets, areProbes, allBelow, allBits, same, Computes, Hides, Free, Demands, Laws}
 use Rattle.maps.proofs.Bits.{all-below}
 use Rattle.maps.proofs.Count.{BitsOf, once, same-count}
 use Rattle.maps.proofs.Free.{free-laws, marks-two, uncarried-each}
 use Rattle.maps.proofs.Begun.{tape-is}
-use Rattle.maps.proofs.Hiding.{Hiding, isw-hiding}
+use Rattle.masks.proofs.Hiding.{Hiding, isw-hiding}
 use Rattle.maps.proofs.TwoRuns.{two-runs, mapped-tape, mapped-back}
 use Rattle.maps.proofs.Kept.{all-kept}
 use Rattle.maps.proofs.Computing.{computes}

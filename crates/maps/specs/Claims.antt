@@ -11,11 +11,11 @@ use Rattle.tables.specs.Refusals.{pick, none, passed}
 use Rattle.tables.specs.Tables.{Table, wires, tableOf, tableBytes, tableLong, tableFault, randomFault}
 use Rattle.tables.specs.Runs.{run, readAll, outputsOf, randoms}
 use Rattle.masks.specs.Shares.{sharesOf}
-use Rattle.masks.specs.Gadgets.{Gadget, isw}
+use Rattle.masks.specs.Gadgets.{isIn, Gadget, isw}
 use Rattle.masks.specs.Wires.{marks, cost, draws, totalOf, maskedTable, origins, tapeLong}
 use Rattle.masks.specs.Codes.{encode, decode, maskedRun}
 use Rattle.masks.specs.Says.{orderOk, plainFault}
-use Rattle.maps.specs.Maps.{isIn, carried, freeShare, flipped, mappedAt, mapped, tapeFlips}
+use Rattle.maps.specs.Maps.{carried, freeShare, flipped, mappedAt, mapped, tapeFlips}
 
 -- "one byte a bit, 0 or 1"
 abbrev pub allBits : List ℕ → Bool

@@ -2,7 +2,7 @@
 -- paper's own terms. A flip is 0 or 1 for each tape bit; the mapped tape is built gate by gate, both runs going along, so that
 -- "what an AND flips depends only on what is built before it".
 -- Assumes nothing.
-use mathlib.Core.Bool.{Bool, true, false, _||_}
+use mathlib.Core.Bool.{true, false}
 use mathlib.Core.List.{List, [], _∷_, _++_, map}
 use Prim.Native.Nat.{ℕ, zero, suc, _+_, _*_}
 use lib.Dec.{eqb}
@@ -11,14 +11,10 @@ use Rattle.tables.specs.Refusals.{pick}
 use Rattle.tables.specs.Tables.{Kind, NOT, XOR, AND, RANDOM, UNKNOWN, Gate, Table}
 use Rattle.tables.specs.Runs.{xor, runFrom}
 use Rattle.masks.specs.Shares.{sharesOf, upFrom, Pair, pairs}
-use Rattle.masks.specs.Gadgets.{Gadget}
+use Rattle.masks.specs.Gadgets.{isIn, differs, Gadget}
 use Rattle.masks.specs.Wires.{Origin, marks, driverOf, share, newWires, cost, newShares, inputShares, origins}
 use Rattle.masks.specs.Codes.{encode}
 use Rattle.masks.specs.Says.{originAt}
-
-abbrev pub isIn : ℕ → List ℕ → Bool
-isIn x [] = false
-isIn x (y ∷ ys) = eqb x y || isIn x ys
 
 -- the share numbers that the probes carry, each as often as it is carried; mk gives the marks of an origin
 unfoldable pub carried : (Origin → List ℕ) → List Origin → List ℕ → List ℕ
@@ -46,10 +42,6 @@ inputFlips o k [] ys = []
 inputFlips o k (x ∷ xs) [] = []
 inputFlips o k (x ∷ xs) (y ∷ ys) =
     upFrom (2 * o) 1 (λ s. pick (eqb s k) (xor x y) 0) ++ inputFlips o k xs ys
-
--- whether a_i·b_j differs between the runs v and u: 1 or 0
-abbrev pub differs : (ℕ → ℕ) → (ℕ → ℕ) → ℕ → ℕ → ℕ
-differs v u a b = xor (v a * v b) (u a * u b)
 
 -- what one pair flips
 abbrev pub pairFlip : Gadget → ℕ → List ℕ → List ℕ → (ℕ → ℕ) → (ℕ → ℕ) → Pair → ℕ

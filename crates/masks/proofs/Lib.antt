@@ -3,6 +3,7 @@ pub mod Sum
 pub mod Rows
 pub mod Each
 pub mod Lawful
+pub mod Hiding
 pub mod Costs
 pub mod Placed
 pub mod Passed

@@ -1,8 +1,9 @@
 -- What sets one masked AND apart from another: the five wires of a pair of shares i < j, their marks, which of them the rows
 -- add, and what the map flips. Document 01's AND is `isw` (source document 001, section 3).
 -- Assumes nothing.
+use mathlib.Core.Bool.{Bool, true, false, _||_}
 use mathlib.Core.List.{List, [], _∷_}
-use Prim.Native.Nat.{ℕ, suc, _+_}
+use Prim.Native.Nat.{ℕ, _+_, _*_}
 use lib.Dec.{eqb}
 use Rattle.tables.specs.Refusals.{pick}
 use Rattle.tables.specs.Tables.{XOR, AND, RANDOM, Gate, gate}
@@ -22,6 +23,15 @@ place second = 1
 place third = 2
 place fourth = 3
 place fifth = 4
+
+-- whether a wire with these marks carries share number k
+abbrev pub isIn : ℕ → List ℕ → Bool
+isIn k [] = false
+isIn k (m ∷ ms) = eqb k m || isIn k ms
+
+-- whether the product of two wires differs between the runs v and u: 1 or 0
+abbrev pub differs : (ℕ → ℕ) → (ℕ → ℕ) → ℕ → ℕ → ℕ
+differs v u a b = xor (v a * v b) (u a * u b)
 
 pub record Gadget : Type 0 where
   -- the gates, from the pair's first wire and the wires of a_i, b_j, a_j and b_i

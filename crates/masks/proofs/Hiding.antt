@@ -12,9 +12,8 @@ use Rattle.tables.specs.Refusals.{pick}
 use Rattle.tables.specs.Runs.{xor}
 use Rattle.tables.proofs.Tests.{or-false}
 use Rattle.tables.proofs.Run.{Solves}
-use Rattle.masks.specs.Gadgets.{Five, first, second, third, fourth, fifth, allFive, place, Gadget, isw}
+use Rattle.masks.specs.Gadgets.{Five, first, second, third, fourth, fifth, allFive, place, isIn, differs, Gadget, isw}
 use Rattle.masks.proofs.Lawful.{Lawful, IswValues, isw-values, isw-lawful}
-use Rattle.maps.specs.Maps.{isIn, differs}
 
 pub record Hiding (G : Gadget) : Type 0 where
   pub lawful : Lawful G
