@@ -8,6 +8,7 @@ pub mod Begun
 pub mod TwoRuns
 pub mod Agree
 pub mod Kept
+pub mod Flat
 pub mod Computing
 pub mod Written
 pub mod Whole

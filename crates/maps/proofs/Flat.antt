@@ -1,0 +1,156 @@
+-- The flips of a masked table read off its gates alone, in one walk: every random gate is the first wire of a pair, the two
+-- products of that pair follow it, and a counter that starts again after the last pair says which pair it is. Mapping walks so.
+-- Assumes nothing.
+use mathlib.Core.Path.{_≡_, refl, sym, ap, ap₂, _∙_}
+use mathlib.Core.Bool.{Bool, true, false, _&&_}
+use mathlib.Core.List.{List, [], _∷_, _++_, map, map-append, append-assoc}
+use Prim.Native.Nat.{ℕ, zero, suc, _+_, _-_, _*_, _≤_, _<_}
+use native.Mathlib.Omega.{arith}
+use borrow.Author.Tests.{eq-eqb, ne-eqb}
+use lib.Dec.{eqb, ltb, leb}
+use lib.ListN.{length, getD}
+use Rattle.tables.specs.Refusals.{pick}
+use Rattle.tables.specs.Tables.{Kind, NOT, XOR, AND, RANDOM, UNKNOWN, Gate, gate}
+use Rattle.tables.specs.Runs.{xor}
+use Rattle.tables.proofs.Lists.{All}
+use Rattle.tables.proofs.Accept.{PlainGate, PlainGates}
+use Rattle.masks.specs.Shares.{upFrom, inTurn, Pair, pairOf, pairs, tri, row}
+use Rattle.masks.specs.Gadgets.{first, fifth, differs, isw}
+use Rattle.masks.specs.Wires.{Wire, wire, Origin, andPart, sum, driverOf, share, adding, pairWires, rowWires, pairWire, andWires, newWires, newShares, cost, masked}
+use Rattle.masks.proofs.Rows.{pairs-length}
+use Rattle.maps.specs.Maps.{pairFlip, gateFlips, gatesFlips}
+
+-- the counter after pair q of m
+abbrev pub nextPair : ℕ → ℕ → ℕ
+nextPair m q = pick (eqb (suc q) m) 0 (suc q)
+
+-- whether the product that a gate makes differs between the runs
+abbrev pub gateDiffers : (ℕ → ℕ) → (ℕ → ℕ) → Gate → ℕ
+gateDiffers v u g = differs v u (g .left) (g .right)
+
+abbrev noGate : Gate
+noGate = gate RANDOM 0 0
+
+-- what a random gate flips, where the gates after it are gs and its pair is number q
+abbrev pub flatFlip : (ℕ → Bool) → ℕ → List Gate → (ℕ → ℕ) → (ℕ → ℕ) → ℕ
+flatFlip T q gs v u = pick (T q) (xor (gateDiffers v u (getD gs 0 noGate)) (gateDiffers v u (getD gs 2 noGate))) 0
+
+-- the flips of the random gates in order; T says which pairs have the free share first, m is the number of pairs
+unfoldable pub flatFlips : (ℕ → Bool) → ℕ → ℕ → List Gate → (ℕ → ℕ) → (ℕ → ℕ) → List ℕ
+flatFlips T m q [] v u = []
+flatFlips T m q (g ∷ gs) v u =
+    elim (g .kind)
+    [ NOT ↦ flatFlips T m q gs v u
+    | XOR ↦ flatFlips T m q gs v u
+    | AND ↦ flatFlips T m q gs v u
+    | RANDOM ↦ flatFlip T q gs v u ∷ flatFlips T m (nextPair m q) gs v u
+    | UNKNOWN k ↦ flatFlips T m q gs v u
+    ]
+
+-- gates that draw no bit are passed over
+pub flat-adding :
+    (T : ℕ → Bool) (m q : ℕ) (o : ℕ → Origin) (i last next : ℕ) (zs : List ℕ) (hs : List Gate) (v u : ℕ → ℕ)
+    → flatFlips T m q (map driverOf (adding o i last next zs) ++ hs) v u ≡ flatFlips T m q hs v u
+unfolding flatFlips adding
+flat-adding T m q o i last next [] hs v u = refl
+flat-adding T m q o i last next (z ∷ zs) hs v u = flat-adding T m q o (suc i) next (suc next) zs hs v u
+
+flat-xors :
+    (T : ℕ → Bool) (m q c s : ℕ) (l r : ℕ → ℕ) (o : ℕ → Origin) (hs : List Gate) (v u : ℕ → ℕ)
+    → flatFlips T m q (map driverOf (upFrom c s (λ i. wire (gate XOR (l i) (r i)) (o i))) ++ hs) v u
+    ≡ flatFlips T m q hs v u
+unfolding flatFlips upFrom
+flat-xors T m q zero s l r o hs v u = refl
+flat-xors T m q (suc c) s l r o hs v u = flat-xors T m q c (suc s) l r o hs v u
+
+gates-apart :
+    (xs ys : List Wire) (hs : List Gate)
+    → map driverOf (xs ++ ys) ++ hs ≡ map driverOf xs ++ (map driverOf ys ++ hs)
+gates-apart xs ys hs = rw (map-append, append-assoc)
+
+flat-rows :
+    (T : ℕ → Bool) (m q n g w : ℕ) (a b : List ℕ) (zs : ℕ → List ℕ) (is : List ℕ) (hs : List Gate) (v u : ℕ → ℕ)
+    → flatFlips T m q (map driverOf (inTurn n w is (rowWires g a b zs)) ++ hs) v u ≡ flatFlips T m q hs v u
+unfolding flatFlips inTurn
+flat-rows T m q n g w a b zs [] hs v u = refl
+flat-rows T m q n g w a b zs (i ∷ is) hs v u =
+    let sums = adding (λ m. andPart g (sum i m)) 1 w (suc w) (zs i) in
+    let rest = inTurn n (w + n) is (rowWires g a b zs) in
+    ap (λ (l : List Gate). flatFlips T m q l v u) (gates-apart sums rest hs)
+    ∙ flat-adding T m q _ 1 w (suc w) (zs i) (map driverOf rest ++ hs) v u
+    ∙ flat-rows T m q n g (w + n) a b zs is hs v u
+
+-- the test of pairs that the walk makes
+abbrev Tests : (ℕ → Bool) → ℕ → ℕ → List Pair → Type 0
+Tests T k q [] = Unit {0}
+Tests T k q (p ∷ ps) = (T q ≡ eqb (suc (p .lower)) k) × Tests T k (suc q) ps
+
+-- the pairs of an AND from number q to the last
+flat-pairs :
+    (T : ℕ → Bool) (m q k g w : ℕ) (a b : List ℕ) (ps : List Pair) (hs : List Gate) (v u : ℕ → ℕ)
+    → q + length ps ≡ m → 1 ≤ length ps → Tests T k q ps
+    → flatFlips T m q (map driverOf (inTurn 5 w ps (pairWires isw g a b)) ++ hs) v u
+    ≡ map (pairFlip isw k a b v u) ps ++ flatFlips T m 0 hs v u
+unfolding flatFlips inTurn
+flat-pairs T m q k g w a b [] hs v u e h t = absurd (omega arith)
+flat-pairs T m q k g w a b (p ∷ []) hs v u e h t =
+    rw (t .0, eq-eqb (suc q) m (omega arith)) refl
+flat-pairs T m q k g w a b (p ∷ (p′ ∷ ps)) hs v u e h t =
+    rw (t .0, ne-eqb (suc q) m (λ x. omega arith))
+    (ap (λ (l : List ℕ). pairFlip isw k a b v u p ∷ l)
+    (flat-pairs T m (suc q) k g (w + 5) a b (p′ ∷ ps) hs v u (omega arith) (omega arith) (t .1)))
+
+-- one gate
+flat-gate :
+    (T : ℕ → Bool) (kd : Kind) (n k g w p l r : ℕ) (a b : List ℕ) (hs : List Gate) (v u : ℕ → ℕ) → 1 ≤ tri n
+    → PlainGate p kd l r → Tests T k 0 (pairs n)
+    → flatFlips T (tri n) 0 (map driverOf (newWires isw kd n g w a b) ++ hs) v u
+    ≡ gateFlips isw kd n k a b v u ++ flatFlips T (tri n) 0 hs v u
+unfolding flatFlips andWires
+flat-gate T NOT n k g w p l r a b hs v u h x t = refl
+flat-gate T XOR n k g w p l r a b hs v u h x t = flat-xors T (tri n) 0 n 0 (share a) (share b) _ hs v u
+flat-gate T AND n k g w p l r a b hs v u h x t =
+    let ps = inTurn 5 w (pairs n) (pairWires isw g a b) in
+    let zs = row n (pairWire w first) (pairWire w fifth) in
+    let rs = inTurn n (w + 5 * tri n) (upFrom n 0 (λ i. i)) (rowWires g a b zs) in
+    let long = pairs-length n 0 in
+    rw (gates-apart ps rs hs)
+    (flat-pairs T (tri n) 0 k g w a b (pairs n) (map driverOf rs ++ hs) v u (omega arith) (omega arith) t
+    ∙ ap (λ (l : List ℕ). map (pairFlip isw k a b v u) (pairs n) ++ l)
+      (flat-rows T (tri n) 0 n g (w + 5 * tri n) a b zs (upFrom n 0 (λ i. i)) hs v u))
+flat-gate T RANDOM n k g w p l r a b hs v u h x t = absurd x
+flat-gate T (UNKNOWN c) n k g w p l r a b hs v u h x t = absurd x
+
+-- the whole table
+pub flat-flips :
+    (T : ℕ → Bool) (n k g w p : ℕ) (S : List (List ℕ)) (xs : List Gate) (v u : ℕ → ℕ) → 1 ≤ tri n → PlainGates p xs
+    → Tests T k 0 (pairs n)
+    → flatFlips T (tri n) 0 (map driverOf (masked isw n g w S xs)) v u ≡ gatesFlips isw n k w S xs v u
+unfolding flatFlips masked gatesFlips PlainGates
+flat-flips T n k g w p S [] v u h x t = refl
+flat-flips T n k g w p S (y ∷ ys) v u h x t =
+    let a = getD S (y .left) [] in
+    let b = getD S (y .right) [] in
+    let R = S ++ (newShares (y .kind) n w a ∷ []) in
+    rw map-append
+    (flat-gate T (y .kind) n k g w p (y .left) (y .right) a b _ v u h (x .0) t
+    ∙ ap (λ (l : List ℕ). gateFlips isw (y .kind) n k a b v u ++ l)
+      (flat-flips T n k (suc g) (w + cost (y .kind) n) (suc p) R ys v u h (x .1) t))
+
+-- how many pairs come before those whose lower share is i, among c shares
+unfoldable pub offset : ℕ → ℕ → ℕ
+offset zero i = 0
+offset (suc c) zero = 0
+offset (suc c) (suc i) = c + offset c i
+
+-- the pairs whose lower share is k, counted from 1, are numbered from one offset to the next
+abbrev pub inRow : ℕ → ℕ → ℕ → Bool
+inRow from to q = leb from q && ltb q to
+
+-- the numbers of a row's pairs
+row-offset : (c k : ℕ) → k < c → offset c (suc k) ≡ offset c k + (c - suc k)
+unfolding offset
+row-offset zero k h = absurd (omega arith)
+row-offset (suc zero) zero h = refl
+row-offset (suc (suc c)) zero h = omega arith
+row-offset (suc c) (suc k) h = omega (arith, row-offset c k (omega arith))
