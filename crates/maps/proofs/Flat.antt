@@ -39,12 +39,12 @@ flatFlip T q gs v u = pick (T q) (xor (gateDiffers v u (getD gs 0 noGate)) (gate
 unfoldable pub flatFlips : (ℕ → Bool) → ℕ → ℕ → List Gate → (ℕ → ℕ) → (ℕ → ℕ) → List ℕ
 flatFlips T m q [] v u = []
 flatFlips T m q (g ∷ gs) v u =
-    elim (g .kind)
-    [ NOT ↦ flatFlips T m q gs v u
-    | XOR ↦ flatFlips T m q gs v u
-    | AND ↦ flatFlips T m q gs v u
-    | RANDOM ↦ flatFlip T q gs v u ∷ flatFlips T m (nextPair m q) gs v u
-    | UNKNOWN k ↦ flatFlips T m q gs v u
+    elim (g .kind) [
+      | NOT ↦ flatFlips T m q gs v u
+      | XOR ↦ flatFlips T m q gs v u
+      | AND ↦ flatFlips T m q gs v u
+      | RANDOM ↦ flatFlip T q gs v u ∷ flatFlips T m (nextPair m q) gs v u
+      | UNKNOWN k ↦ flatFlips T m q gs v u
     ]
 
 -- gates that draw no bit are passed over
@@ -117,7 +117,7 @@ flat-gate T AND n k g w p l r a b hs v u h x t =
     rw (gates-apart ps rs hs)
     (flat-pairs T (tri n) 0 k g w a b (pairs n) (map driverOf rs ++ hs) v u (omega arith) (omega arith) t
     ∙ ap (λ (l : List ℕ). map (pairFlip isw k a b v u) (pairs n) ++ l)
-      (flat-rows T (tri n) 0 n g (w + 5 * tri n) a b zs (upFrom n 0 (λ i. i)) hs v u))
+    (flat-rows T (tri n) 0 n g (w + 5 * tri n) a b zs (upFrom n 0 (λ i. i)) hs v u))
 flat-gate T RANDOM n k g w p l r a b hs v u h x t = absurd x
 flat-gate T (UNKNOWN c) n k g w p l r a b hs v u h x t = absurd x
 
@@ -135,7 +135,7 @@ flat-flips T n k g w p S (y ∷ ys) v u h x t =
     rw map-append
     (flat-gate T (y .kind) n k g w p (y .left) (y .right) a b _ v u h (x .0) t
     ∙ ap (λ (l : List ℕ). gateFlips isw (y .kind) n k a b v u ++ l)
-      (flat-flips T n k (suc g) (w + cost (y .kind) n) (suc p) R ys v u h (x .1) t))
+    (flat-flips T n k (suc g) (w + cost (y .kind) n) (suc p) R ys v u h (x .1) t))
 
 -- how many pairs come before those whose lower share is i, among c shares
 unfoldable pub offset : ℕ → ℕ → ℕ
