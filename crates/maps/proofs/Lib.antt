@@ -12,4 +12,5 @@ pub mod Flat
 pub mod Computing
 pub mod Written
 pub mod Whole
+pub mod Assurance
 pub mod Examples

@@ -2,3 +2,4 @@
 pub mod Maps
 pub mod Claims
 pub mod Says
+pub mod Assurance

@@ -1,0 +1,85 @@
+-- What the calls themselves do, as one law: whatever buffers and answers masking, mapping, encoding, running and decoding leave,
+-- if each was made as below and answered 0, then reading the probed wires tells nothing of which secret was used.
+-- Nothing is said here of how the calls work: only their promises are used.
+-- Assumes nothing.
+use mathlib.Core.Path.{_≡_}
+use mathlib.Core.List.{List, []}
+use Prim.Native.Nat.{ℕ, _*_}
+use lib.ListN.{length, take, drop}
+use Rattle.tables.specs.declared.Answer as DA
+use Rattle.tables.specs.Tables.{tableOf, word}
+use Rattle.tables.specs.Runs.{run, readAll, outputsOf}
+use Rattle.tables.specs.Says.{RunSays}
+use Rattle.masks.specs.Says.{MaskSays, EncodeSays, DecodeSays}
+use Rattle.maps.specs.Says.{MapSays}
+
+-- a lent buffer before and after a call, and the call's answer
+pub record Lent : Type 0 where
+  pub before : List ℕ
+  pub after : List ℕ
+
+-- the bytes that a call answered to have written
+abbrev pub written : Lent → DA.Answer → List ℕ
+written b r = take (r .value) (b .after)
+
+-- one secret's way through the masked table m: encoded with the front of the tape, run with the rest, decoded
+pub record Way (o : ℕ) (m xs ts : List ℕ) : Type 0 where
+  pub shares : Lent
+  pub encoded : DA.Answer
+  pub encode-says : EncodeSays o xs (take (2 * o * length xs) ts) (shares .before) (shares .after) encoded
+  pub encode-ok : encoded .number ≡ 0
+  pub values : Lent
+  pub outputs : Lent
+  pub ran : DA.Answer
+  pub run-says :
+      RunSays m
+      (written shares encoded)
+      (drop (2 * o * length xs) ts)
+      (values .before)
+      (values .after)
+      (outputs .before)
+      (outputs .after)
+      ran
+  pub run-ok : ran .number ≡ 0
+  pub bits : Lent
+  pub decoded : DA.Answer
+  -- the masked table's third size is the number of its outputs
+  pub decode-says : DecodeSays o (take (word m 4) (outputs .after)) (bits .before) (bits .after) decoded
+  pub decode-ok : decoded .number ≡ 0
+
+-- the calls: masking wrote m; mapping wrote the mapped tape and both runs; each secret went its way, y with the mapped tape
+pub record Calls (s : List ℕ) (o : ℕ) (xs ys ts ps : List ℕ) : Type 0 where
+  pub table : Lent
+  pub masked : DA.Answer
+  pub mask-says : MaskSays s o (table .before) (table .after) masked
+  pub mask-ok : masked .number ≡ 0
+  pub tape : Lent
+  pub one : Lent
+  pub other : Lent
+  pub mapping : DA.Answer
+  pub map-says :
+      MapSays s o xs ys ts ps
+      (tape .before)
+      (tape .after)
+      (one .before)
+      (one .after)
+      (other .before)
+      (other .after)
+      mapping
+  pub map-ok : mapping .number ≡ 0
+  pub first : Way o (written table masked) xs ts
+  pub second : Way o (written table masked) ys (take (length ts) (tape .after))
+
+pub record Assured (s : List ℕ) (o : ℕ) (xs ys ts ps : List ℕ) (c : Calls s o xs ys ts ps) : Type 0 where
+  -- each of the probed wires has the same value in both runs
+  pub same-read : readAll (c .second .values .after) ps ≡ readAll (c .first .values .after) ps
+  -- the buffers that mapping filled are those two runs
+  pub first-run : take (c .first .ran .value) (c .one .after) ≡ written (c .first .values) (c .first .ran)
+  pub second-run : take (c .second .ran .value) (c .other .after) ≡ written (c .second .values) (c .second .ran)
+  -- decoding gives the plain table's outputs
+  pub first-decoded : written (c .first .bits) (c .first .decoded) ≡ outputsOf (tableOf s) (run (tableOf s) xs [])
+  pub second-decoded : written (c .second .bits) (c .second .decoded) ≡ outputsOf (tableOf s) (run (tableOf s) ys [])
+
+-- for all of them
+abbrev pub Assurance : Type 0
+Assurance = (s : List ℕ) (o : ℕ) (xs ys ts ps : List ℕ) (c : Calls s o xs ys ts ps) → Assured s o xs ys ts ps c
