@@ -1,12 +1,12 @@
 -- The flips of a masked table read off its gates alone, in one walk: every random gate is the first wire of a pair, the two
 -- products of that pair follow it, and a counter that starts again after the last pair says which pair it is. Mapping walks so.
 -- Assumes nothing.
-use mathlib.Core.Path.{_≡_, refl, sym, ap, ap₂, _∙_}
+use mathlib.Core.Path.{_≡_, refl, sym, ap, _∙_, subst}
 use mathlib.Core.Bool.{Bool, true, false, _&&_}
 use mathlib.Core.List.{List, [], _∷_, _++_, map, map-append, append-assoc}
 use Prim.Native.Nat.{ℕ, zero, suc, _+_, _-_, _*_, _≤_, _<_}
 use native.Mathlib.Omega.{arith}
-use borrow.Author.Tests.{eq-eqb, ne-eqb}
+use borrow.Author.Tests.{eq-eqb, ne-eqb, leb-true, le-leb, lt-ltb, le-ltb}
 use lib.Dec.{eqb, ltb, leb}
 use lib.ListN.{length, getD}
 use Rattle.tables.specs.Refusals.{pick}
@@ -14,9 +14,10 @@ use Rattle.tables.specs.Tables.{Kind, NOT, XOR, AND, RANDOM, UNKNOWN, Gate, gat
 use Rattle.tables.specs.Runs.{xor}
 use Rattle.tables.proofs.Lists.{All}
 use Rattle.tables.proofs.Accept.{PlainGate, PlainGates}
-use Rattle.masks.specs.Shares.{upFrom, inTurn, Pair, pairOf, pairs, tri, row}
+use Rattle.masks.specs.Shares.{upFrom, inTurn, Pair, pairOf, pairsFrom, pairs, tri, row}
 use Rattle.masks.specs.Gadgets.{first, fifth, differs, isw}
 use Rattle.masks.specs.Wires.{Wire, wire, Origin, andPart, sum, driverOf, share, adding, pairWires, rowWires, pairWire, andWires, newWires, newShares, cost, masked}
+use Rattle.masks.proofs.Sum.{up-length}
 use Rattle.masks.proofs.Rows.{pairs-length}
 use Rattle.maps.specs.Maps.{pairFlip, gateFlips, gatesFlips}
 
@@ -81,7 +82,7 @@ flat-rows T m q n g w a b zs (i ∷ is) hs v u =
     ∙ flat-rows T m q n g (w + n) a b zs is hs v u
 
 -- the test of pairs that the walk makes
-abbrev Tests : (ℕ → Bool) → ℕ → ℕ → List Pair → Type 0
+abbrev pub Tests : (ℕ → Bool) → ℕ → ℕ → List Pair → Type 0
 Tests T k q [] = Unit {0}
 Tests T k q (p ∷ ps) = (T q ≡ eqb (suc (p .lower)) k) × Tests T k (suc q) ps
 
@@ -143,14 +144,85 @@ offset zero i = 0
 offset (suc c) zero = 0
 offset (suc c) (suc i) = c + offset c i
 
+offset-zero : (c : ℕ) → offset c 0 ≡ 0
+unfolding offset
+offset-zero zero = refl
+offset-zero (suc c) = refl
+
 -- the pairs whose lower share is k, counted from 1, are numbered from one offset to the next
 abbrev pub inRow : ℕ → ℕ → ℕ → Bool
 inRow from to q = leb from q && ltb q to
 
--- the numbers of a row's pairs
-row-offset : (c k : ℕ) → k < c → offset c (suc k) ≡ offset c k + (c - suc k)
+tests-append :
+    (T : ℕ → Bool) (k q : ℕ) (ps rs : List Pair) → Tests T k q ps → Tests T k (q + length ps) rs
+    → Tests T k q (ps ++ rs)
+tests-append T k q [] rs a b = subst (λ (y : ℕ). Tests T k y rs) {x = q + 0} {y = q} (omega arith) b
+tests-append T k q (p ∷ ps) rs a b = (
+  a .0,
+  tests-append T k (suc q) ps rs (a .1)
+      (subst (λ (y : ℕ). Tests T k y rs) {x = q + suc (length ps)} {y = suc q + length ps} (omega arith) b),
+)
+
+tests-up :
+    (T : ℕ → Bool) (k q c s i : ℕ) → ((j : ℕ) → j < c → T (q + j) ≡ eqb (suc i) k)
+    → Tests T k q (upFrom c s (λ j. pairOf i j))
+unfolding upFrom
+tests-up T k q zero s i h = tt
+tests-up T k q (suc c) s i h = (
+  ap T {x = q} {y = q + 0} (omega arith) ∙ h 0 (omega arith),
+  tests-up T k (suc q) c (suc s) i
+      (λ j l. ap T {x = suc q + j} {y = q + suc j} (omega arith) ∙ h (suc j) (omega arith)),
+)
+
+-- a number outside the row, and one inside
+outside : (from to q : ℕ) → (from ≤ q → to ≤ q) → inRow from to q ≡ false
+outside from to q h = go (leb from q) refl
+  where
+    go : (t : Bool) → leb from q ≡ t → t && ltb q to ≡ false
+    go true e = le-ltb q to (h (leb-true from q e))
+    go false e = refl
+
+inside : (from to q : ℕ) → from ≤ q → q < to → inRow from to q ≡ true
+inside from to q h l = rw (le-leb from q, lt-ltb q to)
+
+-- rows after the free share's
+tests-past :
+    (from to c i k q : ℕ) → k ≤ i → to ≤ q → Tests (inRow from to) k q (pairsFrom c i)
+unfolding pairsFrom
+tests-past from to zero i k q h l = tt
+tests-past from to (suc c) i k q h l =
+    tests-append (inRow from to) k q (upFrom c (suc i) (λ j. pairOf i j)) (pairsFrom c (suc i))
+    (tests-up (inRow from to) k q c (suc i) i
+    (λ j g. outside from to (q + j) (λ e. omega arith) ∙ sym (ne-eqb (suc i) k (λ e. omega arith))))
+    (tests-past from to c (suc i) k _ (omega arith) (omega arith))
+
+tests-from :
+    (from to c d i k q : ℕ) → d < c → k ≡ suc (i + d) → from ≡ q + offset c d → to ≡ q + offset c (suc d)
+    → Tests (inRow from to) k q (pairsFrom c i)
+unfolding pairsFrom offset
+tests-from from to zero d i k q h e f t = absurd (omega arith)
+tests-from from to (suc c) zero i k q h e f t =
+    let long = up-length c (suc i) (λ j. pairOf i j) in
+    tests-append (inRow from to) k q (upFrom c (suc i) (λ j. pairOf i j)) (pairsFrom c (suc i))
+    (tests-up (inRow from to) k q c (suc i) i
+    (λ j g. inside from to (q + j) (omega arith) (omega arith) ∙ sym (eq-eqb (suc i) k (omega arith))))
+    (tests-past from to c (suc i) k _ (omega arith) (omega (arith, offset-zero c)))
+tests-from from to (suc c) (suc d) i k q h e f t =
+    let long = up-length c (suc i) (λ j. pairOf i j) in
+    tests-append (inRow from to) k q (upFrom c (suc i) (λ j. pairOf i j)) (pairsFrom c (suc i))
+    (tests-up (inRow from to) k q c (suc i) i
+    (λ j g. outside from to (q + j) (λ x. omega arith) ∙ sym (ne-eqb (suc i) k (λ x. omega arith))))
+    (tests-from from to c d (suc i) k _ (omega arith) (omega arith) (omega arith) (omega arith))
+
+-- the walk's test is right for every free share
+pub tests-row :
+    (n d : ℕ) → d < n → Tests (inRow (offset n d) (offset n (suc d))) (suc d) 0 (pairs n)
+tests-row n d h = tests-from _ _ n d 0 (suc d) 0 h (omega arith) (omega arith) (omega arith)
+
+-- the offset in closed form
+pub offset-closed : (c d : ℕ) → d ≤ c → 2 * offset c d + d * d + d ≡ 2 * (c * d)
 unfolding offset
-row-offset zero k h = absurd (omega arith)
-row-offset (suc zero) zero h = refl
-row-offset (suc (suc c)) zero h = omega arith
-row-offset (suc c) (suc k) h = omega (arith, row-offset c k (omega arith))
+offset-closed zero zero h = refl
+offset-closed zero (suc d) h = absurd (omega arith)
+offset-closed (suc c) zero h = omega arith
+offset-closed (suc c) (suc d) h = omega (arith, offset-closed c d (omega arith))
