@@ -19,22 +19,8 @@ use Rattle.masks.specs.Gadgets.{first, fifth, differs, isw}
 use Rattle.masks.specs.Wires.{Wire, wire, Origin, andPart, sum, driverOf, share, adding, pairWires, rowWires, pairWire, andWires, newWires, newShares, cost, masked}
 use Rattle.masks.proofs.Sum.{up-length}
 use Rattle.masks.proofs.Rows.{pairs-length}
+use Rattle.maps.specs.Walk.{offset, inRow, nextPair, flatFlip}
 use Rattle.maps.specs.Maps.{pairFlip, gateFlips, gatesFlips}
-
--- the counter after pair q of m
-abbrev pub nextPair : ℕ → ℕ → ℕ
-nextPair m q = pick (eqb (suc q) m) 0 (suc q)
-
--- whether the product that a gate makes differs between the runs
-abbrev pub gateDiffers : (ℕ → ℕ) → (ℕ → ℕ) → Gate → ℕ
-gateDiffers v u g = differs v u (g .left) (g .right)
-
-abbrev noGate : Gate
-noGate = gate RANDOM 0 0
-
--- what a random gate flips, where the gates after it are gs and its pair is number q
-abbrev pub flatFlip : (ℕ → Bool) → ℕ → List Gate → (ℕ → ℕ) → (ℕ → ℕ) → ℕ
-flatFlip T q gs v u = pick (T q) (xor (gateDiffers v u (getD gs 0 noGate)) (gateDiffers v u (getD gs 2 noGate))) 0
 
 -- the flips of the random gates in order; T says which pairs have the free share first, m is the number of pairs
 unfoldable pub flatFlips : (ℕ → Bool) → ℕ → ℕ → List Gate → (ℕ → ℕ) → (ℕ → ℕ) → List ℕ
@@ -64,7 +50,7 @@ unfolding flatFlips upFrom
 flat-xors T m q zero s l r o hs v u = refl
 flat-xors T m q (suc c) s l r o hs v u = flat-xors T m q c (suc s) l r o hs v u
 
-gates-apart :
+pub gates-apart :
     (xs ys : List Wire) (hs : List Gate)
     → map driverOf (xs ++ ys) ++ hs ≡ map driverOf xs ++ (map driverOf ys ++ hs)
 gates-apart xs ys hs = rw (map-append, append-assoc)
@@ -138,20 +124,10 @@ flat-flips T n k g w p S (y ∷ ys) v u h x t =
     ∙ ap (λ (l : List ℕ). gateFlips isw (y .kind) n k a b v u ++ l)
     (flat-flips T n k (suc g) (w + cost (y .kind) n) (suc p) R ys v u h (x .1) t))
 
--- how many pairs come before those whose lower share is i, among c shares
-unfoldable pub offset : ℕ → ℕ → ℕ
-offset zero i = 0
-offset (suc c) zero = 0
-offset (suc c) (suc i) = c + offset c i
-
 offset-zero : (c : ℕ) → offset c 0 ≡ 0
 unfolding offset
 offset-zero zero = refl
 offset-zero (suc c) = refl
-
--- the pairs whose lower share is k, counted from 1, are numbered from one offset to the next
-abbrev pub inRow : ℕ → ℕ → ℕ → Bool
-inRow from to q = leb from q && ltb q to
 
 tests-append :
     (T : ℕ → Bool) (k q : ℕ) (ps rs : List Pair) → Tests T k q ps → Tests T k (q + length ps) rs

@@ -9,6 +9,7 @@ pub mod TwoRuns
 pub mod Agree
 pub mod Kept
 pub mod Flat
+pub mod Walked
 pub mod Computing
 pub mod Written
 pub mod Whole
