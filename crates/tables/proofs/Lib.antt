@@ -4,3 +4,5 @@ pub mod Lists
 pub mod Run
 pub mod Accept
 pub mod Format
+pub mod Put
+pub mod Bad

@@ -4,12 +4,12 @@
 use mathlib.Core.Path.{_≡_}
 use mathlib.Core.Bool.{Bool, _&&_, _||_, not}
 use mathlib.Core.List.{List, _++_}
-use Prim.Native.Nat.{ℕ}
+use Prim.Native.Nat.{ℕ, _+_, _≤_}
 use lib.Dec.{eqb, ltb}
-use lib.ListN.{length, drop}
+use lib.ListN.{length, take, drop}
 use Rattle.tables.specs.declared.Answer as DA
 use Rattle.tables.specs.declared.Refusal as DR
-use Rattle.tables.specs.Refusals.{pick, Fault, passed, orElse, refusedIf, badBit}
+use Rattle.tables.specs.Refusals.{pick, Fault, fault, none, passed, orElse, refusedIf, badBit}
 use Rattle.tables.specs.Tables.{Table, wires, tableOf, tableFault}
 use Rattle.tables.specs.Runs.{run, outputsOf, randoms}
 
@@ -27,6 +27,15 @@ pub record Answered (f : Fault) (v : ℕ) (r : DA.Answer) : Type 0 where
 -- "A success changes only the bytes that it is said to write": xs at the front of the lent ys
 abbrev pub over : List ℕ → List ℕ → List ℕ
 over xs ys = xs ++ drop (length xs) ys
+
+-- xs at a place of ys
+unfoldable pub putAt : ℕ → List ℕ → List ℕ → List ℕ
+putAt at xs ys = take at ys ++ (xs ++ drop (at + length xs) ys)
+
+-- the first byte above 1 is at r, or r is the length where there is none; i is where the bits begin in the call's bits joined
+pub record FirstBad (bits : List ℕ) (r : ℕ) : Type 0 where
+  pub within : r ≤ length bits
+  pub bad : (i : ℕ) → badBit i bits ≡ pick (ltb r (length bits)) (fault 11 (i + r)) none
 
 -- "Each returns its number and a place, and changes no lent byte": what a lent buffer b holds afterwards
 abbrev pub left : Fault → List ℕ → List ℕ → List ℕ
