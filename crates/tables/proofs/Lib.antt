@@ -6,3 +6,4 @@ pub mod Accept
 pub mod Format
 pub mod Put
 pub mod Bad
+pub mod Loops
