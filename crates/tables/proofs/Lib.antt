@@ -4,3 +4,8 @@ pub mod Lists
 pub mod Run
 pub mod Accept
 pub mod Format
+pub mod Put
+pub mod Bad
+pub mod Loops
+pub mod Answers
+pub mod Checks

@@ -4,13 +4,28 @@
 use mathlib.Core.Path.{_≡_}
 use mathlib.Core.Bool.{Bool, _&&_, _||_, not}
 use mathlib.Core.List.{List, _++_}
-use Prim.Native.Nat.{ℕ}
+use Prim.Native.Nat.{ℕ, _+_, _≤_}
 use lib.Dec.{eqb, ltb}
-use lib.ListN.{length, drop}
+use lib.ListN.{length, take, drop}
 use Rattle.tables.specs.declared.Answer as DA
 use Rattle.tables.specs.declared.Refusal as DR
-use Rattle.tables.specs.Refusals.{pick, Fault, passed, orElse, refusedIf, badBit}
-use Rattle.tables.specs.Tables.{Table, wires, tableOf, tableFault}
+use Rattle.tables.specs.Refusals.{pick, Fault, fault, none, passed, orElse, refusedIf, numbered, badBit}
+use Rattle.tables.specs.Tables.{
+  Kind,
+  NOT,
+  XOR,
+  AND,
+  RANDOM,
+  UNKNOWN,
+  Table,
+  wires,
+  word,
+  tableOf,
+  tableLong,
+  gatesFault,
+  outputsFault,
+  tableFault,
+}
 use Rattle.tables.specs.Runs.{run, outputsOf, randoms}
 
 -- number and place are the fault's
@@ -28,9 +43,49 @@ pub record Answered (f : Fault) (v : ℕ) (r : DA.Answer) : Type 0 where
 abbrev pub over : List ℕ → List ℕ → List ℕ
 over xs ys = xs ++ drop (length xs) ys
 
+-- xs at a place of ys
+unfoldable pub putAt : ℕ → List ℕ → List ℕ → List ℕ
+putAt at xs ys = take at ys ++ (xs ++ drop (at + length xs) ys)
+
+-- the first byte above 1 is at r, or r is the length where there is none; i is where the bits begin in the call's bits joined
+pub record FirstBad (bits : List ℕ) (r : ℕ) : Type 0 where
+  pub within : r ≤ length bits
+  pub bad : (i : ℕ) → badBit i bits ≡ pick (ltb r (length bits)) (fault 11 (i + r)) none
+
 -- "Each returns its number and a place, and changes no lent byte": what a lent buffer b holds afterwards
 abbrev pub left : Fault → List ℕ → List ℕ → List ℕ
 left f xs b = pick (passed f) (over xs b) b
+
+-- the wire that a gate's operand must be before, where the gate drives wire w: an unused operand is 0
+abbrev pub leftLimit : Kind → ℕ → ℕ
+leftLimit NOT w = w
+leftLimit XOR w = w
+leftLimit AND w = w
+leftLimit RANDOM w = 1
+leftLimit (UNKNOWN k) w = w
+
+abbrev pub rightLimit : Kind → ℕ → ℕ
+rightLimit NOT w = 1
+rightLimit XOR w = w
+rightLimit AND w = w
+rightLimit RANDOM w = 1
+rightLimit (UNKNOWN k) w = w
+
+-- sizes and length as they must be
+pub record Sized (s : List ℕ) : Type 0 where
+  pub some-input : 1 ≤ word s 0
+  pub some-output : 1 ≤ word s 4
+  pub few-wires : word s 0 + word s 2 ≤ 65535
+  pub long : length s ≡ tableLong (word s 2) (word s 4)
+
+-- the checks on sizes and length refuse with number r, or the gates and the outputs answer
+pub record SizesSay (s : List ℕ) (r : ℕ) : Type 0 where
+  pub first :
+      tableFault s
+      ≡ orElse
+      (numbered r 0)
+      (orElse (gatesFault 0 (word s 0) (tableOf s .gates)) (outputsFault 0 (word s 0 + word s 2) (tableOf s .outputs)))
+  pub sized : r ≡ 0 → Sized s
 
 -- checking answers the number of wires; "checking and running have 1 to 5"
 pub record CheckSays (s : List ℕ) (r : DA.Answer) : Type 0 where

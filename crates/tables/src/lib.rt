@@ -1,3 +1,29 @@
+ghost use mathlib.Core.Path.{_≡_};
+ghost use Prim.Native.Nat.{ℕ, _+_, _*_, _≤_, _<_};
+ghost use lib.ListN.{length, getD, drop};
+ghost use Rattle.tables.specs.Refusals.{numbered};
+ghost use Rattle.tables.specs.Tables.{
+  kindOf,
+  gate,
+  word,
+  two,
+  gatesFrom,
+  wordsFrom,
+  gateFault,
+  gatesFault,
+  outputsFault,
+  tableFault,
+};
+ghost use Rattle.tables.specs.Says.{
+  Refused,
+  putAt,
+  FirstBad,
+  leftLimit,
+  rightLimit,
+  SizesSay,
+  CheckSays,
+};
+
 // A refusal's number and place; number 0 is no refusal.
 pub struct Refusal {
     pub number: u8,
@@ -9,4 +35,192 @@ pub struct Answer {
     pub number: u8,
     pub place: u32,
     pub value: u32,
+}
+
+// The two-byte field at a place, low byte first.
+pub fn field(s: &[u8], at: usize) -> usize
+    requires { ⌜ at + 1 < length (now s) ⌝ }
+    ensures { λ r. ⌜ (r ≡ word (now (s .entry)) at) × (r < 65536) ⌝ }
+{
+    s[at] as usize + 256 * s[at + 1] as usize
+}
+
+// Writes a two-byte field, low byte first.
+pub fn put_field(out: &mut [u8], at: usize, v: usize)
+    requires { ⌜ (at + 1 < length (now out)) × (v < 65536) ⌝ }
+    ensures { λ _. ⌜ now (out .exit) ≡ putAt at (two v) (now (out .entry)) ⌝ }
+{
+    out[at] = (v % 256) as u8;
+    out[at + 1] = (v / 256) as u8;
+}
+
+// A bit of a tape or of a secret: the only place where one is read.
+pub fn tape_bit(bits: &[u8], at: usize) -> u8
+    requires { ⌜ at < length (now bits) ⌝ }
+    ensures { λ r. ⌜ r ≡ getD (now (bits .entry)) at 0 ⌝ }
+{
+    bits[at]
+}
+
+// The position of the first byte above 1, or the length where there is none.
+pub fn first_bad(bits: &[u8]) -> usize
+    ensures { λ r. ⌜ FirstBad (now (bits .entry)) r ⌝ }
+{
+    let mut i = 0;
+    while i < bits.len() {
+        if bits[i] > 1 {
+            return i;
+        }
+        i += 1;
+    }
+    i
+}
+
+// The wire that the left operand of a gate that drives wire w is before; an unused operand is 0.
+fn left_limit(kind: u8, w: usize) -> usize
+    ensures { λ r. ⌜ r ≡ leftLimit (kindOf kind) w ⌝ }
+{
+    if kind == 3 {
+        return 1;
+    }
+    w
+}
+
+// The wire that the right operand is before.
+fn right_limit(kind: u8, w: usize) -> usize
+    ensures { λ r. ⌜ r ≡ rightLimit (kindOf kind) w ⌝ }
+{
+    if kind == 0 {
+        return 1;
+    }
+    left_limit(kind, w)
+}
+
+// 3 or 4 where a gate that drives wire w is faulty, else 0.
+fn gate_number(kind: u8, left: usize, right: usize, w: usize) -> u8
+    ensures { λ r. ⌜ ((i : ℕ) → gateFault i w (gate (kindOf kind) left right) ≡ numbered r i) ⌝ }
+{
+    if kind > 3 {
+        return 3;
+    }
+    if left >= left_limit(kind, w) {
+        return 4;
+    }
+    if right >= right_limit(kind, w) {
+        return 4;
+    }
+    0
+}
+
+// The first faulty gate.
+fn gates_fault(table: &[u8], inputs: usize, gates: usize) -> Refusal
+    requires { ⌜ (6 + 5 * gates ≤ length (now table)) × (inputs + gates ≤ 65535) ⌝ }
+    ensures { λ r. ⌜
+        Refused
+        (gatesFault 0 inputs
+        (gatesFrom gates (drop 6 (now (table .entry))) (drop (6 + gates) (now (table .entry)))))
+        r
+        ⌝ }
+{
+    let mut g = 0;
+    let found = 'gates: loop {
+        if g == gates {
+            break 'gates Refusal {
+                number: 0,
+                place: 0,
+            };
+        }
+        let left = field(table, 6 + gates + 4 * g);
+        let right = field(table, 8 + gates + 4 * g);
+        let number = gate_number(table[6 + g], left, right, inputs + g);
+        if number != 0 {
+            break 'gates Refusal {
+                number: number,
+                place: g as u32,
+            };
+        }
+        g += 1;
+    };
+    found
+}
+
+// The first output that is no wire.
+fn outputs_fault(table: &[u8], start: usize, outputs: usize, wires: usize) -> Refusal
+    requires { ⌜ (start + 2 * outputs ≤ length (now table)) × (outputs ≤ 65535) ⌝ }
+    ensures { λ r. ⌜ Refused (outputsFault 0 wires (wordsFrom outputs (drop start (now (table .entry))))) r ⌝ }
+{
+    let mut o = 0;
+    while o < outputs {
+        if field(table, start + 2 * o) >= wires {
+            return Refusal {
+                number: 5,
+                place: o as u32,
+            };
+        }
+        o += 1;
+    }
+    Refusal {
+        number: 0,
+        place: 0,
+    }
+}
+
+// The number of the first of the checks on sizes and length that refuses, else 0.
+fn sizes_number(table: &[u8]) -> u8
+    ensures { λ r. ⌜ SizesSay (now (table .entry)) r ⌝ }
+{
+    if table.len() < 6 {
+        return 1;
+    }
+    let inputs = field(table, 0);
+    let gates = field(table, 2);
+    let outputs = field(table, 4);
+    if inputs == 0 || outputs == 0 || inputs + gates > 65535 {
+        return 2;
+    }
+    if table.len() != 6 + 5 * gates + 2 * outputs {
+        return 1;
+    }
+    0
+}
+
+// The first refusal of a table: its sizes, its length, its gates one by one, its outputs.
+pub fn table_fault(table: &[u8]) -> Refusal
+    ensures { λ r. ⌜ Refused (tableFault (now (table .entry))) r ⌝ }
+{
+    let number = sizes_number(table);
+    if number != 0 {
+        return Refusal {
+            number: number,
+            place: 0,
+        };
+    }
+    let inputs = field(table, 0);
+    let gates = field(table, 2);
+    let outputs = field(table, 4);
+    let found = gates_fault(table, inputs, gates);
+    if found.number != 0 {
+        return found;
+    }
+    outputs_fault(table, 6 + 5 * gates, outputs, inputs + gates)
+}
+
+// Checks a table: the number of its wires.
+pub fn check_table(table: &[u8]) -> Answer
+    ensures { λ r. ⌜ CheckSays (now (table .entry)) r ⌝ }
+{
+    let found = table_fault(table);
+    if found.number != 0 {
+        return Answer {
+            number: found.number,
+            place: found.place,
+            value: 0,
+        };
+    }
+    let wires = field(table, 0) + field(table, 2);
+    Answer {
+        number: 0,
+        place: 0,
+        value: wires as u32,
+    }
 }

@@ -1,0 +1,65 @@
+-- The first byte above 1: of lists joined, of what a scan has left, and what it says where there is none.
+-- Assumes nothing.
+use mathlib.Core.Path.{_≡_, refl, sym, ap, _∙_}
+use mathlib.Core.Bool.{Bool, true, false}
+use mathlib.Core.List.{List, [], _∷_, _++_}
+use Prim.Native.Nat.{ℕ, zero, suc, _+_, _≤_, _<_}
+use native.Mathlib.Nat.{add-zero, add-suc, suc-add}
+use native.Mathlib.Omega.{arith}
+use lib.Dec.{leb, ltb}
+use lib.ListN.{length, getD, drop, drop-of-length-le}
+use lib.Seq.{drop-cons}
+use borrow.Author.Tests.{leb-true, le-leb, lt-leb, lt-ltb, le-ltb}
+use Rattle.tables.specs.Refusals.{pick, Fault, fault, none, passed, orElse, badBit}
+use Rattle.tables.specs.Says.{FirstBad}
+use Rattle.tables.proofs.Lists.{Bits, bits-nil, bits-cons}
+use Rattle.tables.proofs.Accept.{pick-passed}
+
+pub bad-append :
+    (i : ℕ) (xs ys : List ℕ) → badBit i (xs ++ ys) ≡ orElse (badBit i xs) (badBit (i + length xs) ys)
+unfolding badBit
+bad-append i [] ys = rw add-zero
+bad-append i (x ∷ xs) ys = go (leb x 1) (bad-append (suc i) xs ys)
+  where
+    go :
+        (t : Bool) → badBit (suc i) (xs ++ ys) ≡ orElse (badBit (suc i) xs) (badBit (suc i + length xs) ys)
+        → pick t (badBit (suc i) (xs ++ ys)) (fault 11 i)
+        ≡ orElse (pick t (badBit (suc i) xs) (fault 11 i)) (badBit (i + suc (length xs)) ys)
+    go true e = rw (add-suc, ← suc-add i (length xs)) e
+    go false e = refl
+
+-- bits where no byte is above 1
+pub bad-bits : (i : ℕ) (bs : List ℕ) → passed (badBit i bs) ≡ true → Bits bs
+unfolding badBit
+bad-bits i [] h = bits-nil
+bad-bits i (b ∷ bs) h =
+    let a = pick-passed (leb b 1) (badBit (suc i) bs) 11 i refl h in
+    bits-cons b bs (leb-true b 1 (a .0)) (bad-bits (suc i) bs (a .1))
+
+-- the bytes before r are bits
+abbrev pub GoodTo : List ℕ → ℕ → Type 0
+GoodTo bs r = (r ≤ length bs) × ((i : ℕ) → badBit i bs ≡ badBit (i + r) (drop r bs))
+
+pub good-start : (bs : List ℕ) → GoodTo bs 0
+good-start bs = (omega arith, λ i. rw add-zero)
+
+pub good-step : (bs : List ℕ) (r : ℕ) → GoodTo bs r → r < length bs → getD bs r 0 ≤ 1 → GoodTo bs (suc r)
+unfolding badBit
+good-step bs r g h k = (
+  omega arith,
+  λ i. g .1 i ∙ rw (drop-cons bs r 0 h, le-leb (getD bs r 0) 1 k, add-suc) refl,
+)
+
+pub good-found : (bs : List ℕ) (r : ℕ) → GoodTo bs r → r < length bs → 1 < getD bs r 0 → FirstBad bs r
+unfolding badBit
+good-found bs r g h k = record {
+  within = omega arith;
+  bad = λ i. g .1 i ∙ rw (drop-cons bs r 0 h, lt-leb (getD bs r 0) 1 k, lt-ltb r (length bs) h) refl;
+}
+
+pub good-end : (bs : List ℕ) (r : ℕ) → GoodTo bs r → length bs ≤ r → FirstBad bs r
+unfolding badBit
+good-end bs r g h = record {
+  within = g .0;
+  bad = λ i. g .1 i ∙ rw (drop-of-length-le bs {i = r} h, le-ltb r (length bs) h) refl;
+}
