@@ -1,0 +1,245 @@
+//! The examples of document 01, with the answers and bytes that the paper gives.
+
+use crate::case::{Case, Lent, MapCase};
+use crate::circuit::{Circuit, and, random, xor};
+use crate::masks::{Masks, Outcome};
+
+/// A case with what must come back.
+pub struct Example {
+    pub name: &'static str,
+    pub case: Case,
+    pub outcome: Outcome,
+    /// The bytes that a success writes into each buffer, from its start; none are given for the
+    /// large examples.
+    pub written: Option<Vec<Vec<u8>>>,
+}
+
+impl Example {
+    /// Puts the example to an implementation; an error says what came back instead.
+    pub fn put_to(&self, masks: &impl Masks) -> Result<(), String> {
+        let mut buffers = self.case.buffers();
+        let outcome = self.case.put_to(masks, &mut buffers);
+        if outcome != self.outcome {
+            return Err(format!("expected {}\n     got {outcome}", self.outcome));
+        }
+        let Some(written) = &self.written else { return Ok(()) };
+        for (number, (buffer, written)) in buffers.iter().zip(written).enumerate() {
+            let mut expected = Lent::new(buffer.size());
+            expected.room()[..written.len()].copy_from_slice(written);
+            if let Some((at, expected, got)) = expected.first_difference(buffer) {
+                return Err(format!("buffer {number}, byte {at}: expected {expected}, got {got}"));
+            }
+        }
+        Ok(())
+    }
+}
+
+/// The table that the paper calls "the AND".
+pub fn the_and() -> Vec<u8> {
+    vec![2, 0, 1, 0, 1, 0, 2, 0, 0, 1, 0, 2, 0]
+}
+
+/// The AND masked at order 1, gate by gate.
+fn masked_and() -> Vec<u8> {
+    let pairs = [
+        [random(), and(0, 4), xor(6, 7), and(1, 3), xor(8, 9)],
+        [random(), and(0, 5), xor(11, 12), and(2, 3), xor(13, 14)],
+        [random(), and(1, 5), xor(16, 17), and(2, 4), xor(18, 19)],
+    ];
+    let rows = [
+        [and(0, 3), xor(21, 6), xor(22, 11)],
+        [and(1, 4), xor(24, 10), xor(25, 16)],
+        [and(2, 5), xor(27, 15), xor(28, 20)],
+    ];
+    let gates = [pairs.concat(), rows.concat()].concat();
+    Circuit::new(6, &gates, &[23, 26, 29]).bytes()
+}
+
+/// Two inputs and so many ANDs, each of the two wires before it.
+pub fn and_chain(ands: u16) -> Vec<u8> {
+    let gates: Vec<_> = (0..ands).map(|g| and(g, g + 1)).collect();
+    Circuit::new(2, &gates, &[ands + 1]).bytes()
+}
+
+/// One input, no gate, and that input so many times as output.
+fn repeated_output(outputs: usize) -> Vec<u8> {
+    Circuit::new(1, &[], &vec![0; outputs]).bytes()
+}
+
+const TAPE: [u8; 7] = [1, 0, 0, 1, 1, 0, 1];
+
+/// The wire values of the masked AND with that tape, for secrets 1 1.
+const VALUES: [u8; 30] = [
+    1, 0, 0, 0, 1, 0, // shares
+    1, 1, 0, 0, 0, // pair 1, 2
+    0, 0, 0, 0, 0, // pair 1, 3
+    1, 0, 1, 0, 1, // pair 2, 3
+    0, 1, 1, 0, 0, 1, 0, 0, 1, // rows
+];
+
+/// The same for secrets 0 1.
+const VALUES_SAME_TAPE: [u8; 30] = [
+    1, 0, 1, 0, 1, 0, // shares
+    1, 1, 0, 0, 0, // pair 1, 2
+    0, 0, 0, 0, 0, // pair 1, 3
+    1, 0, 1, 1, 0, // pair 2, 3
+    0, 1, 1, 0, 0, 1, 0, 0, 0, // rows
+];
+
+/// Those for secrets 0 1 with the tape that probe 29 leads to.
+const VALUES_MAPPED_TAPE: [u8; 30] = [
+    0, 0, 0, 0, 1, 0, // shares
+    0, 0, 0, 0, 0, // pair 1, 2
+    0, 0, 0, 0, 0, // pair 1, 3
+    1, 0, 1, 0, 1, // pair 2, 3
+    0, 0, 0, 0, 0, 1, 0, 0, 1, // rows
+];
+
+fn example(name: &'static str, case: Case, outcome: Outcome) -> Example {
+    Example { name, case, outcome, written: None }
+}
+
+fn writing(name: &'static str, case: Case, value: u32, written: &[&[u8]]) -> Example {
+    let written = written.iter().map(|bytes| bytes.to_vec()).collect();
+    Example { name, case, outcome: Outcome::value(value), written: Some(written) }
+}
+
+/// The examples of the seven calls other than the map.
+pub fn examples() -> Vec<Example> {
+    let mut all = small();
+    all.extend(large());
+    all
+}
+
+fn small() -> Vec<Example> {
+    let check = |table: &[u8]| Case::Check { table: table.to_vec() };
+    let forecast = |order| Case::Forecast { table: the_and(), order };
+    let marks = |wire| Case::Marks { table: the_and(), order: 1, wire };
+    let marked = |first, second| Outcome::accepted([first, second, 0, 0]);
+    let run = |inputs: [u8; 6]| Case::Run {
+        table: masked_and(),
+        inputs: inputs.to_vec(),
+        random: vec![1, 0, 1],
+        values: 30,
+        outputs: 3,
+    };
+    let masked_input = Circuit::new(3, &[], &[0, 1, 2]).bytes();
+    vec![
+        example("the AND has 3 wires", check(&the_and()), Outcome::value(3)),
+        example("the AND masked has 30", check(&masked_and()), Outcome::value(30)),
+        example("five bytes", check(&[0; 5]), Outcome::refused(1, 0)),
+        example("sizes 0 0 1", check(&[0, 0, 0, 0, 1, 0]), Outcome::refused(2, 0)),
+        example("sizes 0 0 1, longer", check(&[0, 0, 0, 0, 1, 0, 7]), Outcome::refused(2, 0)),
+        example("forecast at 1", forecast(1), Outcome::accepted([3, 30, 7, 132])),
+        example("forecast at 2", forecast(2), Outcome::accepted([5, 85, 18, 391])),
+        example("forecast at 15", forecast(15), Outcome::accepted([31, 3348, 525, 16498])),
+        example("order 0", forecast(0), Outcome::refused(6, 0)),
+        example("order 16", forecast(16), Outcome::refused(6, 0)),
+        writing(
+            "the AND masked at 1",
+            Case::Mask { table: the_and(), order: 1, out: 132 },
+            132,
+            &[&masked_and()],
+        ),
+        writing(
+            "no gate",
+            Case::Mask { table: repeated_output(1), order: 1, out: 20 },
+            12,
+            &[&masked_input],
+        ),
+        writing(
+            "secrets 1 1",
+            Case::Encode { order: 1, secrets: vec![1, 1], tape: vec![1, 0, 0, 1], out: 6 },
+            6,
+            &[&VALUES[..6]],
+        ),
+        writing("secrets 1 1 run", run([1, 0, 0, 0, 1, 0]), 30, &[&VALUES, &[1, 1, 1]]),
+        writing(
+            "probe 7, second run",
+            run([1, 0, 1, 0, 1, 0]),
+            30,
+            &[&VALUES_SAME_TAPE, &[1, 1, 0]],
+        ),
+        writing(
+            "outputs 1 1 1 decoded",
+            Case::Decode { order: 1, shares: vec![1, 1, 1], out: 1 },
+            1,
+            &[&[1]],
+        ),
+        writing(
+            "nothing encoded",
+            Case::Encode { order: 1, secrets: vec![], tape: vec![], out: 0 },
+            0,
+            &[&[]],
+        ),
+        writing("nothing decoded", Case::Decode { order: 1, shares: vec![], out: 0 }, 0, &[&[]]),
+        example("marks of an input share", marks(5), marked(3, 0)),
+        example("marks of z(1,2)", marks(6), marked(1, 0)),
+        example("marks of a_1 b_2", marks(7), marked(1, 2)),
+        example("marks of a_3 b_1", marks(14), marked(1, 3)),
+        example("marks of z(2,1)", marks(10), marked(2, 0)),
+        example("marks of the last sum", marks(29), marked(3, 0)),
+        example("marks of no wire", marks(30), Outcome::refused(13, 0)),
+    ]
+}
+
+fn large() -> Vec<Example> {
+    let forecast = |table: Vec<u8>| Case::Forecast { table, order: 1 };
+    let mask = |table: Vec<u8>, out| Case::Mask { table, order: 1, out };
+    let too_large = Outcome::refused(8, 0);
+    let sizes = Outcome::accepted([3, 65_526, 8_194, 327_612]);
+    let marks = |wire| Case::Marks { table: and_chain(2_730), order: 1, wire };
+    let masked: Vec<u8> = Circuit::new(3, &[], &[0, 1, 2].repeat(21_845)).bytes();
+    vec![
+        example("2,730 ANDs", forecast(and_chain(2_730)), sizes),
+        example("2,731 ANDs", forecast(and_chain(2_731)), too_large),
+        example("2,730 ANDs masked", mask(and_chain(2_730), 327_612), Outcome::value(327_612)),
+        example("2,731 ANDs masked", mask(and_chain(2_731), 400_000), too_large),
+        example("2,730 ANDs, last wire", marks(65_525), Outcome::accepted([3, 0, 0, 0])),
+        example("2,730 ANDs, no wire", marks(65_526), Outcome::refused(13, 0)),
+        writing("21,845 outputs", mask(repeated_output(21_845), 131_076), 131_076, &[&masked]),
+        example("21,846 outputs", mask(repeated_output(21_846), 200_000), too_large),
+    ]
+}
+
+/// The examples of the map.
+pub fn map_examples() -> Vec<Example> {
+    let map = |second: [u8; 2], probes: &[u32]| {
+        Case::Map(MapCase {
+            table: the_and(),
+            order: 1,
+            first: vec![1, 1],
+            second: second.to_vec(),
+            tape: TAPE.to_vec(),
+            probes: probes.to_vec(),
+            mapped: 7,
+            one: 30,
+            other: 30,
+        })
+    };
+    let long = |ands: u16, probes: &[u32]| {
+        Case::Map(MapCase {
+            table: and_chain(ands),
+            order: 1,
+            first: vec![1, 1],
+            second: vec![0, 1],
+            tape: TAPE.into_iter().cycle().take(4 + 3 * usize::from(ands)).collect(),
+            probes: probes.to_vec(),
+            mapped: 8_194,
+            one: 65_526,
+            other: 65_526,
+        })
+    };
+    let mapped = [0, 0, 0, 1, 0, 0, 1];
+    vec![
+        writing("probe 7", map([0, 1], &[7]), 3, &[&TAPE, &VALUES, &VALUES_SAME_TAPE]),
+        writing("probe 29", map([0, 1], &[29]), 1, &[&mapped, &VALUES, &VALUES_MAPPED_TAPE]),
+        writing("no probe", map([0, 1], &[]), 1, &[&mapped, &VALUES, &VALUES_MAPPED_TAPE]),
+        writing("equal secrets", map([1, 1], &[29]), 1, &[&TAPE, &VALUES, &VALUES]),
+        example("probes 6, 6", map([0, 1], &[6, 6]), Outcome::refused(12, 0)),
+        example("probe 30", map([0, 1], &[30]), Outcome::refused(13, 0)),
+        example("2,730 ANDs mapped", long(2_730, &[65_525]), Outcome::value(1)),
+        example("2,730 ANDs, no such wire", long(2_730, &[65_526]), Outcome::refused(13, 0)),
+        example("2,731 ANDs mapped", long(2_731, &[]), Outcome::refused(8, 0)),
+    ]
+}

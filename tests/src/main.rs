@@ -1,0 +1,186 @@
+//! Compares the archive libmasks_c.a with the implementation of this crate.
+//!
+//!     compare [--seed N]                the comparison: examples, generated cases, all tapes
+//!     compare fuzz SECONDS [--seed N]   generated cases for so long, from the clock's seed or N
+//!     compare case CALL SEED            one generated case again, shown in full
+//!     compare line FILE                 the line that the forecast program prints for an input
+
+mod ffi;
+
+use std::process::ExitCode;
+use std::time::{Duration, Instant, SystemTime};
+use std::{env, fs};
+
+use compare::case::{Call, Case};
+use compare::compare::{Tally, compare};
+use compare::masks::{Model, Outcome};
+use compare::properties::check_mapping;
+use compare::rng::Rng;
+use compare::{examples, exhaustive, generate, model};
+
+use ffi::Archive;
+
+const FIXED_SEED: u64 = 1;
+const CASES_PER_CALL: u64 = 200_000;
+const CASES_PER_FUZZ_ROUND: u64 = 1_000;
+const USAGE: &str = "\
+usage: compare [--seed N]
+       compare fuzz SECONDS [--seed N]
+       compare case CALL SEED
+       compare line FILE";
+
+/// The calls that the archive has.
+fn calls() -> &'static [Call] {
+    if cfg!(feature = "map") { &Call::ALL } else { &Call::ALL[..7] }
+}
+
+fn main() -> ExitCode {
+    let arguments: Vec<String> = env::args().skip(1).collect();
+    let arguments: Vec<&str> = arguments.iter().map(String::as_str).collect();
+    let result = match arguments[..] {
+        [] => compare_all(FIXED_SEED),
+        ["--seed", seed] => number(seed).and_then(compare_all),
+        ["fuzz", seconds] => number(seconds).and_then(|seconds| fuzz(seconds, clock_seed())),
+        ["fuzz", seconds, "--seed", seed] => {
+            number(seconds).and_then(|seconds| fuzz(seconds, number(seed)?))
+        }
+        ["case", call, seed] => number(seed).and_then(|seed| repeat_case(call, seed)),
+        ["line", file] => print_line(file),
+        _ => Err(USAGE.into()),
+    };
+    match result {
+        Ok(()) => ExitCode::SUCCESS,
+        Err(text) => {
+            eprintln!("{text}");
+            ExitCode::FAILURE
+        }
+    }
+}
+
+fn number(text: &str) -> Result<u64, String> {
+    text.parse().map_err(|_| format!("{text} is not a number\n{USAGE}"))
+}
+
+fn clock_seed() -> u64 {
+    let since = SystemTime::now().duration_since(SystemTime::UNIX_EPOCH);
+    since.map_or(0, |time| time.as_nanos() as u64)
+}
+
+/// The seeds of a call's cases.
+fn seeds(call: Call, seed: u64) -> Rng {
+    Rng::new(seed.wrapping_mul(8).wrapping_add(call as u64))
+}
+
+/// The whole comparison, with a line for each call.
+fn compare_all(seed: u64) -> Result<(), String> {
+    let mut tallies = [Tally::default(); 8];
+    compare_examples(&mut tallies)?;
+    for &call in calls() {
+        compare_generated(
+            call,
+            &mut seeds(call, seed),
+            CASES_PER_CALL,
+            &mut tallies[call as usize],
+        )?;
+        println!("{}: {}", call.name(), tallies[call as usize]);
+    }
+    compare_all_tapes()?;
+    match calls().iter().find_map(|&call| tallies[call as usize].missing(call)) {
+        Some(missing) => Err(format!("FAILED: {missing}")),
+        None => Ok(()),
+    }
+}
+
+fn compare_examples(tallies: &mut [Tally; 8]) -> Result<(), String> {
+    let mut all = examples::examples();
+    if cfg!(feature = "map") {
+        all.extend(examples::map_examples());
+    }
+    for example in all {
+        let told = |text: String| {
+            format!("FAILED: example \"{}\"\n{}\n{text}", example.name, example.case)
+        };
+        example.put_to(&Archive).map_err(told)?;
+        let outcome = compare_case(&example.case).map_err(told)?;
+        tallies[example.case.call() as usize].add(&example.case, outcome);
+    }
+    Ok(())
+}
+
+fn compare_generated(
+    call: Call,
+    seeds: &mut Rng,
+    cases: u64,
+    tally: &mut Tally,
+) -> Result<(), String> {
+    for _ in 0..cases {
+        let seed = seeds.draw();
+        let case = generate::generate(call, &mut Rng::new(seed));
+        let outcome = compare_case(&case).map_err(|text| {
+            format!("FAILED: repeat with `case {} {seed}`\n{case}\n{text}", call.name())
+        })?;
+        tally.add(&case, outcome);
+    }
+    Ok(())
+}
+
+/// Compares one case, and looks closer at an accepted map.
+fn compare_case(case: &Case) -> Result<Outcome, String> {
+    let (outcome, buffers) = compare(case, &Model, &Archive)?;
+    if let (Case::Map(map), 0) = (case, outcome.number) {
+        check_mapping(&Archive, map, outcome.values[0], &buffers)?;
+    }
+    Ok(outcome)
+}
+
+/// Small circuits with all tapes and all secrets.
+fn compare_all_tapes() -> Result<(), String> {
+    let circuits = exhaustive::circuits();
+    let (mut runs, mut maps) = (0, 0);
+    for circuit in &circuits {
+        let told = |text| format!("FAILED: all tapes at order 1 of {circuit:?}\n{text}");
+        runs += exhaustive::check_patterns(&Archive, circuit, 1).map_err(told)?;
+        if cfg!(feature = "map") {
+            maps += exhaustive::check_maps(&Model, &Archive, circuit).map_err(told)?;
+        }
+    }
+    for circuit in exhaustive::circuits_for_order_2() {
+        let told = |text| format!("FAILED: all tapes at order 2 of {circuit:?}\n{text}");
+        runs += exhaustive::check_patterns(&Archive, &circuit, 2).map_err(told)?;
+    }
+    println!("all tapes of {} small circuits: {runs} runs, {maps} maps", circuits.len());
+    Ok(())
+}
+
+fn fuzz(seconds: u64, seed: u64) -> Result<(), String> {
+    println!("seed {seed}");
+    let end = Instant::now() + Duration::from_secs(seconds);
+    let mut all_seeds: Vec<Rng> = calls().iter().map(|&call| seeds(call, seed)).collect();
+    let mut tallies = [Tally::default(); 8];
+    while Instant::now() < end {
+        for (&call, seeds) in calls().iter().zip(&mut all_seeds) {
+            compare_generated(call, seeds, CASES_PER_FUZZ_ROUND, &mut tallies[call as usize])?;
+        }
+    }
+    for &call in calls() {
+        println!("{}: {}", call.name(), tallies[call as usize]);
+    }
+    Ok(())
+}
+
+fn repeat_case(call: &str, seed: u64) -> Result<(), String> {
+    let Some(&call) = calls().iter().find(|known| known.name() == call) else {
+        return Err(format!("{call} is not a call that is compared"));
+    };
+    let case = generate::generate(call, &mut Rng::new(seed));
+    println!("{case:#}");
+    let outcome = compare_case(&case).map_err(|text| format!("FAILED: {text}"))?;
+    println!("{outcome}");
+    Ok(())
+}
+
+fn print_line(file: &str) -> Result<(), String> {
+    let input = fs::read(file).map_err(|error| format!("{file}: {error}"))?;
+    print!("{}", model::forecast_line(&input));
+    Ok(())
+}

@@ -1,0 +1,113 @@
+//! The mapped tape.
+
+use super::masking::{Gates, Plain, Shares, mask_gate, pair_index};
+use super::table::{AND, NOT, XOR};
+use super::{Fault, Refusal, check_bits};
+
+/// The two runs side by side: one with the tape, the other with the mapped tape.
+struct Runs<'a> {
+    one: &'a mut [u8],
+    other: &'a mut [u8],
+    tape: &'a [u8],
+    mapped: &'a mut [u8],
+    next_wire: usize,
+    next_bit: usize,
+}
+
+impl Runs<'_> {
+    /// Whether a_k·b_j ⊕ a_j·b_k differs between the runs.
+    fn cross_differs(&self, a: Shares, b: Shares, k: usize, j: usize) -> u8 {
+        let cross =
+            |run: &[u8]| (run[a.wire(k)] & run[b.wire(j)]) ^ (run[a.wire(j)] & run[b.wire(k)]);
+        cross(self.one) ^ cross(self.other)
+    }
+}
+
+impl Gates for Runs<'_> {
+    fn next_wire(&self) -> usize {
+        self.next_wire
+    }
+
+    fn gate(&mut self, kind: u8, left: usize, right: usize) {
+        let wire = self.next_wire;
+        let (one, other) = (&mut *self.one, &mut *self.other);
+        (one[wire], other[wire]) = match kind {
+            NOT => (one[left] ^ 1, other[left] ^ 1),
+            XOR => (one[left] ^ one[right], other[left] ^ other[right]),
+            AND => (one[left] & one[right], other[left] & other[right]),
+            _ => {
+                self.next_bit += 1;
+                (self.tape[self.next_bit - 1], self.mapped[self.next_bit - 1])
+            }
+        };
+        self.next_wire += 1;
+    }
+}
+
+impl Plain<'_> {
+    /// The smallest share that no probe carries.
+    fn free_share(&self, probes: &[u32]) -> usize {
+        let mut carried = [false; 32];
+        for &probe in probes {
+            let marks = self.marks(probe as usize);
+            carried[usize::from(marks.first)] = true;
+            carried[usize::from(marks.second)] = true;
+        }
+        let free = (1..=self.order.n).find(|&s| !carried[s]);
+        free.expect("t probes carry at most 2t of the 2t + 1 shares")
+    }
+}
+
+/// Writes the mapped tape from secrets `first` to secrets `second`, and the wire values of both
+/// runs; answers the free share.
+#[allow(clippy::too_many_arguments)]
+pub fn map(
+    table: &[u8],
+    order: u8,
+    first: &[u8],
+    second: &[u8],
+    tape: &[u8],
+    probes: &[u32],
+    mapped: &mut [u8],
+    one: &mut [u8],
+    other: &mut [u8],
+) -> Result<u32, Refusal> {
+    let plain = Plain::new(table, order)?;
+    let (order, table, wires) = (plain.order, plain.table, plain.wires);
+    let inputs = table.inputs;
+    Fault::Count
+        .when(first.len() != inputs || second.len() != inputs || tape.len() != plain.tape)?;
+    check_bits(&[first, second, tape])?;
+    Fault::TooManyProbes.when(probes.len() > order.t)?;
+    if let Some(position) = probes.iter().position(|&wire| wire as usize >= wires) {
+        return Err(Fault::Probe.at(position));
+    }
+    Fault::Buffer.when(mapped.len() < tape.len() || one.len() < wires || other.len() < wires)?;
+
+    let k = plain.free_share(probes);
+    let (mapped, one, other) = (&mut mapped[..tape.len()], &mut one[..wires], &mut other[..wires]);
+    mapped.copy_from_slice(tape);
+    let input_bits = 2 * order.t;
+    if k <= input_bits {
+        for (i, (x, y)) in first.iter().zip(second).enumerate() {
+            mapped[input_bits * i + k - 1] ^= x ^ y;
+        }
+    }
+    order.share(first, tape, one);
+    order.share(second, mapped, other);
+
+    let (next_wire, next_bit) = (plain.inputs(), input_bits * inputs);
+    let mut runs = Runs { one, other, tape, mapped, next_wire, next_bit };
+    let mut shares = plain.input_shares();
+    for gate in table.gates() {
+        let (a, b) = (shares[gate.left], shares[gate.right]);
+        if gate.kind == AND {
+            for j in k + 1..=order.n {
+                let bit = runs.next_bit + pair_index(order.n, k, j);
+                runs.mapped[bit] ^= runs.cross_differs(a, b, k, j);
+            }
+        }
+        shares.push(mask_gate(&mut runs, order.n, gate.kind, a, b));
+    }
+    Ok(k as u32)
+}

@@ -1,0 +1,282 @@
+//! Masking a plain table: sizes, the masked table, and the marks of its wires.
+
+use super::shares::Order;
+use super::table::{AND, NOT, RANDOM, Table, XOR};
+use super::{Fault, MOST, Refusal};
+
+/// The sizes of a masked table and its tape.
+#[derive(Clone, Copy, Debug, PartialEq, Eq)]
+pub struct Sizes {
+    pub shares: u32,
+    pub wires: u32,
+    pub tape: u32,
+    pub bytes: u32,
+}
+
+/// The one or two shares that a masked wire carries, rising; 0 for no second one.
+#[derive(Clone, Copy, Debug, PartialEq, Eq)]
+pub struct Marks {
+    pub first: u8,
+    pub second: u8,
+}
+
+impl Marks {
+    fn one(share: usize) -> Self {
+        Marks { first: share as u8, second: 0 }
+    }
+
+    fn two(first: usize, second: usize) -> Self {
+        Marks { first: first as u8, second: second as u8 }
+    }
+}
+
+/// A plain table and an order to mask it at, both accepted.
+pub(super) struct Plain<'a> {
+    pub table: Table<'a>,
+    pub order: Order,
+    /// The number of masked wires.
+    pub wires: usize,
+    /// The number of tape bits.
+    pub tape: usize,
+}
+
+/// Where the shares of a plain wire stand among the masked wires: share 1 at `first`, share 2 at
+/// `second`, and each further one `step` wires on. A NOT moves share 1 alone.
+#[derive(Clone, Copy)]
+pub(super) struct Shares {
+    first: u16,
+    second: u16,
+    step: u16,
+}
+
+impl Shares {
+    fn new(first: usize, step: usize) -> Self {
+        Shares { first: first as u16, second: (first + step) as u16, step: step as u16 }
+    }
+
+    /// The wire of share s, from 1.
+    pub fn wire(self, s: usize) -> usize {
+        match s {
+            1 => usize::from(self.first),
+            _ => usize::from(self.second) + (s - 2) * usize::from(self.step),
+        }
+    }
+}
+
+/// What takes the masked gates, in wire order.
+pub(super) trait Gates {
+    /// The wire that the next gate will drive.
+    fn next_wire(&self) -> usize;
+
+    /// Takes the next gate.
+    fn gate(&mut self, kind: u8, left: usize, right: usize);
+}
+
+impl<'a> Plain<'a> {
+    /// Refusals 1 to 8.
+    pub fn new(table: &'a [u8], order: u8) -> Result<Self, Refusal> {
+        let table = Table::new(table)?;
+        let order = Order::new(order)?;
+        if let Some(g) = table.kinds.iter().position(|&kind| kind == RANDOM) {
+            return Err(Fault::RandomGate.at(g));
+        }
+        let gates: usize =
+            [NOT, XOR, AND].iter().map(|&kind| table.count(kind) * gate_cost(order, kind)).sum();
+        let wires = order.n * table.inputs + gates;
+        let tape = 2 * order.t * table.inputs + table.count(AND) * order.pairs();
+        Fault::TooLarge.when(wires > MOST || order.n * table.outputs().len() > MOST)?;
+        Ok(Plain { table, order, wires, tape })
+    }
+
+    /// The number of masked inputs.
+    pub fn inputs(&self) -> usize {
+        self.order.n * self.table.inputs
+    }
+
+    fn gates(&self) -> usize {
+        self.wires - self.inputs()
+    }
+
+    fn outputs(&self) -> usize {
+        self.order.n * self.table.outputs().len()
+    }
+
+    fn bytes(&self) -> usize {
+        6 + 5 * self.gates() + 2 * self.outputs()
+    }
+
+    /// Where the shares of the plain inputs stand, with room for those of the gates.
+    pub fn input_shares(&self) -> Vec<Shares> {
+        let mut shares = Vec::with_capacity(self.table.wires());
+        shares.extend((0..self.table.inputs).map(|i| Shares::new(self.order.n * i, 1)));
+        shares
+    }
+
+    /// The marks of a masked wire.
+    pub fn marks(&self, wire: usize) -> Marks {
+        let Some(mut offset) = wire.checked_sub(self.inputs()) else {
+            return Marks::one(wire % self.order.n + 1);
+        };
+        for &kind in self.table.kinds {
+            let cost = gate_cost(self.order, kind);
+            if offset < cost {
+                return match kind {
+                    NOT => Marks::one(1),
+                    XOR => Marks::one(offset + 1),
+                    _ => and_marks(self.order, offset),
+                };
+            }
+            offset -= cost;
+        }
+        unreachable!("the wire is one of the masked table")
+    }
+}
+
+/// How many masked wires a plain gate becomes.
+fn gate_cost(order: Order, kind: u8) -> usize {
+    match kind {
+        NOT => 1,
+        XOR => order.n,
+        _ => order.n * order.n + 5 * order.pairs(),
+    }
+}
+
+/// The marks of a wire inside a masked AND: five wires for each pair, then n for each row.
+fn and_marks(order: Order, offset: usize) -> Marks {
+    if let Some(rows) = offset.checked_sub(5 * order.pairs()) {
+        return Marks::one(rows / order.n + 1);
+    }
+    let (mut i, mut j) = (1, offset / 5 + 2);
+    while j > order.n {
+        i += 1;
+        j = j - order.n + i;
+    }
+    match offset % 5 {
+        0 => Marks::one(i),
+        4 => Marks::one(j),
+        _ => Marks::two(i, j),
+    }
+}
+
+/// How many pairs stand before the pair i < j.
+pub(super) fn pair_index(n: usize, i: usize, j: usize) -> usize {
+    (i - 1) * (2 * n - i) / 2 + (j - i - 1)
+}
+
+/// Hands over the masked gates of a plain gate whose operands have the given shares; answers
+/// where the shares of its result stand.
+pub(super) fn mask_gate(
+    gates: &mut impl Gates,
+    n: usize,
+    kind: u8,
+    a: Shares,
+    b: Shares,
+) -> Shares {
+    let start = gates.next_wire();
+    match kind {
+        NOT => {
+            gates.gate(NOT, a.wire(1), 0);
+            Shares { first: start as u16, ..a }
+        }
+        XOR => {
+            for s in 1..=n {
+                gates.gate(XOR, a.wire(s), b.wire(s));
+            }
+            Shares::new(start, 1)
+        }
+        _ => {
+            for i in 1..=n {
+                for j in i + 1..=n {
+                    let z = gates.next_wire();
+                    gates.gate(RANDOM, 0, 0);
+                    gates.gate(AND, a.wire(i), b.wire(j));
+                    gates.gate(XOR, z, z + 1);
+                    gates.gate(AND, a.wire(j), b.wire(i));
+                    gates.gate(XOR, z + 2, z + 3);
+                }
+            }
+            let rows = gates.next_wire();
+            for i in 1..=n {
+                gates.gate(AND, a.wire(i), b.wire(i));
+                for j in 1..i {
+                    let z = start + 5 * pair_index(n, j, i) + 4;
+                    gates.gate(XOR, gates.next_wire() - 1, z);
+                }
+                for j in i + 1..=n {
+                    let z = start + 5 * pair_index(n, i, j);
+                    gates.gate(XOR, gates.next_wire() - 1, z);
+                }
+            }
+            Shares::new(rows + n - 1, n)
+        }
+    }
+}
+
+/// Writes gates into the two arrays of a table.
+struct Writer<'a> {
+    kinds: &'a mut [u8],
+    pairs: &'a mut [[u8; 4]],
+    inputs: usize,
+    written: usize,
+}
+
+impl Gates for Writer<'_> {
+    fn next_wire(&self) -> usize {
+        self.inputs + self.written
+    }
+
+    fn gate(&mut self, kind: u8, left: usize, right: usize) {
+        let [l0, l1] = (left as u16).to_le_bytes();
+        let [r0, r1] = (right as u16).to_le_bytes();
+        self.kinds[self.written] = kind;
+        self.pairs[self.written] = [l0, l1, r0, r1];
+        self.written += 1;
+    }
+}
+
+/// Answers the sizes of the masked table without writing it.
+pub fn forecast(table: &[u8], order: u8) -> Result<Sizes, Refusal> {
+    let plain = Plain::new(table, order)?;
+    Ok(Sizes {
+        shares: plain.order.n as u32,
+        wires: plain.wires as u32,
+        tape: plain.tape as u32,
+        bytes: plain.bytes() as u32,
+    })
+}
+
+/// Writes the masked table and answers its number of bytes.
+pub fn mask(table: &[u8], order: u8, out: &mut [u8]) -> Result<u32, Refusal> {
+    let plain = Plain::new(table, order)?;
+    let (bytes, n) = (plain.bytes(), plain.order.n);
+    Fault::Buffer.when(out.len() < bytes)?;
+
+    let (sizes, rest) = out[..bytes].split_at_mut(6);
+    let fields = [plain.inputs(), plain.gates(), plain.outputs()];
+    for (field, size) in sizes.chunks_exact_mut(2).zip(fields) {
+        field.copy_from_slice(&(size as u16).to_le_bytes());
+    }
+    let (kinds, rest) = rest.split_at_mut(plain.gates());
+    let (pairs, outputs) = rest.split_at_mut(4 * plain.gates());
+    let pairs = pairs.as_chunks_mut().0;
+
+    let mut writer = Writer { kinds, pairs, inputs: plain.inputs(), written: 0 };
+    let mut shares = plain.input_shares();
+    for gate in plain.table.gates() {
+        let (a, b) = (shares[gate.left], shares[gate.right]);
+        shares.push(mask_gate(&mut writer, n, gate.kind, a, b));
+    }
+    for (group, wire) in outputs.chunks_exact_mut(2 * n).zip(plain.table.outputs()) {
+        for (s, field) in (1..).zip(group.chunks_exact_mut(2)) {
+            field.copy_from_slice(&(shares[wire].wire(s) as u16).to_le_bytes());
+        }
+    }
+    Ok(bytes as u32)
+}
+
+/// Answers the marks of a masked wire.
+pub fn marks(table: &[u8], order: u8, wire: u32) -> Result<Marks, Refusal> {
+    let plain = Plain::new(table, order)?;
+    Fault::Probe.when(wire as usize >= plain.wires)?;
+    Ok(plain.marks(wire as usize))
+}

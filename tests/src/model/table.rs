@@ -1,0 +1,121 @@
+//! Gate tables: checking and running.
+
+use super::{Fault, MOST, Refusal, check_bits};
+
+pub const NOT: u8 = 0;
+pub const XOR: u8 = 1;
+pub const AND: u8 = 2;
+pub const RANDOM: u8 = 3;
+
+/// A gate table that was checked, as a view of its bytes.
+#[derive(Clone, Copy)]
+pub(super) struct Table<'a> {
+    pub inputs: usize,
+    pub kinds: &'a [u8],
+    pairs: &'a [[u8; 4]],
+    outputs: &'a [[u8; 2]],
+}
+
+/// A gate as it stands in a table.
+#[derive(Clone, Copy)]
+pub(super) struct Gate {
+    pub kind: u8,
+    pub left: usize,
+    pub right: usize,
+}
+
+fn field(bytes: [u8; 2]) -> usize {
+    usize::from(u16::from_le_bytes(bytes))
+}
+
+impl<'a> Table<'a> {
+    /// Reads and checks a table: refusals 1 to 5.
+    pub fn new(bytes: &'a [u8]) -> Result<Self, Refusal> {
+        let Some((&[i0, i1, g0, g1, o0, o1], rest)) = bytes.split_first_chunk() else {
+            return Err(Fault::Length.at(0));
+        };
+        let (inputs, gates, outputs) = (field([i0, i1]), field([g0, g1]), field([o0, o1]));
+        Fault::Sizes.when(inputs == 0 || outputs == 0 || inputs + gates > MOST)?;
+        Fault::Length.when(rest.len() != 5 * gates + 2 * outputs)?;
+
+        let (kinds, rest) = rest.split_at(gates);
+        let (pairs, outputs) = rest.split_at(4 * gates);
+        let table =
+            Table { inputs, kinds, pairs: pairs.as_chunks().0, outputs: outputs.as_chunks().0 };
+        for (g, gate) in table.gates().enumerate() {
+            // An operand is an earlier wire; an unused one is 0, so below 1.
+            let wire = inputs + g;
+            let (left_limit, right_limit) = match gate.kind {
+                NOT => (wire, 1),
+                XOR | AND => (wire, wire),
+                RANDOM => (1, 1),
+                _ => return Err(Fault::Kind.at(g)),
+            };
+            if gate.left >= left_limit || gate.right >= right_limit {
+                return Err(Fault::Operand.at(g));
+            }
+        }
+        match table.outputs().position(|wire| wire >= table.wires()) {
+            Some(position) => Err(Fault::Output.at(position)),
+            None => Ok(table),
+        }
+    }
+
+    pub fn wires(&self) -> usize {
+        self.inputs + self.kinds.len()
+    }
+
+    pub fn gates(&self) -> impl Iterator<Item = Gate> + use<'a> {
+        self.kinds.iter().zip(self.pairs).map(|(&kind, &[l0, l1, r0, r1])| Gate {
+            kind,
+            left: field([l0, l1]),
+            right: field([r0, r1]),
+        })
+    }
+
+    pub fn outputs(&self) -> impl ExactSizeIterator<Item = usize> + use<'a> {
+        self.outputs.iter().map(|&bytes| field(bytes))
+    }
+
+    /// How many gates are of a kind.
+    pub fn count(&self, kind: u8) -> usize {
+        self.kinds.iter().filter(|&&other| other == kind).count()
+    }
+}
+
+/// Checks a table and answers its number of wires.
+pub fn check(table: &[u8]) -> Result<u32, Refusal> {
+    Ok(Table::new(table)?.wires() as u32)
+}
+
+/// Runs a table on its inputs and random bits: one value for each wire, then the outputs.
+/// Answers the number of wires.
+pub fn run(
+    table: &[u8],
+    inputs: &[u8],
+    random: &[u8],
+    values: &mut [u8],
+    outputs: &mut [u8],
+) -> Result<u32, Refusal> {
+    let table = Table::new(table)?;
+    let wires = table.wires();
+    Fault::Count.when(inputs.len() != table.inputs || random.len() != table.count(RANDOM))?;
+    check_bits(&[inputs, random])?;
+    Fault::Buffer.when(values.len() < wires || outputs.len() < table.outputs().len())?;
+
+    let values = &mut values[..wires];
+    values[..table.inputs].copy_from_slice(inputs);
+    let mut random = random.iter();
+    for (wire, gate) in (table.inputs..).zip(table.gates()) {
+        values[wire] = match gate.kind {
+            NOT => values[gate.left] ^ 1,
+            XOR => values[gate.left] ^ values[gate.right],
+            AND => values[gate.left] & values[gate.right],
+            _ => *random.next().expect("one bit for each random gate"),
+        };
+    }
+    for (output, wire) in outputs.iter_mut().zip(table.outputs()) {
+        *output = values[wire];
+    }
+    Ok(wires as u32)
+}

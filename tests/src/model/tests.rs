@@ -1,0 +1,91 @@
+//! Tests of the implementation alone, without the archive.
+
+use super::*;
+use crate::case::{Call, Case, Lent};
+use crate::circuit::{Circuit, and};
+use crate::compare::Tally;
+use crate::examples::{examples, map_examples, the_and};
+use crate::exhaustive::{check_maps, check_patterns, circuits, circuits_for_order_2};
+use crate::generate::generate;
+use crate::masks::Model;
+use crate::properties::check_mapping;
+use crate::rng::Rng;
+
+#[test]
+fn the_papers_examples_hold() {
+    for example in examples().into_iter().chain(map_examples()) {
+        if let Err(text) = example.put_to(&Model) {
+            panic!("{}\n{}\n{text}", example.name, example.case);
+        }
+    }
+}
+
+#[test]
+fn the_forecast_line_is_the_papers() {
+    let input = [&[1][..], &the_and()].concat();
+    assert_eq!(forecast_line(&input), "3 30 7 132\n");
+    assert_eq!(forecast_line(&[]), "refused 1 0\n");
+    assert_eq!(forecast_line(&[1]), "refused 1 0\n");
+    assert_eq!(forecast_line(&[&[0][..], &the_and()].concat()), "refused 6 0\n");
+    assert_eq!(forecast_line(&[0; 65_536]), "refused 2 0\n");
+    assert_eq!(forecast_line(&[0; 65_537]), "refused 9 0\n");
+}
+
+#[test]
+fn a_gate_costs_what_the_paper_says() {
+    for (order, wires, randoms) in [(1, 24, 3), (2, 75, 10), (15, 3_286, 465)] {
+        let n = 2 * u32::from(order) + 1;
+        let sizes = forecast(&the_and(), order).unwrap();
+        assert_eq!(sizes.wires, 2 * n + wires);
+        assert_eq!(sizes.tape, 2 * (n - 1) + randoms);
+    }
+}
+
+/// Every call refuses in each of its ways, a refusal writes nothing, and accepted maps have
+/// their properties; the forecast tells the sizes of the table that masking writes.
+#[test]
+fn generated_cases_hold_together() {
+    for call in Call::ALL {
+        let mut tally = Tally::default();
+        let mut rng = Rng::new(call as u64);
+        for _ in 0..20_000 {
+            let case = generate(call, &mut rng);
+            let mut buffers = case.buffers();
+            let outcome = case.put_to(&Model, &mut buffers);
+            tally.add(&case, outcome);
+            assert!(outcome.number == 0 || buffers.iter().all(Lent::untouched), "{case}");
+            match (&case, outcome.number, &buffers[..]) {
+                (Case::Mask { table, order, .. }, 0, [out]) => {
+                    let sizes = forecast(table, *order).unwrap();
+                    let masked = out.head(outcome.values[0] as usize);
+                    assert_eq!(masked.len(), sizes.bytes as usize);
+                    assert_eq!(check(masked), Ok(sizes.wires));
+                }
+                (Case::Map(map), 0, buffers) => {
+                    if let Err(text) = check_mapping(&Model, map, outcome.values[0], buffers) {
+                        panic!("{case}\n{text}");
+                    }
+                }
+                _ => {}
+            }
+        }
+        assert_eq!(tally.missing(call), None);
+    }
+}
+
+#[test]
+fn all_tapes_of_small_circuits_hold_together() {
+    for circuit in circuits().iter().filter(|circuit| circuit.inputs == 1) {
+        check_patterns(&Model, circuit, 1).unwrap();
+        check_maps(&Model, &Model, circuit).unwrap();
+    }
+    for circuit in circuits_for_order_2() {
+        check_patterns(&Model, &circuit, 2).unwrap();
+    }
+}
+
+/// A million runs; any two wires of the masked AND at order 2 tell nothing about the secrets.
+#[test]
+fn two_probes_on_the_and_at_order_2_tell_nothing() {
+    check_patterns(&Model, &Circuit::new(2, &[and(0, 1)], &[2]), 2).unwrap();
+}

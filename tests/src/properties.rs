@@ -1,0 +1,91 @@
+//! What must hold of an accepted map, told from the outputs of one implementation alone.
+
+use crate::case::{Lent, MapCase};
+use crate::masks::{Masks, Outcome};
+
+fn ensure(holds: bool, what: &str) -> Result<(), String> {
+    if holds { Ok(()) } else { Err(what.into()) }
+}
+
+/// Checks an accepted map that answered a free share and wrote its three buffers: that the probes
+/// read the same in both runs, that the map from y to x leads back, that both runs are those of
+/// the masked table on the encoded secrets, and that their outputs decode to those of the plain
+/// table.
+pub fn check_mapping(
+    masks: &impl Masks,
+    case: &MapCase,
+    free_share: u32,
+    buffers: &[Lent],
+) -> Result<(), String> {
+    let Outcome { number: 0, values: [_, wires, bits, bytes], .. } =
+        masks.forecast(&case.table, case.order)
+    else {
+        return Err("the forecast refuses what the map accepts".into());
+    };
+    let [mapped, one, other] = buffers else { unreachable!("a map has three buffers") };
+    ensure(
+        case.tape.len() == bits as usize
+            && one.size() >= wires as usize
+            && other.size() >= wires as usize,
+        "the map accepts other sizes than forecast",
+    )?;
+    let (mapped, one, other) =
+        (mapped.head(bits as usize), one.head(wires as usize), other.head(wires as usize));
+    let read_the_same =
+        case.probes.iter().all(|&probe| one[probe as usize] == other[probe as usize]);
+    ensure(read_the_same, "a probe reads different values in the two runs")?;
+
+    let (mut tape, mut first, mut second) =
+        (vec![2; mapped.len()], vec![2; one.len()], vec![2; one.len()]);
+    let back = masks.map(
+        &case.table,
+        case.order,
+        &case.second,
+        &case.first,
+        mapped,
+        &case.probes,
+        &mut tape,
+        &mut first,
+        &mut second,
+    );
+    ensure(back == Outcome::value(free_share), "the map back answers something else")?;
+    ensure(tape == case.tape, "the map back does not give the tape")?;
+    ensure(first == other && second == one, "the map back does not give the two runs")?;
+
+    let mut masked = vec![0; bytes as usize];
+    let outcome = masks.mask(&case.table, case.order, &mut masked);
+    ensure(outcome == Outcome::value(bytes), "masking refuses what the map accepts")?;
+    check_run(masks, case, &masked, &case.first, &case.tape, one)?;
+    check_run(masks, case, &masked, &case.second, mapped, other)
+}
+
+/// Checks one of the two runs against encoding, running and decoding.
+fn check_run(
+    masks: &impl Masks,
+    case: &MapCase,
+    masked: &[u8],
+    secrets: &[u8],
+    tape: &[u8],
+    run: &[u8],
+) -> Result<(), String> {
+    let n = 2 * usize::from(case.order) + 1;
+    let outputs = usize::from(u16::from_le_bytes([case.table[4], case.table[5]]));
+    let (encoding_bits, random) = tape.split_at((n - 1) * secrets.len());
+    let mut shares = vec![2; n * secrets.len()];
+    let outcome = masks.encode(case.order, secrets, encoding_bits, &mut shares);
+    ensure(outcome.number == 0, "encoding refuses what the map accepts")?;
+
+    let (mut values, mut masked_outputs) = (vec![2; run.len()], vec![2; n * outputs]);
+    let outcome = masks.run(masked, &shares, random, &mut values, &mut masked_outputs);
+    ensure(outcome.number == 0, "running refuses what the map accepts")?;
+    ensure(values == run, "the map's run is not that of the masked table")?;
+
+    let mut decoded = vec![2; outputs];
+    let outcome = masks.decode(case.order, &masked_outputs, &mut decoded);
+    ensure(outcome.number == 0, "decoding refuses the outputs")?;
+    let gates = usize::from(u16::from_le_bytes([case.table[2], case.table[3]]));
+    let (mut values, mut plain_outputs) = (vec![2; secrets.len() + gates], vec![2; outputs]);
+    let outcome = masks.run(&case.table, secrets, &[], &mut values, &mut plain_outputs);
+    ensure(outcome.number == 0, "running refuses the plain table")?;
+    ensure(decoded == plain_outputs, "the outputs do not decode to those of the plain table")
+}
