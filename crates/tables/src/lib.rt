@@ -42,7 +42,9 @@ pub fn field(s: &[u8], at: usize) -> usize
     requires { ⌜ at + 1 < length (now s) ⌝ }
     ensures { λ r. ⌜ (r ≡ word (now (s .entry)) at) × (r < 65536) ⌝ }
 {
-    s[at] as usize + 256 * s[at + 1] as usize
+    let low = s[at] as usize;
+    let high = s[at + 1] as usize;
+    low + 256 * high
 }
 
 // Writes a two-byte field, low byte first.

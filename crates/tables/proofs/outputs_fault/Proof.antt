@@ -3,7 +3,6 @@
 use Prim.Native.Nat.{_-_}
 use native.Mathlib.Numerals.{add-one}
 use native.Mathlib.Omega.{arith}
-use borrow.Author.Needs.{needs}
 use Rattle.tables.proofs.Answers.{refused-is}
 use Rattle.tables.proofs.Checks.{
   OutputsGood,
@@ -25,16 +24,16 @@ loop-holds : tie.Need-loop-holds Inv-loop μ-loop
 loop-holds c = outputs-good-start _ _ _ _
 
 mul-field : tie.Need-mul-field Inv-loop μ-loop
-mul-field c = omega (arith, c .before .before .before .pre)
+mul-field c = omega arith
 
 add-field : tie.Need-add-field Inv-loop μ-loop
-add-field c = omega (arith, c .before .before .before .pre)
+add-field c = omega arith
 
 field-requires : tie.Need-field-requires Inv-loop μ-loop
-field-requires c κs = omega (arith, c .before .before .before .pre, c .loop-test .taken)
+field-requires c κs = omega arith
 
 cast-t10 : tie.Need-cast-t10 Inv-loop μ-loop
-cast-t10 c = omega (arith, c .before .before .before .before .before .pre, c .before .before .loop-test .taken)
+cast-t10 c = omega arith
 
 returns : tie.Need-returns Inv-loop μ-loop
 returns c =
@@ -46,10 +45,10 @@ returns c =
     (c .if1 .taken))
 
 add-o : tie.Need-add-o Inv-loop μ-loop
-add-o c = omega (arith, c .before .before .loop-test .taken)
+add-o c = omega arith
 
 loop-less : tie.Need-loop-less Inv-loop μ-loop
-loop-less c = omega (arith, c .before .before .loop-test .taken)
+loop-less c = omega arith
 
 loop-again : tie.Need-loop-again Inv-loop μ-loop
 loop-again c =
