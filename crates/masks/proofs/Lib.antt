@@ -7,5 +7,7 @@ pub mod Costs
 pub mod Placed
 pub mod Passed
 pub mod Codes
+pub mod Encoding
+pub mod Decoding
 pub mod And
 pub mod Shares

@@ -1,3 +1,13 @@
+ghost use mathlib.Core.Path.{_≡_};
+ghost use mathlib.Core.List.{[], _∷_};
+ghost use Prim.Native.Nat.{ℕ, _+_, _*_, _/_, _≤_, _<_};
+ghost use lib.ListN.{length, take, drop};
+ghost use Rattle.tables.specs.Says.{over, putAt};
+ghost use Rattle.tables.proofs.Lists.{Bits};
+ghost use Rattle.masks.specs.Codes.{xorAll, encode, decodeFrom};
+ghost use Rattle.masks.specs.Shares.{sharesOf};
+ghost use Rattle.masks.specs.Says.{EncodeSays, DecodeSays};
+
 // What forecasting answers: a refusal's number and place, or 0, 0 and the masked table's four figures.
 pub struct Sizes {
     pub number: u8,
@@ -14,4 +24,67 @@ pub struct Marks {
     pub place: u32,
     pub first: u8,
     pub second: u8,
+}
+
+// Writes the shares of one secret: 2t tape bits, and their XOR with the secret.
+fn encode_one(order: usize, secret: u8, tape: &[u8], from: usize, out: &mut [u8], at: usize)
+    requires { ⌜ (from + 2 * order ≤ length (now tape)) × (at + 2 * order < length (now out)) × (order ≤ 15) × (secret ≤ 1) × Bits (now tape) ⌝ }
+    ensures { λ _. ⌜ now (out .exit) ≡ putAt at (encode order (secret ∷ []) (drop from (now (tape .entry)))) (now (out .entry)) ⌝ }
+{
+    let bits = 2 * order;
+    let mut last = secret;
+    let mut k = 0;
+    while k < bits {
+        let bit = tables::tape_bit(tape, from + k);
+        out[at + k] = bit;
+        last = last ^ bit;
+        k += 1;
+    }
+    out[at + bits] = last;
+}
+
+// Writes the shares of every secret, one secret's after another's.
+fn encode_all(order: usize, secrets: &[u8], tape: &[u8], out: &mut [u8])
+    requires { ⌜ (order ≤ 15) × (length (now tape) ≡ 2 * order * length (now secrets)) × (sharesOf order * length (now secrets) ≤ length (now out)) × Bits (now secrets) × Bits (now tape) ⌝ }
+    ensures { λ _. ⌜ now (out .exit) ≡ over (encode order (now (secrets .entry)) (now (tape .entry))) (now (out .entry)) ⌝ }
+{
+    let bits = 2 * order;
+    let mut from = 0;
+    let mut at = 0;
+    let mut i = 0;
+    while i < secrets.len() {
+        let secret = tables::tape_bit(secrets, i);
+        encode_one(order, secret, tape, from, out, at);
+        from += bits;
+        at += bits + 1;
+        i += 1;
+    }
+}
+
+// The XOR of n neighbouring shares.
+fn decode_one(shares: &[u8], at: usize, n: usize) -> u8
+    requires { ⌜ (at + n ≤ length (now shares)) × Bits (now shares) ⌝ }
+    ensures { λ r. ⌜ r ≡ xorAll 0 (take n (drop at (now (shares .entry)))) ⌝ }
+{
+    let mut sum: u8 = 0;
+    let mut k = 0;
+    while k < n {
+        sum = sum ^ shares[at + k];
+        k += 1;
+    }
+    sum
+}
+
+// Writes one bit for each n of the shares, count times.
+fn decode_all(shares: &[u8], n: usize, count: usize, out: &mut [u8])
+    requires { ⌜ (n * count ≤ length (now shares)) × (count ≤ length (now out)) × Bits (now shares) ⌝ }
+    ensures { λ _. ⌜ now (out .exit) ≡ over (decodeFrom count n (now (shares .entry))) (now (out .entry)) ⌝ }
+{
+    let mut at = 0;
+    let mut i = 0;
+    while i < count {
+        out[i] = decode_one(shares, at, n);
+        at += n;
+        i += 1;
+    }
 }
