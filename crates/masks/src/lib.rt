@@ -2,11 +2,11 @@ ghost use mathlib.Core.Path.{_≡_};
 ghost use mathlib.Core.List.{[], _∷_};
 ghost use Prim.Native.Nat.{ℕ, _+_, _*_, _/_, _≤_, _<_};
 ghost use lib.ListN.{length, take, drop};
-ghost use Rattle.tables.specs.Says.{over, putAt};
+ghost use Rattle.tables.specs.Says.{over, putAt, Refused};
 ghost use Rattle.tables.proofs.Lists.{Bits};
 ghost use Rattle.masks.specs.Codes.{xorAll, encode, decodeFrom};
 ghost use Rattle.masks.specs.Shares.{sharesOf};
-ghost use Rattle.masks.specs.Says.{EncodeSays, DecodeSays};
+ghost use Rattle.masks.specs.Says.{encodeFault, EncodeSays, decodeFault, DecodeSays};
 
 // What forecasting answers: a refusal's number and place, or 0, 0 and the masked table's four figures.
 pub struct Sizes {
@@ -87,4 +87,62 @@ fn decode_all(shares: &[u8], n: usize, count: usize, out: &mut [u8])
         at += n;
         i += 1;
     }
+}
+
+// The refusal of encoding for a buffer of the given length: 6, 8, 10, 11, 9 in that order.
+fn encode_fault(order: u8, secrets: &[u8], tape: &[u8], room: usize) -> tables::Refusal
+    ensures { λ r. ⌜ Refused (encodeFault order (now (secrets .entry)) (now (tape .entry)) room) r ⌝ }
+{
+    if order == 0 || order > 15 {
+        return tables::Refusal { number: 6, place: 0 };
+    }
+    let count = secrets.len();
+    if count > 65535 {
+        return tables::Refusal { number: 8, place: 0 };
+    }
+    let bits = 2 * order as usize;
+    let shares = (bits + 1) * count;
+    if shares > 65535 {
+        return tables::Refusal { number: 8, place: 0 };
+    }
+    if tape.len() != bits * count {
+        return tables::Refusal { number: 10, place: 0 };
+    }
+    let bad = tables::first_bad(secrets);
+    if bad < count {
+        return tables::Refusal { number: 11, place: bad as u32 };
+    }
+    let bad = tables::first_bad(tape);
+    if bad < tape.len() {
+        return tables::Refusal { number: 11, place: (count + bad) as u32 };
+    }
+    if room < shares {
+        return tables::Refusal { number: 9, place: 0 };
+    }
+    tables::Refusal { number: 0, place: 0 }
+}
+
+// The refusal of decoding for a buffer of the given length: 6, 8, 10, 11, 9 in that order.
+fn decode_fault(order: u8, shares: &[u8], room: usize) -> tables::Refusal
+    ensures { λ r. ⌜ Refused (decodeFault order (now (shares .entry)) room) r ⌝ }
+{
+    if order == 0 || order > 15 {
+        return tables::Refusal { number: 6, place: 0 };
+    }
+    let count = shares.len();
+    if count > 65535 {
+        return tables::Refusal { number: 8, place: 0 };
+    }
+    let n = 2 * order as usize + 1;
+    if count % n != 0 {
+        return tables::Refusal { number: 10, place: 0 };
+    }
+    let bad = tables::first_bad(shares);
+    if bad < count {
+        return tables::Refusal { number: 11, place: bad as u32 };
+    }
+    if room < count / n {
+        return tables::Refusal { number: 9, place: 0 };
+    }
+    tables::Refusal { number: 0, place: 0 }
 }
