@@ -2,18 +2,22 @@
 -- Assumes nothing.
 use mathlib.Core.Path.{_≡_, refl, sym, ap, _∙_}
 use mathlib.Core.List.{List, [], _∷_}
-use Prim.Native.Nat.{ℕ, zero, suc, _+_, _-_, _*_, _≤_, _<_}
+use Prim.Native.Nat.{ℕ, zero, suc, _+_, _-_, _*_, _/_, _≤_, _<_}
 use native.Mathlib.Nat.{zero-add}
 use native.Mathlib.Numerals.{add-one}
 use native.Mathlib.Omega.{arith}
 use lib.Bits.{bitXor}
 use lib.ListN.{length, getD, take, drop, set, length-set}
 use lib.Seq.{drop-drop}
-use Rattle.tables.specs.Says.{over, putAt}
+use Rattle.tables.specs.declared.Refusal as DR
+use Rattle.tables.specs.Says.{Refused, over, putAt}
 use Rattle.tables.specs.Runs.{xor}
 use Rattle.tables.proofs.Lists.{Bits}
 use Rattle.tables.proofs.Put.{put-nil, put-zero}
-use Rattle.masks.specs.Codes.{xorAll, decodeFrom}
+use Rattle.masks.specs.Codes.{xorAll, decodeFrom, decode}
+use Rattle.masks.specs.Says.{decodeFault, DecodeSays}
+use Rattle.masks.proofs.Answers.{answered-refused, left-refused, answered-none, left-none}
+use Rattle.masks.proofs.CodeFaults.{DecodePassed}
 use Rattle.masks.proofs.Encoding.{bit-xor, part, part-next, part-end, put-cons}
 
 -- while n shares from a place on are added: those from k on are left, where `sum` is what the others give
@@ -86,3 +90,19 @@ module _ {bs b₀ b : List ℕ} {n count at i : ℕ} (D : Decoding bs n count b�
   decoding-end h =
       let done : count - i ≡ 0 = omega arith in
       sym (put-nil i b) ∙ rw done at (D .left)
+
+-- what the call answers, refused and not
+pub decode-refuses :
+    {o : ℕ} {bs b : List ℕ} {r : DR.Refusal} → Refused (decodeFault o bs (length b)) r → (r .number ≡ 0 → ⊥)
+    → DecodeSays o bs b b (record { number = r .number; place = r .place; value = 0 })
+decode-refuses {o} {bs} {b} R h =
+    record { answer = answered-refused R h; bits = left-refused R (decode o bs) b h }
+
+pub decode-succeeds :
+    {o : ℕ} {bs b b′ : List ℕ} → DecodePassed o bs (length b)
+    → b′ ≡ over (decodeFrom (length bs / (2 * o + 1)) (2 * o + 1) bs) b
+    → DecodeSays o bs b b′ (record { number = 0; place = 0; value = length bs / (2 * o + 1) })
+unfolding decode
+decode-succeeds {o} {bs} {b} P w =
+    rw add-one
+    (record { answer = answered-none (P .none); bits = left-none (decode o bs) b (P .none) (simp add-one at w) })

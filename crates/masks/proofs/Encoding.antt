@@ -9,12 +9,16 @@ use native.Mathlib.Omega.{arith}
 use lib.Bits.{bitXor}
 use lib.ListN.{length, getD, take, drop, set, length-set, length-drop, drop-of-length-le}
 use lib.Seq.{length-take-le, drop-cons, drop-drop, getD-take, getD-drop}
-use Rattle.tables.specs.Says.{over, putAt}
+use Rattle.tables.specs.declared.Refusal as DR
+use Rattle.tables.specs.Says.{Refused, over, putAt}
 use Rattle.tables.specs.Runs.{xor}
 use Rattle.tables.proofs.Lists.{Bits}
 use Rattle.tables.proofs.Put.{put-length, put-zero, put-nil, put-set, put-append}
 use Rattle.masks.specs.Shares.{sharesOf}
 use Rattle.masks.specs.Codes.{xorAll, encode}
+use Rattle.masks.specs.Says.{encodeFault, EncodeSays}
+use Rattle.masks.proofs.Answers.{answered-refused, left-refused, answered-none, left-none}
+use Rattle.masks.proofs.CodeFaults.{EncodePassed}
 use Rattle.masks.proofs.Codes.{group, group-length, encode-cons}
 
 -- of two bits
@@ -164,3 +168,17 @@ module _ {o i from at : ℕ} {xs ts b₀ b : List ℕ} (E : Encoding o xs ts b�
   pub encoding-end : length xs ≤ i → b ≡ over (encode o xs ts) b₀
   unfolding encode
   encoding-end h = sym (put-nil at b) ∙ rw (drop-of-length-le xs {i = i} h) at (E .left)
+
+-- what the call answers, refused and not
+pub encode-refuses :
+    {o : ℕ} {xs ts b : List ℕ} {r : DR.Refusal} → Refused (encodeFault o xs ts (length b)) r → (r .number ≡ 0 → ⊥)
+    → EncodeSays o xs ts b b (record { number = r .number; place = r .place; value = 0 })
+encode-refuses {o} {xs} {ts} {b} R h =
+    record { answer = answered-refused R h; shares = left-refused R (encode o xs ts) b h }
+
+pub encode-succeeds :
+    {o : ℕ} {xs ts b b′ : List ℕ} → EncodePassed o xs ts (length b) → b′ ≡ over (encode o xs ts) b
+    → EncodeSays o xs ts b b′ (record { number = 0; place = 0; value = (2 * o + 1) * length xs })
+encode-succeeds {o} {xs} {ts} {b} P w =
+    rw add-one
+    (record { answer = answered-none (P .none); shares = left-none (encode o xs ts) b (P .none) w })

@@ -146,3 +146,46 @@ fn decode_fault(order: u8, shares: &[u8], room: usize) -> tables::Refusal
     }
     tables::Refusal { number: 0, place: 0 }
 }
+
+// Encodes secrets with 2t tape bits each: n share bits a secret.
+pub fn encode_secrets(order: u8, secrets: &[u8], tape: &[u8], out: &mut [u8]) -> tables::Answer
+    ensures { λ r. ⌜ EncodeSays order (now (secrets .entry)) (now (tape .entry)) (now (out .entry)) (now (out .exit)) r ⌝ }
+{
+    let fault = encode_fault(order, secrets, tape, out.len());
+    if fault.number != 0 {
+        return tables::Answer {
+            number: fault.number,
+            place: fault.place,
+            value: 0,
+        };
+    }
+    let t = order as usize;
+    encode_all(t, secrets, tape, out);
+    tables::Answer {
+        number: 0,
+        place: 0,
+        value: ((2 * t + 1) * secrets.len()) as u32,
+    }
+}
+
+// Decodes share bits: one bit for each n of them.
+pub fn decode_shares(order: u8, shares: &[u8], out: &mut [u8]) -> tables::Answer
+    ensures { λ r. ⌜ DecodeSays order (now (shares .entry)) (now (out .entry)) (now (out .exit)) r ⌝ }
+{
+    let fault = decode_fault(order, shares, out.len());
+    if fault.number != 0 {
+        return tables::Answer {
+            number: fault.number,
+            place: fault.place,
+            value: 0,
+        };
+    }
+    let n = 2 * order as usize + 1;
+    let count = shares.len() / n;
+    decode_all(shares, n, count, out);
+    tables::Answer {
+        number: 0,
+        place: 0,
+        value: count as u32,
+    }
+}
