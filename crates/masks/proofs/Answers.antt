@@ -1,4 +1,5 @@
--- From a refusal as a value to an answer: what a refusing answer and a succeeding one say, and what the lent buffer then holds.
+-- From a refusal as a value to an answer: what a refusing answer and a succeeding one say, and what the lent buffer
+-- then holds.
 -- Assumes nothing.
 use mathlib.Core.Path.{_≡_, refl, sym, _∙_}
 use mathlib.Core.Bool.{true, false}
@@ -7,17 +8,17 @@ use Prim.Native.Nat.{ℕ}
 use borrow.Author.Tests.{eq-eqb, ne-eqb}
 use Rattle.tables.specs.declared.Answer as DA
 use Rattle.tables.specs.declared.Refusal as DR
-use Rattle.tables.specs.Refusals.{Fault, fault, none, passed}
+use Rattle.tables.specs.Refusals.{Fault, none, passed}
 use Rattle.tables.specs.Says.{Refused, Answered, over, left}
 
-pub refused : {f : Fault} {r : DR.Refusal} → f ≡ fault (r .number) (r .place) → Refused f r
-refused e = rw e (record { number = refl; place = refl })
+pub refused : {f g : Fault} {r : DR.Refusal} → f ≡ g → Refused g r → Refused f r
+refused e R = rw e R
 
 module _ {f : Fault} {r : DR.Refusal} (R : Refused f r) where
   pub refused-passed : r .number ≡ 0 → passed f ≡ true
   refused-passed h = eq-eqb (f .number) 0 (sym (R .number) ∙ h)
 
-  refused-failed : (r .number ≡ 0 → ⊥) → passed f ≡ false
+  pub refused-failed : (r .number ≡ 0 → ⊥) → passed f ≡ false
   refused-failed h = ne-eqb (f .number) 0 (λ e. h (R .number ∙ e))
 
   pub answered-refused :

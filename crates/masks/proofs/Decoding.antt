@@ -20,33 +20,33 @@ use Rattle.masks.proofs.Answers.{answered-refused, left-refused, answer
 use Rattle.masks.proofs.CodeFaults.{DecodePassed}
 use Rattle.masks.proofs.Encoding.{bit-xor, part, part-next, part-end, put-cons}
 
--- while n shares from a place on are added: those from k on are left, where `sum` is what the others give
-pub record Adding (bs : List ℕ) (at n k sum : ℕ) : Type 0 where
-  pub within : k ≤ n
+-- while n shares from a place on are added: those from j on are left, where `sum` is what the others give
+pub record Adding (bs : List ℕ) (at n j sum : ℕ) : Type 0 where
+  pub within : j ≤ n
   pub bit : sum ≤ 1
-  pub left : xorAll sum (drop k (part n at bs)) ≡ xorAll 0 (part n at bs)
+  pub left : xorAll sum (drop j (part n at bs)) ≡ xorAll 0 (part n at bs)
 
 pub adding-start : (bs : List ℕ) (at n : ℕ) → Adding bs at n 0 0
 adding-start bs at n = record { within = omega arith; bit = omega arith; left = refl }
 
-module _ {bs : List ℕ} {at n k sum : ℕ} (A : Adding bs at n k sum) (room : at + n ≤ length bs) where
-  pub adding-turn : k < n → Bits bs → Adding bs at n (k + 1) (bitXor sum (getD bs (at + k) 0))
+module _ {bs : List ℕ} {at n j sum : ℕ} (A : Adding bs at n j sum) (room : at + n ≤ length bs) where
+  pub adding-turn : j < n → Bits bs → Adding bs at n (j + 1) (bitXor sum (getD bs (at + j) 0))
   unfolding xorAll
   adding-turn h bits =
-      let b = getD bs (at + k) 0 in
-      let add : bitXor sum b ≡ xor sum b = bit-xor sum b (A .bit) (bits (at + k)) in
+      let b = getD bs (at + j) 0 in
+      let add : bitXor sum b ≡ xor sum b = bit-xor sum b (A .bit) (bits (at + j)) in
       rw (add-one, add)
       record {
         within = omega arith;
         bit = omega arith;
-        left = rw (part-next n at k bs room h) at (A .left);
+        left = rw (part-next n at j bs room h) at (A .left);
       }
 
-  pub adding-end : n ≤ k → sum ≡ xorAll 0 (part n at bs)
+  pub adding-end : n ≤ j → sum ≡ xorAll 0 (part n at bs)
   unfolding xorAll
   adding-end h =
-      let done : k ≡ n = omega (arith, A .within) in
-      let none : drop k (part n at bs) ≡ [] = rw done (part-end n at bs room) in
+      let done : j ≡ n = omega (arith, A .within) in
+      let none : drop j (part n at bs) ≡ [] = rw done (part-end n at bs room) in
       rw none at (A .left)
 
 -- between two sums: those from i on are left, from share `at` on

@@ -1,4 +1,5 @@
--- Encoding bit by bit: what is left of one secret's shares while its tape bits are copied, and of all shares between secrets.
+-- Encoding bit by bit: what is left of one secret's shares while its tape bits are copied, and of all shares between
+-- two secrets.
 -- Assumes nothing.
 use mathlib.Core.Path.{_≡_, refl, sym, ap, _∙_}
 use mathlib.Core.List.{List, [], _∷_, _++_}
@@ -39,25 +40,25 @@ abbrev pub part : ℕ → ℕ → List ℕ → List ℕ
 part n from bs = take n (drop from bs)
 
 pub part-next :
-    (n from k : ℕ) (bs : List ℕ) → from + n ≤ length bs → k < n
-    → drop k (part n from bs) ≡ getD bs (from + k) 0 ∷ drop (suc k) (part n from bs)
-part-next n from k bs h hk =
+    (n from j : ℕ) (bs : List ℕ) → from + n ≤ length bs → j < n
+    → drop j (part n from bs) ≡ getD bs (from + j) 0 ∷ drop (suc j) (part n from bs)
+part-next n from j bs h hj =
     let long : length (part n from bs) ≡ n = length-take-le n (drop from bs) (omega (arith, length-drop from bs)) in
-    let at : getD (part n from bs) k 0 ≡ getD bs (from + k) 0 = getD-take n (drop from bs) k 0 hk ∙ getD-drop from bs k 0 in
-    drop-cons (part n from bs) k 0 (omega arith) ∙ rw at
+    let at : getD (part n from bs) j 0 ≡ getD bs (from + j) 0 = getD-take n (drop from bs) j 0 hj ∙ getD-drop from bs j 0 in
+    drop-cons (part n from bs) j 0 (omega arith) ∙ rw at
 
 pub part-end : (n from : ℕ) (bs : List ℕ) → from + n ≤ length bs → drop n (part n from bs) ≡ []
 part-end n from bs h =
     let long : length (part n from bs) ≡ n = length-take-le n (drop from bs) (omega (arith, length-drop from bs)) in
     drop-of-length-le (part n from bs) {i = n} (omega arith)
 
--- while the tape bits of the secret x are copied: the rest of its group is left, where `last` is what the copied bits give
-pub record Copying (o x : ℕ) (ts : List ℕ) (from : ℕ) (b₀ : List ℕ) (at k last : ℕ) (b : List ℕ) : Type 0 where
-  pub within : k ≤ 2 * o
+-- while the tape bits of the secret x are copied: the rest of its group is left; `last` is what the copied bits give
+pub record Copying (o x : ℕ) (ts : List ℕ) (from : ℕ) (b₀ : List ℕ) (at s last : ℕ) (b : List ℕ) : Type 0 where
+  pub within : s ≤ 2 * o
   pub bit : last ≤ 1
   pub long : length b ≡ length b₀
   pub left :
-      putAt (at + k) (group last (drop k (part (2 * o) from ts))) b
+      putAt (at + s) (group last (drop s (part (2 * o) from ts))) b
       ≡ putAt at (encode o (x ∷ []) (drop from ts)) b₀
 
 pub copying-start :
@@ -66,38 +67,38 @@ unfolding encode
 copying-start o x ts from b at h = record { within = omega arith; bit = h; long = refl; left = rw add-zero }
 
 module _
-  {o x from at k last : ℕ} {ts b₀ b : List ℕ}
-  (C : Copying o x ts from b₀ at k last b)
-  (tape : from + 2 * o ≤ length ts)
-  (room : at + 2 * o < length b₀)
+    {o x from at s last : ℕ} {ts b₀ b : List ℕ}
+    (C : Copying o x ts from b₀ at s last b)
+    (tape : from + 2 * o ≤ length ts)
+    (room : at + 2 * o < length b₀)
   where
-  pub copying-turn :
-      {bit : ℕ} → k < 2 * o → Bits ts → bit ≡ getD ts (from + k) 0
-      → Copying o x ts from b₀ at (k + 1) (bitXor last bit) (set b (at + k) bit)
-  unfolding xorAll
-  copying-turn {bit} h bits e =
-      let low : bit ≤ 1 = rw e (bits (from + k)) in
-      let sum : bitXor last bit ≡ xor last bit = bit-xor last bit (C .bit) low in
-      let rest = drop (suc k) (part (2 * o) from ts) in
-      let next : drop k (part (2 * o) from ts) ≡ bit ∷ rest = part-next (2 * o) from k ts tape h ∙ rw e in
-      let step : putAt (suc (at + k)) (group (xor last bit) rest) (set b (at + k) bit)
-      ≡ putAt (at + k) (group last (drop k (part (2 * o) from ts))) b =
-      put-cons (at + k) bit (group (xor last bit) rest) b (omega (arith, C .long)) ∙ rw next in
-      rw (add-one, sum)
-      record {
-        within = omega arith;
-        bit = omega arith;
-        long = length-set b (at + k) bit ∙ C .long;
-        left = rw add-suc (step ∙ C .left);
-      }
+    pub copying-turn :
+        {bit : ℕ} → s < 2 * o → Bits ts → bit ≡ getD ts (from + s) 0
+        → Copying o x ts from b₀ at (s + 1) (bitXor last bit) (set b (at + s) bit)
+    unfolding xorAll
+    copying-turn {bit} h bits e =
+        let low : bit ≤ 1 = rw e (bits (from + s)) in
+        let sum : bitXor last bit ≡ xor last bit = bit-xor last bit (C .bit) low in
+        let rest = drop (suc s) (part (2 * o) from ts) in
+        let next : drop s (part (2 * o) from ts) ≡ bit ∷ rest = part-next (2 * o) from s ts tape h ∙ rw e in
+        let step : putAt (suc (at + s)) (group (xor last bit) rest) (set b (at + s) bit)
+        ≡ putAt (at + s) (group last (drop s (part (2 * o) from ts))) b =
+        put-cons (at + s) bit (group (xor last bit) rest) b (omega (arith, C .long)) ∙ rw next in
+        rw (add-one, sum)
+        record {
+          within = omega arith;
+          bit = omega arith;
+          long = length-set b (at + s) bit ∙ C .long;
+          left = rw add-suc (step ∙ C .left);
+        }
 
-  pub copying-end :
-      2 * o ≤ k → set b (at + 2 * o) last ≡ putAt at (encode o (x ∷ []) (drop from ts)) b₀
-  unfolding xorAll
-  copying-end h =
-      let done : k ≡ 2 * o = omega (arith, C .within) in
-      let none : drop k (part (2 * o) from ts) ≡ [] = rw done (part-end (2 * o) from ts tape) in
-      put-set (at + 2 * o) last b (omega (arith, C .long)) ∙ rw done at (rw none at (C .left))
+    pub copying-end :
+        2 * o ≤ s → set b (at + 2 * o) last ≡ putAt at (encode o (x ∷ []) (drop from ts)) b₀
+    unfolding xorAll
+    copying-end h =
+        let done : s ≡ 2 * o = omega (arith, C .within) in
+        let none : drop s (part (2 * o) from ts) ≡ [] = rw done (part-end (2 * o) from ts tape) in
+        put-set (at + 2 * o) last b (omega (arith, C .long)) ∙ rw done at (rw none at (C .left))
 
 -- the shares of the first secret, and of the others
 encode-next :

@@ -1,11 +1,10 @@
+-- `masks::decode_all` meets its contract. The loop's invariant: the sums from i on are left to write.
+-- Assumes nothing.
 use Prim.Native.Nat.{_-_}
 use native.Mathlib.Omega.{arith}
 use Rattle.masks.proofs.Decoding.{Decoding, decoding-start, decoding-fits, decoding-turn, decoding-end}
 use Rattle.masks.proofs.decode_all.Statement.{statement}
 use Rattle.masks.proofs.decode_all.Tie as tie
-use Rattle.masks.proofs.decode_all.Reads as reads
-use Rattle.masks.proofs.decode_all.Lts as lts
-use Rattle.masks.proofs.decode_one.Reads as decode-one-reads
 
 abbrev Inv-loop : tie.InvT-loop
 Inv-loop shares n count out₀ at₀ i₀ out at i = Decoding shares n count out₀ at i out
@@ -17,7 +16,8 @@ loop-holds : tie.Need-loop-holds Inv-loop μ-loop
 loop-holds c = decoding-start _ _ _ _ (c .before .before .pre .0)
 
 decode-one-requires : tie.Need-decode-one-requires Inv-loop μ-loop
-decode-one-requires c κs = (decoding-fits (c .before .loop .inv) (c .loop-test .taken), c .before .before .before .before .pre .2)
+decode-one-requires c κs =
+    (decoding-fits (c .before .loop .inv) (c .loop-test .taken), c .before .before .before .before .pre .2)
 
 slice-write-out : tie.Need-slice-write-out Inv-loop μ-loop
 slice-write-out c = omega arith
@@ -33,7 +33,8 @@ loop-less c = omega arith
 
 loop-again : tie.Need-loop-again Inv-loop μ-loop
 loop-again c =
-    decoding-turn (c .before .before .loop .inv) (c .before .loop-test .taken) (c .before .before .before .before .before .pre .1) (c .decode-one .ensures)
+    let room = c .before .before .before .before .before .pre .1 in
+    decoding-turn (c .before .before .loop .inv) (c .before .loop-test .taken) room (c .decode-one .ensures)
 
 same-length : tie.Need-same-length Inv-loop μ-loop
 same-length c = omega arith

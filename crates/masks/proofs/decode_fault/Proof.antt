@@ -1,39 +1,43 @@
 -- `masks::decode_fault` meets its contract: each test that refuses is one law of the chain of refusals.
 -- Assumes nothing.
+use mathlib.Core.Path.{_≡_}
+use mathlib.Core.Bool.{true}
 use native.Mathlib.Omega.{arith}
-use borrow.Author.Tests.{ltb-true, ltb-false}
-use mathlib.Core.Logic.{⊎-elim}
+use Rattle.masks.specs.Says.{orderOk}
 use Rattle.masks.proofs.Answers.{refused}
 use Rattle.masks.proofs.CodeFaults.{
-  order-low,
-  order-high,
   order-good,
   decode-order,
   decode-many,
   decode-count,
+  Whole,
   decode-bad,
   decode-short,
   decode-none,
 }
 use Rattle.masks.proofs.decode_fault.Statement.{statement}
 use Rattle.masks.proofs.decode_fault.Tie as tie
-use Rattle.masks.proofs.decode_fault.Reads as reads
-use Rattle.masks.proofs.decode_fault.Lts as lts
-use Rattle.tables.proofs.first_bad.Reads as first-bad-reads
+
+-- past the order's test, and past the test of the shares' number
+ordered : (c : tie.Else1) → orderOk (c .before .before .before .before .args .order) ≡ true
+ordered c = order-good (c .before .before .before .before .args .order) (c .before .before .order-fault .ensures) (c .if1 .left)
+
+whole : (c : tie.Else3) → let a = c .before .before .before .before .before .before .args in Whole (a .order) (a .shares .now)
+whole c = record { order = ordered (c .before .before); few = c .before .if2 .left; whole = c .if3 .left }
+
+order-fault-requires : tie.Need-order-fault-requires
+order-fault-requires c κs = tt
 
 returns : tie.Need-returns
 returns c =
-    let a = c .before .before .args in
-    ⊎-elim
-    (λ w. refused (decode-order (a .order) _ _ (order-low (a .order) (w .taken))))
-    (λ w. refused (decode-order (a .order) _ _ (order-high (a .order) (ltb-true 15 (a .order) (w .1 .taken)))))
-    (c .if1 .came)
+    decode-order _ _ (c .before .before .before .before .args .room) (c .before .before .order-fault .ensures) (c .if1 .taken)
+
+fault-at-requires : tie.Need-fault-at-requires
+fault-at-requires c κs = omega arith
 
 returns-2 : tie.Need-returns-2
 returns-2 c =
-    let a = c .before .before .before .before .args in
-    let ok = order-good (a .order) (c .before .before .if1 .left) (ltb-false 15 (a .order) (c .before .if2 .left)) in
-    refused (decode-many (a .order) (a .shares .now) (a .room) ok (c .if3 .taken))
+    refused (decode-many _ _ _ (ordered (c .before .before)) (c .before .if2 .taken)) (c .fault-at .ensures)
 
 mul-n : tie.Need-mul-n
 mul-n c = omega arith
@@ -41,75 +45,63 @@ mul-n c = omega arith
 add-n : tie.Need-add-n
 add-n c = omega arith
 
-rem-if4 : tie.Need-rem-if4
-rem-if4 c = omega arith
+rem-if3 : tie.Need-rem-if3
+rem-if3 c = omega arith
+
+fault-at-requires-2 : tie.Need-fault-at-requires-2
+fault-at-requires-2 c κs = omega arith
 
 returns-3 : tie.Need-returns-3
 returns-3 c =
-    let a = c .before .before .before .before .before .args in
-    let ok = order-good (a .order) (c .before .before .before .if1 .left) (ltb-false 15 (a .order) (c .before .before .if2 .left)) in
-    refused (decode-count (a .order) (a .shares .now) (a .room) ok (c .before .if3 .left) (c .if4 .taken))
+    refused (decode-count _ _ _ (ordered (c .before .before .before)) (c .before .before .if2 .left) (c .before .if3 .taken)) (c .fault-at2 .ensures)
 
 first-bad-requires : tie.Need-first-bad-requires
 first-bad-requires c κs = tt
 
-cast-t12 : tie.Need-cast-t12
-cast-t12 c = omega arith
+fault-at-requires-3 : tie.Need-fault-at-requires-3
+fault-at-requires-3 c κs = omega arith
 
 returns-4 : tie.Need-returns-4
 returns-4 c =
-    let a = c .before .before .before .before .before .before .before .args in
-    let ok = order-good (a .order) (c .before .before .before .before .before .if1 .left) (ltb-false 15 (a .order) (c .before .before .before .before .if2 .left)) in
-    refused
-    (decode-bad (a .order) (a .shares .now) (a .room) ok
-    (c .before .before .before .if3 .left)
-    (c .before .before .if4 .left)
-    (c .before .first-bad .result)
-    (c .before .first-bad .ensures)
-    (c .if5 .taken))
+    refused (decode-bad _ (whole (c .before .before .before)) (c .before .before .first-bad .ensures) (c .before .if4 .taken)) (c .fault-at3 .ensures)
 
-div-if6 : tie.Need-div-if6
-div-if6 c = omega arith
+div-if5 : tie.Need-div-if5
+div-if5 c = omega arith
+
+fault-at-requires-4 : tie.Need-fault-at-requires-4
+fault-at-requires-4 c κs = omega arith
 
 returns-5 : tie.Need-returns-5
 returns-5 c =
-    let a = c .before .before .before .before .before .before .before .before .args in
-    let ok = order-good (a .order) (c .before .before .before .before .before .before .if1 .left) (ltb-false 15 (a .order) (c .before .before .before .before .before .if2 .left)) in
-    refused
-    (decode-short (a .order) (a .shares .now) (a .room) ok
-    (c .before .before .before .before .if3 .left)
-    (c .before .before .before .if4 .left)
-    (c .before .before .first-bad .result)
-    (c .before .before .first-bad .ensures)
-    (c .before .if5 .left)
-    (c .if6 .taken))
+    let bits = c .before .before .before .first-bad .ensures in
+    refused (decode-short _ (whole (c .before .before .before .before)) bits (c .before .before .if4 .left) (c .before .if5 .taken)) (c .fault-at4 .ensures)
+
+fault-at-requires-5 : tie.Need-fault-at-requires-5
+fault-at-requires-5 c κs = omega arith
 
 returns-6 : tie.Need-returns-6
 returns-6 c =
-    let a = c .before .before .before .before .before .before .before .before .args in
-    let ok = order-good (a .order) (c .before .before .before .before .before .before .if1 .left) (ltb-false 15 (a .order) (c .before .before .before .before .before .if2 .left)) in
-    refused
-    (decode-none (a .order) (a .shares .now) (a .room) ok
-    (c .before .before .before .before .if3 .left)
-    (c .before .before .before .if4 .left)
-    (c .before .before .first-bad .result)
-    (c .before .before .first-bad .ensures)
-    (c .before .if5 .left)
-    (c .if6 .left))
+    let bits = c .before .before .before .first-bad .ensures in
+    refused (decode-none _ (whole (c .before .before .before .before)) bits (c .before .before .if4 .left) (c .before .if5 .left)) (c .fault-at5 .ensures)
 
 pub decode-fault-spec : {M : Type 1} → statement M
 decode-fault-spec =
     tie.close
     (tie.spec
+    order-fault-requires
     returns
+    fault-at-requires
     returns-2
     mul-n
     add-n
-    rem-if4
+    rem-if3
+    fault-at-requires-2
     returns-3
     first-bad-requires
-    cast-t12
+    fault-at-requires-3
     returns-4
-    div-if6
+    div-if5
+    fault-at-requires-4
     returns-5
+    fault-at-requires-5
     returns-6)

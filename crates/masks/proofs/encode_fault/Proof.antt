@@ -1,18 +1,19 @@
 -- `masks::encode_fault` meets its contract: each test that refuses is one law of the chain of refusals.
 -- Assumes nothing.
+use mathlib.Core.Path.{_≡_}
+use mathlib.Core.Bool.{true}
 use native.Mathlib.Omega.{arith}
-use borrow.Author.Tests.{ltb-true, ltb-false}
-use mathlib.Core.Logic.{⊎-elim}
 use lib.ListN.{length}
+use Rattle.masks.specs.Says.{orderOk}
 use Rattle.masks.proofs.Answers.{refused}
 use Rattle.masks.proofs.CodeFaults.{
-  order-low,
-  order-high,
   order-good,
+  order-in,
   shares-fit,
   encode-order,
   encode-many,
   encode-count,
+  Counted,
   encode-bad-secret,
   encode-bad-tape,
   encode-short,
@@ -20,23 +21,29 @@ use Rattle.masks.proofs.CodeFaults.{
 }
 use Rattle.masks.proofs.encode_fault.Statement.{statement}
 use Rattle.masks.proofs.encode_fault.Tie as tie
-use Rattle.masks.proofs.encode_fault.Reads as reads
-use Rattle.masks.proofs.encode_fault.Lts as lts
-use Rattle.tables.proofs.first_bad.Reads as first-bad-reads
+
+-- past the order's test, and past the test of the tape's length
+ordered : (c : tie.Else1) → orderOk (c .before .before .before .before .before .args .order) ≡ true
+ordered c = order-good (c .before .before .before .before .before .args .order) (c .before .before .order-fault .ensures) (c .if1 .left)
+
+counted :
+    (c : tie.Else4)
+    → let a = c .before .before .before .before .before .before .before .before .args in Counted (a .order) (a .secrets .now) (a .tape .now)
+counted c = record { order = ordered (c .before .before .before); few = omega arith; long = c .if4 .left }
+
+order-fault-requires : tie.Need-order-fault-requires
+order-fault-requires c κs = tt
 
 returns : tie.Need-returns
 returns c =
-    let a = c .before .before .before .args in
-    ⊎-elim
-    (λ w. refused (encode-order (a .order) _ _ _ (order-low (a .order) (w .taken))))
-    (λ w. refused (encode-order (a .order) _ _ _ (order-high (a .order) (ltb-true 15 (a .order) (w .1 .taken)))))
-    (c .if1 .came)
+    encode-order _ _ _ (c .before .before .before .before .before .args .room) (c .before .before .order-fault .ensures) (c .if1 .taken)
+
+fault-at-requires : tie.Need-fault-at-requires
+fault-at-requires c κs = omega arith
 
 returns-2 : tie.Need-returns-2
 returns-2 c =
-    let a = c .before .before .before .before .before .args in
-    let ok = order-good (a .order) (c .before .before .if1 .left) (ltb-false 15 (a .order) (c .before .if2 .left)) in
-    refused (encode-many (a .order) (a .secrets .now) (a .tape .now) (a .room) ok (omega arith))
+    refused (encode-many _ _ _ _ (ordered (c .before .before)) (omega arith)) (c .fault-at .ensures)
 
 mul-bits : tie.Need-mul-bits
 mul-bits c = omega arith
@@ -45,115 +52,101 @@ add-shares : tie.Need-add-shares
 add-shares c = omega arith
 
 mul-shares : tie.Need-mul-shares
-mul-shares c = let a = c .before .before .before .before .before .args in omega (arith, shares-fit (a .order) (length (a .secrets .now)) (ltb-false 15 (a .order) (c .before .if2 .left)) (c .if3 .left))
+mul-shares c =
+    let a = c .before .before .before .before .before .before .args in
+    omega (arith, shares-fit (a .order) (length (a .secrets .now)) (order-in (a .order) (ordered (c .before)) .1) (c .if2 .left))
+
+fault-at-requires-2 : tie.Need-fault-at-requires-2
+fault-at-requires-2 c κs = omega arith
 
 returns-3 : tie.Need-returns-3
 returns-3 c =
-    let a = c .before .before .before .before .before .before .args in
-    let ok = order-good (a .order) (c .before .before .before .if1 .left) (ltb-false 15 (a .order) (c .before .before .if2 .left)) in
-    refused (encode-many (a .order) (a .secrets .now) (a .tape .now) (a .room) ok (omega arith))
+    refused (encode-many _ _ _ _ (ordered (c .before .before .before)) (omega arith)) (c .fault-at2 .ensures)
 
-mul-if5 : tie.Need-mul-if5
-mul-if5 c = omega arith
+mul-if4 : tie.Need-mul-if4
+mul-if4 c = omega arith
+
+fault-at-requires-3 : tie.Need-fault-at-requires-3
+fault-at-requires-3 c κs = omega arith
 
 returns-4 : tie.Need-returns-4
 returns-4 c =
-    let a = c .before .before .before .before .before .before .before .args in
-    let ok = order-good (a .order) (c .before .before .before .before .if1 .left) (ltb-false 15 (a .order) (c .before .before .before .if2 .left)) in
-    refused (encode-count (a .order) (a .secrets .now) (a .tape .now) (a .room) ok (omega arith) (c .if5 .taken))
+    refused (encode-count _ _ _ _ (ordered (c .before .before .before .before)) (omega arith) (c .before .if4 .taken)) (c .fault-at3 .ensures)
 
 first-bad-requires : tie.Need-first-bad-requires
 first-bad-requires c κs = tt
 
-cast-t15 : tie.Need-cast-t15
-cast-t15 c = omega arith
+fault-at-requires-4 : tie.Need-fault-at-requires-4
+fault-at-requires-4 c κs = omega arith
 
 returns-5 : tie.Need-returns-5
 returns-5 c =
-    let a = c .before .before .before .before .before .before .before .before .before .args in
-    let ok = order-good (a .order) (c .before .before .before .before .before .before .if1 .left) (ltb-false 15 (a .order) (c .before .before .before .before .before .if2 .left)) in
-    refused
-    (encode-bad-secret (a .order) (a .secrets .now) (a .tape .now) (a .room) ok
-    (omega arith)
-    (c .before .before .if5 .left)
-    (c .before .first-bad .result)
-    (c .before .first-bad .ensures)
-    (c .if6 .taken))
+    let secrets = c .before .before .first-bad .ensures in
+    refused (encode-bad-secret _ (counted (c .before .before .before)) secrets (c .before .if5 .taken)) (c .fault-at4 .ensures)
 
 first-bad-requires-2 : tie.Need-first-bad-requires-2
 first-bad-requires-2 c κs = tt
 
-add-t16 : tie.Need-add-t16
-add-t16 c = omega arith
+add-fault-at : tie.Need-add-fault-at
+add-fault-at c = omega arith
 
-cast-t17 : tie.Need-cast-t17
-cast-t17 c = omega arith
+fault-at-requires-5 : tie.Need-fault-at-requires-5
+fault-at-requires-5 c κs = omega arith
 
 returns-6 : tie.Need-returns-6
 returns-6 c =
-    let a = c .before .before .before .before .before .before .before .before .before .before .before .args in
-    let ok = order-good (a .order) (c .before .before .before .before .before .before .before .before .if1 .left) (ltb-false 15 (a .order) (c .before .before .before .before .before .before .before .if2 .left)) in
+    let secrets = c .before .before .before .before .first-bad .ensures in
+    let tape = c .before .before .first-bad2 .ensures in
     refused
-    (encode-bad-tape (a .order) (a .secrets .now) (a .tape .now) (a .room) ok
-    (omega arith)
-    (c .before .before .before .before .if5 .left)
-    (c .before .before .before .first-bad .result)
-    (c .before .before .before .first-bad .ensures)
-    (c .before .before .if6 .left)
-    (c .before .first-bad2 .result)
-    (c .before .first-bad2 .ensures)
-    (c .if7 .taken))
+    (encode-bad-tape _ (counted (c .before .before .before .before .before)) secrets (c .before .before .before .if5 .left) tape (c .before .if6 .taken))
+    (c .fault-at5 .ensures)
+
+fault-at-requires-6 : tie.Need-fault-at-requires-6
+fault-at-requires-6 c κs = omega arith
 
 returns-7 : tie.Need-returns-7
 returns-7 c =
-    let a = c .before .before .before .before .before .before .before .before .before .before .before .before .args in
-    let ok = order-good (a .order) (c .before .before .before .before .before .before .before .before .before .if1 .left) (ltb-false 15 (a .order) (c .before .before .before .before .before .before .before .before .if2 .left)) in
+    let secrets = c .before .before .before .before .before .first-bad .ensures in
+    let tape = c .before .before .before .first-bad2 .ensures in
     refused
-    (encode-short (a .order) (a .secrets .now) (a .tape .now) (a .room) ok
-    (omega arith)
-    (c .before .before .before .before .before .if5 .left)
-    (c .before .before .before .before .first-bad .result)
-    (c .before .before .before .before .first-bad .ensures)
-    (c .before .before .before .if6 .left)
-    (c .before .before .first-bad2 .result)
-    (c .before .before .first-bad2 .ensures)
-    (c .before .if7 .left)
-    (omega arith))
+    (encode-short _ (counted (c .before .before .before .before .before .before)) secrets (c .before .before .before .before .if5 .left) tape (c .before .before .if6 .left) (omega arith))
+    (c .fault-at6 .ensures)
+
+fault-at-requires-7 : tie.Need-fault-at-requires-7
+fault-at-requires-7 c κs = omega arith
 
 returns-8 : tie.Need-returns-8
 returns-8 c =
-    let a = c .before .before .before .before .before .before .before .before .before .before .before .before .args in
-    let ok = order-good (a .order) (c .before .before .before .before .before .before .before .before .before .if1 .left) (ltb-false 15 (a .order) (c .before .before .before .before .before .before .before .before .if2 .left)) in
+    let secrets = c .before .before .before .before .before .first-bad .ensures in
+    let tape = c .before .before .before .first-bad2 .ensures in
     refused
-    (encode-none (a .order) (a .secrets .now) (a .tape .now) (a .room) ok
-    (omega arith)
-    (c .before .before .before .before .before .if5 .left)
-    (c .before .before .before .before .first-bad .result)
-    (c .before .before .before .before .first-bad .ensures)
-    (c .before .before .before .if6 .left)
-    (c .before .before .first-bad2 .result)
-    (c .before .before .first-bad2 .ensures)
-    (c .before .if7 .left)
-    (omega arith))
+    (encode-none _ (counted (c .before .before .before .before .before .before)) secrets (c .before .before .before .before .if5 .left) tape (c .before .before .if6 .left) (omega arith))
+    (c .fault-at7 .ensures)
 
 pub encode-fault-spec : {M : Type 1} → statement M
 encode-fault-spec =
     tie.close
     (tie.spec
+    order-fault-requires
     returns
+    fault-at-requires
     returns-2
     mul-bits
     add-shares
     mul-shares
+    fault-at-requires-2
     returns-3
-    mul-if5
+    mul-if4
+    fault-at-requires-3
     returns-4
     first-bad-requires
-    cast-t15
+    fault-at-requires-4
     returns-5
     first-bad-requires-2
-    add-t16
-    cast-t17
+    add-fault-at
+    fault-at-requires-5
     returns-6
+    fault-at-requires-6
     returns-7
+    fault-at-requires-7
     returns-8)

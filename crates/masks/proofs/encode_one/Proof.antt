@@ -1,19 +1,17 @@
+-- `masks::encode_one` meets its contract. The loop's invariant: the rest of the secret's shares is left to write.
+-- Assumes nothing.
 use Prim.Native.Nat.{_*_, _-_}
 use native.Mathlib.Omega.{arith}
 use lib.ListN.{length-set}
 use Rattle.masks.proofs.Encoding.{Copying, copying-start, copying-turn, copying-end}
-use borrow.Author.Needs.{needs}
 use Rattle.masks.proofs.encode_one.Statement.{statement}
 use Rattle.masks.proofs.encode_one.Tie as tie
-use Rattle.masks.proofs.encode_one.Reads as reads
-use Rattle.masks.proofs.encode_one.Lts as lts
-use Rattle.tables.proofs.tape_bit.Reads as tape-bit-reads
 
 abbrev Inv-loop : tie.InvT-loop
-Inv-loop order secret tape from out₀ at bits last₀ k₀ out last k = Copying order secret tape from out₀ at k last out
+Inv-loop order secret tape from out₀ at bits last₀ s₀ out last s = Copying order secret tape from out₀ at s last out
 
 abbrev μ-loop : tie.MeasureT-loop
-μ-loop order secret tape from out₀ at bits last₀ k₀ out last k = 2 * order - k
+μ-loop order secret tape from out₀ at bits last₀ s₀ out last s = 2 * order - s
 
 mul-bits : tie.Need-mul-bits Inv-loop μ-loop
 mul-bits c = omega arith
@@ -33,8 +31,8 @@ add-out c = omega arith
 slice-write-out : tie.Need-slice-write-out Inv-loop μ-loop
 slice-write-out c = omega arith
 
-add-k : tie.Need-add-k Inv-loop μ-loop
-add-k c = omega arith
+add-s : tie.Need-add-s Inv-loop μ-loop
+add-s c = omega arith
 
 loop-less : tie.Need-loop-less Inv-loop μ-loop
 loop-less c = omega arith
@@ -42,7 +40,8 @@ loop-less c = omega arith
 loop-again : tie.Need-loop-again Inv-loop μ-loop
 loop-again c =
     let p = c .before .before .before .before .before .pre in
-    copying-turn (c .before .before .loop .inv) (p .0) (p .1) (c .before .loop-test .taken) (p .4) (c .tape-bit .ensures)
+    let test = c .before .loop-test .taken in
+    copying-turn (c .before .before .loop .inv) (p .0) (p .1) test (p .4) (c .tape-bit .ensures)
 
 add-out-2 : tie.Need-add-out-2 Inv-loop μ-loop
 add-out-2 c = omega arith
@@ -70,7 +69,7 @@ encode-one-spec =
     tape-bit-requires
     add-out
     slice-write-out
-    add-k
+    add-s
     loop-less
     loop-again
     add-out-2

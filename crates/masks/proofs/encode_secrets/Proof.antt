@@ -1,14 +1,19 @@
+-- `masks::encode_secrets` meets its contract: a refusal changes nothing, and what is not refused has what encoding requires.
+-- Assumes nothing.
 use native.Mathlib.Omega.{arith}
 use lib.ListN.{length}
 use Rattle.masks.proofs.Answers.{refused-passed}
-use Rattle.masks.proofs.CodeFaults.{encode-passed}
+use Rattle.masks.proofs.CodeFaults.{EncodePassed, encode-passed}
 use Rattle.masks.proofs.Encoding.{encode-refuses, encode-succeeds}
 use Rattle.masks.proofs.encode_secrets.Statement.{statement}
 use Rattle.masks.proofs.encode_secrets.Tie as tie
-use Rattle.masks.proofs.encode_secrets.Reads as reads
-use Rattle.masks.proofs.encode_secrets.Lts as lts
-use Rattle.masks.proofs.encode_all.Reads as encode-all-reads
-use Rattle.masks.proofs.encode_fault.Reads as encode-fault-reads
+
+-- past the refusals
+accepted : (c : tie.Else1) → let a = c .before .before .before .before .before .before .args in EncodePassed (a .order) (a .secrets .now) (a .tape .now) (length (a .out .now))
+accepted c =
+    let a = c .before .before .before .before .before .before .args in
+    encode-passed (a .order) (a .secrets .now) (a .tape .now) (length (a .out .now))
+    (refused-passed (c .before .before .encode-fault .ensures) (c .if1 .left))
 
 encode-fault-requires : tie.Need-encode-fault-requires
 encode-fault-requires c κs = tt
@@ -18,10 +23,7 @@ returns c = encode-refuses (c .before .before .encode-fault .ensures) (c .if1 .t
 
 encode-all-requires : tie.Need-encode-all-requires
 encode-all-requires c κs =
-    let a = c .before .before .before .before .before .before .before .args in
-    let P =
-    encode-passed (a .order) (a .secrets .now) (a .tape .now) (length (a .out .now))
-    (refused-passed (c .before .before .before .encode-fault .ensures) (c .before .if1 .left)) in
+    let P = accepted (c .before) in
     (P .order .1, P .long, P .fits, P .secrets, P .tape)
 
 mul-t7 : tie.Need-mul-t7
@@ -32,18 +34,12 @@ add-t12 c = omega arith
 
 mul-t14 : tie.Need-mul-t14
 mul-t14 c =
-    let a = c .before .before .before .before .before .before .before .before .before .before .args in
-    let P =
-    encode-passed (a .order) (a .secrets .now) (a .tape .now) (length (a .out .now))
-    (refused-passed (c .before .before .before .before .before .before .encode-fault .ensures) (c .before .before .before .before .if1 .left)) in
+    let P = accepted (c .before .before .before .before) in
     omega (arith, P .few)
 
 cast-t15 : tie.Need-cast-t15
 cast-t15 c =
-    let a = c .before .before .before .before .before .before .before .before .before .before .args in
-    let P =
-    encode-passed (a .order) (a .secrets .now) (a .tape .now) (length (a .out .now))
-    (refused-passed (c .before .before .before .before .before .before .encode-fault .ensures) (c .before .before .before .before .if1 .left)) in
+    let P = accepted (c .before .before .before .before) in
     omega (arith, P .few)
 
 same-length : tie.Need-same-length
@@ -51,10 +47,7 @@ same-length c = omega arith
 
 returns-2 : tie.Need-returns-2
 returns-2 c =
-    let a = c .before .before .before .before .before .before .before .before .before .before .args in
-    let P =
-    encode-passed (a .order) (a .secrets .now) (a .tape .now) (length (a .out .now))
-    (refused-passed (c .before .before .before .before .before .before .encode-fault .ensures) (c .before .before .before .before .if1 .left)) in
+    let P = accepted (c .before .before .before .before) in
     encode-succeeds P (c .before .before .encode-all .ensures)
 
 pub encode-secrets-spec : {M : Type 1} → statement M
