@@ -76,7 +76,8 @@ module _ {bs b₀ b : List ℕ} {n count at i : ℕ} (D : Decoding bs n count b�
       let one : count - i ≡ suc (count - suc i) = omega arith in
       let shares : at + n * suc (count - suc i) ≤ length bs = rw one at (D .shares) in
       let rest = decodeFrom (count - suc i) n (drop (at + n) bs) in
-      let left : putAt i (v ∷ rest) b ≡ over (decodeFrom count n bs) b₀ = rw (e, ← drop-drop n at bs) (rw one at (D .left)) in
+      let left : putAt i (v ∷ rest) b ≡ over (decodeFrom count n bs) b₀ =
+      rw (e, ← drop-drop n at bs) (rw one at (D .left)) in
       rw add-one
       record {
         within = omega arith;

@@ -44,7 +44,8 @@ pub part-next :
     → drop j (part n from bs) ≡ getD bs (from + j) 0 ∷ drop (suc j) (part n from bs)
 part-next n from j bs h hj =
     let long : length (part n from bs) ≡ n = length-take-le n (drop from bs) (omega (arith, length-drop from bs)) in
-    let at : getD (part n from bs) j 0 ≡ getD bs (from + j) 0 = getD-take n (drop from bs) j 0 hj ∙ getD-drop from bs j 0 in
+    let at : getD (part n from bs) j 0 ≡ getD bs (from + j) 0 =
+    getD-take n (drop from bs) j 0 hj ∙ getD-drop from bs j 0 in
     drop-cons (part n from bs) j 0 (omega arith) ∙ rw at
 
 pub part-end : (n from : ℕ) (bs : List ℕ) → from + n ≤ length bs → drop n (part n from bs) ≡ []
@@ -150,7 +151,8 @@ module _ {o i from at : ℕ} {xs ts b₀ b : List ℕ} (E : Encoding o xs ts b�
       let count : length (drop i xs) ≡ suc (length after) = ap length next in
       let one = encode o (x ∷ []) (drop from ts) in
       let rest = encode o after (drop (from + 2 * o) ts) in
-      let size : length one ≡ sharesOf o = encode-one-length o x (drop from ts) (omega (arith, fits, length-drop from ts)) in
+      let size : length one ≡ sharesOf o =
+      encode-one-length o x (drop from ts) (omega (arith, fits, length-drop from ts)) in
       let split : encode o (drop i xs) (drop from ts) ≡ one ++ rest =
       rw next (encode-next o x after (drop from ts) ∙ rw (drop-drop (2 * o) from ts)) in
       let tape : from + 2 * o * suc (length after) ≡ length ts = rw count at (E .tape) in

@@ -20,9 +20,13 @@ use Rattle.masks.proofs.decode_fault.Tie as tie
 
 -- past the order's test, and past the test of the shares' number
 ordered : (c : tie.Else1) → orderOk (c .before .before .before .before .args .order) ≡ true
-ordered c = order-good (c .before .before .before .before .args .order) (c .before .before .order-fault .ensures) (c .if1 .left)
+ordered c =
+    order-good (c .before .before .before .before .args .order) (c .before .before .order-fault .ensures) (c .if1 .left)
 
-whole : (c : tie.Else3) → let a = c .before .before .before .before .before .before .args in Whole (a .order) (a .shares .now)
+whole :
+    (c : tie.Else3)
+    → let a = c .before .before .before .before .before .before .args in
+    Whole (a .order) (a .shares .now)
 whole c = record { order = ordered (c .before .before); few = c .before .if2 .left; whole = c .if3 .left }
 
 order-fault-requires : tie.Need-order-fault-requires
@@ -30,7 +34,8 @@ order-fault-requires c κs = tt
 
 returns : tie.Need-returns
 returns c =
-    decode-order _ _ (c .before .before .before .before .args .room) (c .before .before .order-fault .ensures) (c .if1 .taken)
+    let room = c .before .before .before .before .args .room in
+    decode-order _ _ room (c .before .before .order-fault .ensures) (c .if1 .taken)
 
 fault-at-requires : tie.Need-fault-at-requires
 fault-at-requires c κs = omega arith
@@ -53,7 +58,8 @@ fault-at-requires-2 c κs = omega arith
 
 returns-3 : tie.Need-returns-3
 returns-3 c =
-    refused (decode-count _ _ _ (ordered (c .before .before .before)) (c .before .before .if2 .left) (c .before .if3 .taken)) (c .fault-at2 .ensures)
+    let ok = ordered (c .before .before .before) in
+    refused (decode-count _ _ _ ok (c .before .before .if2 .left) (c .before .if3 .taken)) (c .fault-at2 .ensures)
 
 first-bad-requires : tie.Need-first-bad-requires
 first-bad-requires c κs = tt
@@ -63,7 +69,9 @@ fault-at-requires-3 c κs = omega arith
 
 returns-4 : tie.Need-returns-4
 returns-4 c =
-    refused (decode-bad _ (whole (c .before .before .before)) (c .before .before .first-bad .ensures) (c .before .if4 .taken)) (c .fault-at3 .ensures)
+    let K = whole (c .before .before .before) in
+    let bits = c .before .before .first-bad .ensures in
+    refused (decode-bad _ K bits (c .before .if4 .taken)) (c .fault-at3 .ensures)
 
 div-if5 : tie.Need-div-if5
 div-if5 c = omega arith
@@ -74,7 +82,8 @@ fault-at-requires-4 c κs = omega arith
 returns-5 : tie.Need-returns-5
 returns-5 c =
     let bits = c .before .before .before .first-bad .ensures in
-    refused (decode-short _ (whole (c .before .before .before .before)) bits (c .before .before .if4 .left) (c .before .if5 .taken)) (c .fault-at4 .ensures)
+    let K = whole (c .before .before .before .before) in
+    refused (decode-short _ K bits (c .before .before .if4 .left) (c .before .if5 .taken)) (c .fault-at4 .ensures)
 
 fault-at-requires-5 : tie.Need-fault-at-requires-5
 fault-at-requires-5 c κs = omega arith
@@ -82,7 +91,8 @@ fault-at-requires-5 c κs = omega arith
 returns-6 : tie.Need-returns-6
 returns-6 c =
     let bits = c .before .before .before .first-bad .ensures in
-    refused (decode-none _ (whole (c .before .before .before .before)) bits (c .before .before .if4 .left) (c .before .if5 .left)) (c .fault-at5 .ensures)
+    let K = whole (c .before .before .before .before) in
+    refused (decode-none _ K bits (c .before .before .if4 .left) (c .before .if5 .left)) (c .fault-at5 .ensures)
 
 pub decode-fault-spec : {M : Type 1} → statement M
 decode-fault-spec =

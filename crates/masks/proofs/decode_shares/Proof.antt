@@ -1,4 +1,4 @@
--- `masks::decode_shares` meets its contract: a refusal changes nothing, and what is not refused has what decoding requires.
+-- `masks::decode_shares` meets its contract: a refusal changes nothing, and what is not refused is fit to be decoded.
 -- Assumes nothing.
 use Prim.Native.Nat.{_+_, _*_}
 use native.Mathlib.Nat.{mul-div-le, div-le-self}
@@ -12,7 +12,10 @@ use Rattle.masks.proofs.decode_shares.Statement.{statement}
 use Rattle.masks.proofs.decode_shares.Tie as tie
 
 -- past the refusals
-accepted : (c : tie.Else1) → let a = c .before .before .before .before .before .args in DecodePassed (a .order) (a .shares .now) (length (a .out .now))
+accepted :
+    (c : tie.Else1)
+    → let a = c .before .before .before .before .before .args in
+    DecodePassed (a .order) (a .shares .now) (length (a .out .now))
 accepted c =
     let a = c .before .before .before .before .before .args in
     decode-passed (a .order) (a .shares .now) (length (a .out .now))

@@ -24,11 +24,14 @@ use Rattle.masks.proofs.encode_fault.Tie as tie
 
 -- past the order's test, and past the test of the tape's length
 ordered : (c : tie.Else1) → orderOk (c .before .before .before .before .before .args .order) ≡ true
-ordered c = order-good (c .before .before .before .before .before .args .order) (c .before .before .order-fault .ensures) (c .if1 .left)
+ordered c =
+    order-good (c .before .before .before .before .before .args .order)
+    (c .before .before .order-fault .ensures) (c .if1 .left)
 
 counted :
     (c : tie.Else4)
-    → let a = c .before .before .before .before .before .before .before .before .args in Counted (a .order) (a .secrets .now) (a .tape .now)
+    → let a = c .before .before .before .before .before .before .before .before .args in
+    Counted (a .order) (a .secrets .now) (a .tape .now)
 counted c = record { order = ordered (c .before .before .before); few = omega arith; long = c .if4 .left }
 
 order-fault-requires : tie.Need-order-fault-requires
@@ -36,7 +39,8 @@ order-fault-requires c κs = tt
 
 returns : tie.Need-returns
 returns c =
-    encode-order _ _ _ (c .before .before .before .before .before .args .room) (c .before .before .order-fault .ensures) (c .if1 .taken)
+    let room = c .before .before .before .before .before .args .room in
+    encode-order _ _ _ room (c .before .before .order-fault .ensures) (c .if1 .taken)
 
 fault-at-requires : tie.Need-fault-at-requires
 fault-at-requires c κs = omega arith
@@ -54,7 +58,8 @@ add-shares c = omega arith
 mul-shares : tie.Need-mul-shares
 mul-shares c =
     let a = c .before .before .before .before .before .before .args in
-    omega (arith, shares-fit (a .order) (length (a .secrets .now)) (order-in (a .order) (ordered (c .before)) .1) (c .if2 .left))
+    let low = order-in (a .order) (ordered (c .before)) .1 in
+    omega (arith, shares-fit (a .order) (length (a .secrets .now)) low (c .if2 .left))
 
 fault-at-requires-2 : tie.Need-fault-at-requires-2
 fault-at-requires-2 c κs = omega arith
@@ -71,7 +76,8 @@ fault-at-requires-3 c κs = omega arith
 
 returns-4 : tie.Need-returns-4
 returns-4 c =
-    refused (encode-count _ _ _ _ (ordered (c .before .before .before .before)) (omega arith) (c .before .if4 .taken)) (c .fault-at3 .ensures)
+    let ok = ordered (c .before .before .before .before) in
+    refused (encode-count _ _ _ _ ok (omega arith) (c .before .if4 .taken)) (c .fault-at3 .ensures)
 
 first-bad-requires : tie.Need-first-bad-requires
 first-bad-requires c κs = tt
@@ -82,7 +88,8 @@ fault-at-requires-4 c κs = omega arith
 returns-5 : tie.Need-returns-5
 returns-5 c =
     let secrets = c .before .before .first-bad .ensures in
-    refused (encode-bad-secret _ (counted (c .before .before .before)) secrets (c .before .if5 .taken)) (c .fault-at4 .ensures)
+    let K = counted (c .before .before .before) in
+    refused (encode-bad-secret _ K secrets (c .before .if5 .taken)) (c .fault-at4 .ensures)
 
 first-bad-requires-2 : tie.Need-first-bad-requires-2
 first-bad-requires-2 c κs = tt
@@ -97,8 +104,10 @@ returns-6 : tie.Need-returns-6
 returns-6 c =
     let secrets = c .before .before .before .before .first-bad .ensures in
     let tape = c .before .before .first-bad2 .ensures in
+    let K = counted (c .before .before .before .before .before) in
+    let good = c .before .before .before .if5 .left in
     refused
-    (encode-bad-tape _ (counted (c .before .before .before .before .before)) secrets (c .before .before .before .if5 .left) tape (c .before .if6 .taken))
+    (encode-bad-tape _ K secrets good tape (c .before .if6 .taken))
     (c .fault-at5 .ensures)
 
 fault-at-requires-6 : tie.Need-fault-at-requires-6
@@ -108,8 +117,10 @@ returns-7 : tie.Need-returns-7
 returns-7 c =
     let secrets = c .before .before .before .before .before .first-bad .ensures in
     let tape = c .before .before .before .first-bad2 .ensures in
+    let K = counted (c .before .before .before .before .before .before) in
+    let good = c .before .before .before .before .if5 .left in
     refused
-    (encode-short _ (counted (c .before .before .before .before .before .before)) secrets (c .before .before .before .before .if5 .left) tape (c .before .before .if6 .left) (omega arith))
+    (encode-short _ K secrets good tape (c .before .before .if6 .left) (omega arith))
     (c .fault-at6 .ensures)
 
 fault-at-requires-7 : tie.Need-fault-at-requires-7
@@ -119,8 +130,10 @@ returns-8 : tie.Need-returns-8
 returns-8 c =
     let secrets = c .before .before .before .before .before .first-bad .ensures in
     let tape = c .before .before .before .first-bad2 .ensures in
+    let K = counted (c .before .before .before .before .before .before) in
+    let good = c .before .before .before .before .if5 .left in
     refused
-    (encode-none _ (counted (c .before .before .before .before .before .before)) secrets (c .before .before .before .before .if5 .left) tape (c .before .before .if6 .left) (omega arith))
+    (encode-none _ K secrets good tape (c .before .before .if6 .left) (omega arith))
     (c .fault-at7 .ensures)
 
 pub encode-fault-spec : {M : Type 1} → statement M

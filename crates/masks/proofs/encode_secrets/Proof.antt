@@ -1,4 +1,4 @@
--- `masks::encode_secrets` meets its contract: a refusal changes nothing, and what is not refused has what encoding requires.
+-- `masks::encode_secrets` meets its contract: a refusal changes nothing, and what is not refused is fit to be encoded.
 -- Assumes nothing.
 use native.Mathlib.Omega.{arith}
 use lib.ListN.{length}
@@ -9,7 +9,10 @@ use Rattle.masks.proofs.encode_secrets.Statement.{statement}
 use Rattle.masks.proofs.encode_secrets.Tie as tie
 
 -- past the refusals
-accepted : (c : tie.Else1) → let a = c .before .before .before .before .before .before .args in EncodePassed (a .order) (a .secrets .now) (a .tape .now) (length (a .out .now))
+accepted :
+    (c : tie.Else1)
+    → let a = c .before .before .before .before .before .before .args in
+    EncodePassed (a .order) (a .secrets .now) (a .tape .now) (length (a .out .now))
 accepted c =
     let a = c .before .before .before .before .before .before .args in
     encode-passed (a .order) (a .secrets .now) (a .tape .now) (length (a .out .now))
