@@ -136,9 +136,10 @@ fn gates_fault(table: &[u8], inputs: usize, gates: usize) -> Refusal
         let right = field(table, 8 + gates + 4 * g);
         let number = gate_number(table[6 + g], left, right, inputs + g);
         if number != 0 {
+            let place = g as u32;
             break 'gates Refusal {
                 number: number,
-                place: g as u32,
+                place: place,
             };
         }
         g += 1;
@@ -154,9 +155,10 @@ fn outputs_fault(table: &[u8], start: usize, outputs: usize, wires: usize) -> Re
     let mut o = 0;
     while o < outputs {
         if field(table, start + 2 * o) >= wires {
+            let place = o as u32;
             return Refusal {
                 number: 5,
-                place: o as u32,
+                place: place,
             };
         }
         o += 1;

@@ -59,8 +59,8 @@ add-gate-number-2 c = omega arith
 gate-number-requires : tie.Need-gate-number-requires Inv-gates μ-gates
 gate-number-requires c κs = tt
 
-cast-t16 : tie.Need-cast-t16 Inv-gates μ-gates
-cast-t16 c = omega arith
+cast-place : tie.Need-cast-place Inv-gates μ-gates
+cast-place c = omega arith
 
 add-g : tie.Need-add-g Inv-gates μ-gates
 add-g c = omega arith
@@ -108,7 +108,7 @@ gates-fault-spec =
     shared-slice-read-gate-number
     add-gate-number-2
     gate-number-requires
-    cast-t16
+    cast-place
     add-g
     gates-less
     gates-again

@@ -32,8 +32,8 @@ add-field c = omega arith
 field-requires : tie.Need-field-requires Inv-loop μ-loop
 field-requires c κs = omega arith
 
-cast-t10 : tie.Need-cast-t10 Inv-loop μ-loop
-cast-t10 c = omega arith
+cast-place : tie.Need-cast-place Inv-loop μ-loop
+cast-place c = omega arith
 
 returns : tie.Need-returns Inv-loop μ-loop
 returns c =
@@ -42,7 +42,7 @@ returns c =
     (c .before .before .before .loop .inv)
     (c .before .before .loop-test .taken)
     (c .before .field .ensures .0)
-    (c .if1 .taken))
+    (omega arith))
 
 add-o : tie.Need-add-o Inv-loop μ-loop
 add-o c = omega arith
@@ -57,7 +57,7 @@ loop-again c =
     (c .before .before .before .loop .inv)
     (c .before .before .loop-test .taken)
     (c .before .field .ensures .0)
-    (c .if1 .left))
+    (omega arith))
 
 returns-2 : tie.Need-returns-2 Inv-loop μ-loop
 returns-2 c = refused-is _ _ (outputs-good-end (c .before .loop .inv) (c .loop-test .left))
@@ -72,7 +72,7 @@ outputs-fault-spec =
     mul-field
     add-field
     field-requires
-    cast-t10
+    cast-place
     returns
     add-o
     loop-less
