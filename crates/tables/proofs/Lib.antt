@@ -6,3 +6,7 @@ pub mod Accept
 pub mod Format
 pub mod Put
 pub mod Bad
+pub mod Loops
+pub mod Gate
+pub mod Running
+pub mod Filling
