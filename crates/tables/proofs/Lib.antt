@@ -10,3 +10,5 @@ pub mod Loops
 pub mod Gate
 pub mod Running
 pub mod Filling
+pub mod RunFault
+pub mod RunTable
