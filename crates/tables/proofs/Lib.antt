@@ -7,6 +7,8 @@ pub mod Format
 pub mod Put
 pub mod Bad
 pub mod Loops
+pub mod Answers
+pub mod Checks
 pub mod Gate
 pub mod Running
 pub mod Filling

@@ -3,11 +3,11 @@
 use mathlib.Core.Path.{_≡_, refl, sym, ap, subst, _∙_}
 use mathlib.Core.Bool.{Bool, true, false, _&&_, _||_, not}
 use mathlib.Core.List.{List, _++_}
-use Prim.Native.Nat.{ℕ, _+_, _≤_, _<_}
+use Prim.Native.Nat.{ℕ, _+_, _*_, _≤_, _<_}
 use native.Mathlib.Nat.{zero-add}
 use native.Mathlib.Omega.{arith}
 use lib.Dec.{eqb, ltb}
-use lib.ListN.{length, getD, length-append}
+use lib.ListN.{length, drop}
 use lib.Seq.{take-append-seam, drop-append-seam}
 use borrow.Author.Tests.{ltb-false, eqb-true, eq-eqb, ne-eqb, lt-ltb, le-ltb, not-false}
 use Rattle.tables.specs.declared.Refusal as DR
@@ -15,29 +15,49 @@ use Rattle.tables.specs.Refusals.{pick, Fault, fault, none, passed, orEl
 use Rattle.tables.specs.Tables.{Table, wires, word, gatesFrom, tableOf, tableFault}
 use Rattle.tables.specs.Runs.{randoms}
 use Rattle.tables.specs.Says.{Refused, FirstBad, runFault}
-use Rattle.tables.proofs.Tests.{and-true, or-false, both-passed, not-refused}
+use Rattle.tables.specs.Running.{supplyFault, roomFault}
+use Rattle.tables.proofs.Tests.{and-true, or-false, both-passed, first-passed, first-refused, not-refused}
 use Rattle.tables.proofs.Lists.{Bits, bits-take, bits-drop}
+use Rattle.tables.proofs.Accept.{accepted, inputs-of, gates-of-length, outputs-of-length, wires-of}
 use Rattle.tables.proofs.Bad.{bad-append, bad-bits}
+use Rattle.tables.proofs.Answers.{
+  refused-passed,
+  refused-fails,
+  Clean,
+  clean-else,
+  clean-if,
+  clean-bits,
+  clean-table,
+}
 
--- number and place of an answer that is this fault
-pub refused-as : {f : Fault} {g : Fault} {r : DR.Refusal} → f ≡ g → Refused g r → Refused f r
-refused-as {f} {g} {r} e h = subst (λ (y : Fault). Refused y r) (sym e) h
+-- a chain of two checks, of which the first refuses, or not
+pub first-of :
+    (f g : Fault) (r : DR.Refusal) → Refused f r → (r .number ≡ 0 → ⊥) → Refused (orElse f g) r
+first-of f g r h k = rw (first-refused f g (refused-fails f r h k)) h
 
-pub passed-none : (f : Fault) (r : DR.Refusal) → Refused f r → r .number ≡ 0 → passed f ≡ true
-passed-none f r h e = eq-eqb (f .number) 0 (sym (h .number) ∙ e)
+pub second-of :
+    (f g : Fault) (r q : DR.Refusal) → Refused f r → r .number ≡ 0 → Refused g q → Refused (orElse f g) q
+second-of f g r q h k m = rw (first-passed f g (refused-passed f r h k)) m
 
-pub passed-not : (f : Fault) (r : DR.Refusal) → Refused f r → (r .number ≡ 0 → ⊥) → passed f ≡ false
-passed-not f r h e = ne-eqb (f .number) 0 (λ z. e (h .number ∙ z))
+pub or-else-assoc : (f g h : Fault) → orElse f (orElse g h) ≡ orElse (orElse f g) h
+or-else-assoc f g h = go (passed f) refl
+  where
+    go : (t : Bool) → passed f ≡ t → pick t (orElse g h) f ≡ orElse (pick t g f) h
+    go true e = refl
+    go false e = rw e
+
+-- the table's sizes as its fields have them
+pub accepted-long : (s : List ℕ) → passed (tableFault s) ≡ true → length s ≡ 6 + 5 * word s 2 + 2 * word s 4
+accepted-long s h = omega (arith, accepted s h .long, gates-of-length s, outputs-of-length s)
 
 -- two lists of bits joined: the first bad byte is in the first, in the second, or in neither
-module _ (xs ys : List ℕ) (p q : ℕ) (a : FirstBad xs p) (b : FirstBad ys q) where
-  joined : badBit 0 (xs ++ ys)
-      ≡ orElse (pick (ltb p (length xs)) (fault 11 p) none)
+module _ (xs ys : List ℕ) {p q : ℕ} (a : FirstBad xs p) (b : FirstBad ys q) where
+  joined :
+      badBit 0 (xs ++ ys)
+      ≡ orElse
+      (pick (ltb p (length xs)) (fault 11 p) none)
       (pick (ltb q (length ys)) (fault 11 (length xs + q)) none)
   joined = bad-append 0 xs ys ∙ rw (a .bad 0, b .bad (0 + length xs), zero-add, zero-add)
-
-  pub bad-first : p < length xs → badBit 0 (xs ++ ys) ≡ fault 11 p
-  bad-first h = joined ∙ rw (lt-ltb p (length xs) h)
 
   pub bad-second : length xs ≤ p → q < length ys → badBit 0 (xs ++ ys) ≡ fault 11 (length xs + q)
   bad-second h k = joined ∙ rw (le-ltb p (length xs) h, lt-ltb q (length ys) k)
@@ -45,48 +65,90 @@ module _ (xs ys : List ℕ) (p q : ℕ) (a : FirstBad xs p) (b : FirstBad ys q) 
   pub bad-neither : length xs ≤ p → length ys ≤ q → badBit 0 (xs ++ ys) ≡ none
   bad-neither h k = joined ∙ rw (le-ltb p (length xs) h, le-ltb q (length ys) k)
 
--- the refusals in turn
-module _ (s xs rs : List ℕ) (a b : ℕ) where
-  pub run-table-refused : passed (tableFault s) ≡ false → runFault s xs rs a b ≡ tableFault s
-  unfolding runFault
-  run-table-refused h = rw h
+pub bad-first :
+    (xs ys : List ℕ) {p : ℕ} → FirstBad xs p → p < length xs → badBit 0 (xs ++ ys) ≡ fault 11 p
+bad-first xs ys {p} a h =
+    bad-append 0 xs ys ∙ rw (a .bad 0, zero-add, lt-ltb p (length xs) h)
 
-  pub inputs-refused :
-      passed (tableFault s) ≡ true → (length xs ≡ tableOf s .inputs → ⊥) → runFault s xs rs a b ≡ fault 10 0
-  unfolding runFault
-  inputs-refused h k = rw (h, ne-eqb (length xs) (tableOf s .inputs) k)
+-- what is supplied: the counts as the code reads them
+module _ (s xs rs : List ℕ) where
+  pub inputs-refused : (n : ℕ) → n ≡ word s 0 → (length xs ≡ n → ⊥) → supplyFault s xs rs ≡ fault 10 0
+  unfolding supplyFault
+  inputs-refused n e k =
+      rw (ne-eqb (length xs) (tableOf s .inputs) (λ z. k (z ∙ inputs-of s ∙ sym e)))
 
-  module _ (h : passed (tableFault s) ≡ true) (i : length xs ≡ tableOf s .inputs) where
-    pub random-refused : (length rs ≡ randoms (tableOf s .gates) → ⊥) → runFault s xs rs a b ≡ fault 10 0
-    unfolding runFault
+  module _
+      {n g m : ℕ}
+      (i : n ≡ word s 0)
+      (e : g ≡ word s 2)
+      (c : m ≡ randoms (gatesFrom g (drop 6 s) (drop (6 + g) s)))
+      (h : length xs ≡ n) where
+    inputs-right : length xs ≡ tableOf s .inputs
+    inputs-right = h ∙ i ∙ sym (inputs-of s)
+
+    counted : m ≡ randoms (tableOf s .gates)
+    unfolding tableOf
+    counted = rw e at c
+
+    pub random-refused : (length rs ≡ m → ⊥) → supplyFault s xs rs ≡ fault 10 0
+    unfolding supplyFault
     random-refused k =
-        rw (h, eq-eqb (length xs) (tableOf s .inputs) i, ne-eqb (length rs) (randoms (tableOf s .gates)) k)
+        rw (
+          eq-eqb (length xs) (tableOf s .inputs) inputs-right,
+          ne-eqb (length rs) (randoms (tableOf s .gates)) (λ z. k (z ∙ sym counted)),
+        )
 
-    module _ (n : length rs ≡ randoms (tableOf s .gates)) where
-      abbrev room : Bool
-      room = ltb a (wires (tableOf s)) || ltb b (length (tableOf s .outputs))
+    pub supply-bits : length rs ≡ m → supplyFault s xs rs ≡ badBit 0 (xs ++ rs)
+    unfolding supplyFault
+    supply-bits k =
+        rw (
+          eq-eqb (length xs) (tableOf s .inputs) inputs-right,
+          eq-eqb (length rs) (randoms (tableOf s .gates)) (k ∙ counted),
+        )
 
-      counted : runFault s xs rs a b ≡ orElse (badBit 0 (xs ++ rs)) (refusedIf room 9)
-      unfolding runFault
-      counted = rw (h, eq-eqb (length xs) (tableOf s .inputs) i, eq-eqb (length rs) (randoms (tableOf s .gates)) n)
+-- what is lent: the sizes as the code reads them
+module _ (s : List ℕ) (a b : ℕ) {n g : ℕ} (i : n ≡ word s 0) (e : g ≡ word s 2) where
+  pub values-refused : a < n + g → roomFault s a b ≡ fault 9 0
+  unfolding roomFault
+  values-refused k = rw (lt-ltb a (wires (tableOf s)) (omega (arith, wires-of s)))
 
-      pub bits-refused : (p : ℕ) → badBit 0 (xs ++ rs) ≡ fault 11 p → runFault s xs rs a b ≡ fault 11 p
-      bits-refused p e = counted ∙ rw e
+  module _ {o : ℕ} (f : o ≡ word s 4) (k : n + g ≤ a) where
+    pub outputs-refused : b < o → roomFault s a b ≡ fault 9 0
+    unfolding roomFault
+    outputs-refused m =
+        rw (
+          le-ltb a (wires (tableOf s)) (omega (arith, wires-of s)),
+          lt-ltb b (length (tableOf s .outputs)) (omega (arith, outputs-of-length s)),
+        )
 
-      pub values-refused : badBit 0 (xs ++ rs) ≡ none → a < wires (tableOf s) → runFault s xs rs a b ≡ fault 9 0
-      values-refused e k = counted ∙ rw (e, lt-ltb a (wires (tableOf s)) k)
+    pub room-enough : o ≤ b → roomFault s a b ≡ none
+    unfolding roomFault
+    room-enough m =
+        rw (
+          le-ltb a (wires (tableOf s)) (omega (arith, wires-of s)),
+          le-ltb b (length (tableOf s .outputs)) (omega (arith, outputs-of-length s)),
+        )
 
-      pub outputs-refused :
-          badBit 0 (xs ++ rs) ≡ none → wires (tableOf s) ≤ a → b < length (tableOf s .outputs)
-          → runFault s xs rs a b ≡ fault 9 0
-      outputs-refused e k m =
-          counted ∙ rw (e, le-ltb a (wires (tableOf s)) k, lt-ltb b (length (tableOf s .outputs)) m)
+-- the three parts in turn
+pub run-fault-parts :
+    (s xs rs : List ℕ) (a b : ℕ)
+    → runFault s xs rs a b ≡ orElse (tableFault s) (orElse (supplyFault s xs rs) (roomFault s a b))
+unfolding runFault supplyFault roomFault
+run-fault-parts s xs rs a b =
+    let t = tableOf s in
+    let count = not (eqb (length xs) (t .inputs) && eqb (length rs) (randoms (t .gates))) in
+    ap {A = Fault} {B = Fault} (orElse (tableFault s))
+    (or-else-assoc (refusedIf count 10) (badBit 0 (xs ++ rs)) (roomFault s a b))
 
-      pub none-refused :
-          badBit 0 (xs ++ rs) ≡ none → wires (tableOf s) ≤ a → length (tableOf s .outputs) ≤ b
-          → runFault s xs rs a b ≡ none
-      none-refused e k m =
-          counted ∙ rw (e, le-ltb a (wires (tableOf s)) k, le-ltb b (length (tableOf s .outputs)) m)
+-- a run that is not refused answers place 0
+pub clean-run : (s xs rs : List ℕ) (a b : ℕ) → Clean (runFault s xs rs a b)
+unfolding runFault
+clean-run s xs rs a b =
+    let t = tableOf s in
+    let count = not (eqb (length xs) (t .inputs) && eqb (length rs) (randoms (t .gates))) in
+    let room = ltb a (wires t) || ltb b (length (t .outputs)) in
+    let last = clean-else (badBit 0 (xs ++ rs)) (refusedIf room 9) (clean-bits 0 _) (clean-if room 9 refl) in
+    clean-else (tableFault s) _ (clean-table s) (clean-else (refusedIf count 10) _ (clean-if count 10 refl) last)
 
 bits-front : (xs ys : List ℕ) → Bits (xs ++ ys) → Bits xs
 bits-front xs ys h = subst (λ (l : List ℕ). Bits l) (take-append-seam xs ys) (bits-take (length xs) (xs ++ ys) h)

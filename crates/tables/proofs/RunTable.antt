@@ -26,7 +26,8 @@ use Rattle.tables.proofs.Accept.{
   outputs-passed,
 }
 use Rattle.tables.proofs.Loops.{word-drop}
-use Rattle.tables.proofs.RunFault.{passed-none, passed-not, RunGood}
+use Rattle.tables.proofs.Answers.{refused-fails, answered-refused, answered-passed}
+use Rattle.tables.proofs.RunFault.{accepted-long, clean-run, RunGood}
 
 -- the front of a buffer over which xs was written, and what follows xs
 pub over-take : (xs b : List ℕ) → take (length xs) (over xs b) ≡ xs
@@ -64,10 +65,6 @@ word-at (suc n) s p (suc i) h =
 outputs-of : (s : List ℕ) → tableOf s .outputs ≡ wordsFrom (word s 4) (drop (6 + 5 * word s 2) s)
 unfolding tableOf
 outputs-of s = refl
-
--- the table's sizes as its fields have them
-pub accepted-long : (s : List ℕ) → passed (tableFault s) ≡ true → length s ≡ 6 + 5 * word s 2 + 2 * word s 4
-accepted-long s h = omega (arith, accepted s h .long, gates-of-length s, outputs-of-length s)
 
 module _ (s xs rs a b : List ℕ) (r : RunGood s xs rs (length a) (length b)) where
   abbrev t : Table
@@ -137,28 +134,21 @@ module _ (s xs rs a b : List ℕ) (r : RunGood s xs rs (length a) (length b)) wh
 
 -- what a refused run and a run that is not refused answer
 pub run-refused :
-    (s xs rs a b : List ℕ) (r : DR.Refusal) (q : DA.Answer)
-    → Refused (runFault s xs rs (length a) (length b)) r → (r .number ≡ 0 → ⊥)
-    → q .number ≡ r .number → q .place ≡ r .place → q .value ≡ 0 → RunSays s xs rs a a b b q
-run-refused s xs rs a b r q h k en ep ev =
+    (s xs rs a b : List ℕ) (r : DR.Refusal) → Refused (runFault s xs rs (length a) (length b)) r
+    → (r .number ≡ 0 → ⊥) → RunSays s xs rs a a b b (record { number = r .number; place = r .place; value = 0 })
+run-refused s xs rs a b r h k =
     let f = runFault s xs rs (length a) (length b) in
-    let e : passed f ≡ false = passed-not f r h k in
-    record {
-      answer = record { number = en ∙ h .number; place = ep ∙ h .place; value = rw e ev };
-      values = rw e;
-      outputs = rw e;
-    }
+    let e : passed f ≡ false = refused-fails f r h k in
+    record { answer = answered-refused f _ r h k; values = rw e; outputs = rw e }
 
 pub run-done :
-    (s xs rs a a′ b b′ : List ℕ) (r : DR.Refusal) (q : DA.Answer)
-    → Refused (runFault s xs rs (length a) (length b)) r → r .number ≡ 0
+    (s xs rs a a′ b b′ : List ℕ) (v : ℕ) → passed (runFault s xs rs (length a) (length b)) ≡ true
     → a′ ≡ over (run (tableOf s) xs rs) a → b′ ≡ over (outputsOf (tableOf s) (run (tableOf s) xs rs)) b
-    → q .number ≡ r .number → q .place ≡ r .place → q .value ≡ wires (tableOf s) → RunSays s xs rs a a′ b b′ q
-run-done s xs rs a a′ b b′ r q h k ea eb en ep ev =
+    → v ≡ wires (tableOf s) → RunSays s xs rs a a′ b b′ (record { number = 0; place = 0; value = v })
+run-done s xs rs a a′ b b′ v e ea eb ev =
     let f = runFault s xs rs (length a) (length b) in
-    let e : passed f ≡ true = passed-none f r h k in
     record {
-      answer = record { number = en ∙ h .number; place = ep ∙ h .place; value = rw e ev };
+      answer = rw ev (answered-passed f (wires (tableOf s)) (clean-run s xs rs (length a) (length b)) e);
       values = rw e ea;
       outputs = rw e eb;
     }

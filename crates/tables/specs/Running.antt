@@ -2,13 +2,14 @@
 -- outputs read from the wires.
 -- Assumes nothing.
 use mathlib.Core.Path.{_≡_}
-use mathlib.Core.Bool.{true}
-use mathlib.Core.List.{List}
+use mathlib.Core.Bool.{true, _&&_, _||_, not}
+use mathlib.Core.List.{List, _++_}
 use Prim.Native.Nat.{ℕ, _+_, _*_, _≤_, _<_}
+use lib.Dec.{eqb, ltb}
 use lib.ListN.{length, getD}
 use Rattle.tables.specs.declared.Drawn as DD
-use Rattle.tables.specs.Refusals.{passed}
-use Rattle.tables.specs.Tables.{kindOf, word, tableOf, tableFault}
+use Rattle.tables.specs.Refusals.{Fault, passed, orElse, refusedIf, badBit}
+use Rattle.tables.specs.Tables.{kindOf, wires, word, tableOf, tableFault}
 use Rattle.tables.specs.Runs.{driven, drawn, randoms}
 
 -- a known kind, two bits, and a random bit where the kind takes one
@@ -39,3 +40,14 @@ pub record OutputsReady (s : List ℕ) (start n : ℕ) (vs out : List ℕ) : Typ
   pub within : start + 2 * n ≤ length s
   pub wires : (i : ℕ) → i < n → word s (start + 2 * i) < length vs
   pub room : n ≤ length out
+
+-- what a run is supplied with: 10, then 11
+unfoldable pub supplyFault : List ℕ → List ℕ → List ℕ → Fault
+supplyFault s xs rs =
+    orElse
+    (refusedIf (not (eqb (length xs) (tableOf s .inputs) && eqb (length rs) (randoms (tableOf s .gates)))) 10)
+    (badBit 0 (xs ++ rs))
+
+-- the lengths lent for the values and the outputs of a run: 9
+unfoldable pub roomFault : List ℕ → ℕ → ℕ → Fault
+roomFault s a b = refusedIf (ltb a (wires (tableOf s)) || ltb b (length (tableOf s .outputs))) 9

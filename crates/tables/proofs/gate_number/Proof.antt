@@ -1,0 +1,35 @@
+-- `tables::gate_number` meets its contract: the kind first, then the operands against their limits.
+-- Assumes nothing.
+use native.Mathlib.Omega.{arith}
+use Rattle.tables.proofs.Checks.{number-kind, number-left, number-right, number-good}
+use Rattle.tables.proofs.gate_number.Statement.{statement}
+use Rattle.tables.proofs.gate_number.Tie as tie
+
+returns : tie.Need-returns
+returns c = number-kind _ _ _ _ (c .if1 .taken)
+
+left-limit-requires : tie.Need-left-limit-requires
+left-limit-requires c κs = tt
+
+returns-2 : tie.Need-returns-2
+returns-2 c = number-left _ _ _ _ (c .before .before .if1 .left) (omega (arith, c .before .left-limit .ensures))
+
+right-limit-requires : tie.Need-right-limit-requires
+right-limit-requires c κs = tt
+
+returns-3 : tie.Need-returns-3
+returns-3 c =
+    number-right _ _ _ _ (c .before .before .before .before .if1 .left)
+    (omega (arith, c .before .before .before .left-limit .ensures))
+    (omega (arith, c .before .right-limit .ensures))
+
+returns-4 : tie.Need-returns-4
+returns-4 c =
+    number-good _ _ _ _ (c .before .before .before .before .if1 .left)
+    (omega (arith, c .before .before .before .left-limit .ensures))
+    (omega (arith, c .before .right-limit .ensures))
+
+pub gate-number-spec : {M : Type 1} → statement M
+gate-number-spec =
+    tie.close
+    (tie.spec returns left-limit-requires returns-2 right-limit-requires returns-3 returns-4)
