@@ -9,3 +9,8 @@ pub mod Bad
 pub mod Loops
 pub mod Answers
 pub mod Checks
+pub mod Gate
+pub mod Running
+pub mod Filling
+pub mod RunFault
+pub mod RunTable
