@@ -57,7 +57,9 @@ pub fn field(s: &[u8], at: usize) -> usize
     requires { ⌜ at + 1 < length (now s) ⌝ }
     ensures { λ r. ⌜ (r ≡ word (now (s .entry)) at) × (r < 65536) ⌝ }
 {
-    s[at] as usize + 256 * s[at + 1] as usize
+    let low = s[at] as usize;
+    let high = s[at + 1] as usize;
+    low + 256 * high
 }
 
 // Writes a two-byte field, low byte first.
@@ -149,9 +151,10 @@ fn gates_fault(table: &[u8], inputs: usize, gates: usize) -> Refusal
         let right = field(table, 8 + gates + 4 * g);
         let number = gate_number(table[6 + g], left, right, inputs + g);
         if number != 0 {
+            let place = g as u32;
             break 'gates Refusal {
                 number: number,
-                place: g as u32,
+                place: place,
             };
         }
         g += 1;
@@ -167,9 +170,10 @@ fn outputs_fault(table: &[u8], start: usize, outputs: usize, wires: usize) -> Re
     let mut o = 0;
     while o < outputs {
         if field(table, start + 2 * o) >= wires {
+            let place = o as u32;
             return Refusal {
                 number: 5,
-                place: o as u32,
+                place: place,
             };
         }
         o += 1;
