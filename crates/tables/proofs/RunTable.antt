@@ -80,6 +80,12 @@ module _ (s xs rs a b : List ℕ) (r : RunGood s xs rs (length a) (length b)) wh
   unfolding run
   ran-length = omega (arith, run-length (t .gates) rs xs, r .inputs)
 
+  pub wires-are : (g : ℕ) → g ≡ word s 2 → length xs + g ≡ wires t
+  wires-are g e = omega (arith, r .inputs, gates-of-length s)
+
+  pub few-wires : (g : ℕ) → g ≡ word s 2 → length xs + g ≤ 65535
+  few-wires g e = omega (arith, wires-are g e, accepted s (r .accepted) .few-wires)
+
   pub run-ready : (v : List ℕ) (g : ℕ) → v ≡ over xs a → g ≡ word s 2 → RunReady s rs v (length xs) g
   run-ready v g ev eg =
       record {
