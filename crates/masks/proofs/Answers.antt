@@ -6,7 +6,6 @@ use mathlib.Core.Bool.{true, false}
 use mathlib.Core.List.{List}
 use Prim.Native.Nat.{ℕ}
 use borrow.Author.Tests.{eq-eqb, ne-eqb}
-use Rattle.tables.specs.declared.Answer as DA
 use Rattle.tables.specs.declared.Refusal as DR
 use Rattle.tables.specs.Refusals.{Fault, none, passed}
 use Rattle.tables.specs.Says.{Refused, Answered, over, left}

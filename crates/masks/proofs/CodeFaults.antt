@@ -1,6 +1,6 @@
 -- The refusals of encoding and decoding one by one, in their order, and what a call that none refuses is given.
 -- Assumes nothing.
-use mathlib.Core.Path.{_≡_, refl, sym, _∙_}
+use mathlib.Core.Path.{_≡_, refl, _∙_}
 use mathlib.Core.Bool.{true, false, not}
 use mathlib.Core.List.{List, [], _∷_, _++_}
 use Prim.Native.Nat.{ℕ, suc, _+_, _*_, _/_, _%_, _≤_, _<_}
@@ -11,7 +11,7 @@ use borrow.Author.Tests.{leb-true, ltb-false, eqb-true, not-false, lt-ltb, le-lt
 use lib.Dec.{leb, ltb, eqb}
 use lib.ListN.{length}
 use Rattle.tables.specs.declared.Refusal as DR
-use Rattle.tables.specs.Refusals.{Fault, fault, none, passed, orElse, refusedIf, badBit}
+use Rattle.tables.specs.Refusals.{fault, none, passed, orElse, refusedIf, badBit}
 use Rattle.tables.specs.Says.{FirstBad, Refused}
 use Rattle.tables.proofs.Lists.{Bits}
 use Rattle.tables.proofs.Tests.{and-true, both-passed, first-refused, not-refused}
