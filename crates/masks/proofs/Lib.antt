@@ -8,9 +8,5 @@ pub mod Costs
 pub mod Placed
 pub mod Passed
 pub mod Codes
-pub mod Answers
-pub mod CodeFaults
-pub mod Encoding
-pub mod Decoding
 pub mod And
 pub mod Shares

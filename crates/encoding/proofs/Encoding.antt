@@ -15,12 +15,12 @@ use Rattle.tables.specs.Says.{Refused, over, putAt}
 use Rattle.tables.specs.Runs.{xor}
 use Rattle.tables.proofs.Lists.{Bits}
 use Rattle.tables.proofs.Put.{put-length, put-zero, put-nil, put-set, put-append}
 use Rattle.masks.specs.Shares.{sharesOf}
 use Rattle.masks.specs.Codes.{xorAll, encode}
 use Rattle.masks.specs.Says.{encodeFault, EncodeSays}
-use Rattle.masks.proofs.Answers.{answered-refused, left-refused, answered-none, left-none}
-use Rattle.masks.proofs.CodeFaults.{EncodePassed}
+use Rattle.encoding.proofs.Answers.{answered-refused, left-refused, answered-none, left-none}
+use Rattle.encoding.proofs.CodeFaults.{EncodePassed}
 use Rattle.masks.proofs.Codes.{group, group-length, encode-cons}
 
 -- of two bits
 pub bit-xor : (a b : ℕ) → a ≤ 1 → b ≤ 1 → bitXor a b ≡ xor a b

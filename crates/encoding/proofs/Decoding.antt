@@ -13,11 +13,11 @@ use Rattle.tables.specs.Says.{Refused, over, putAt}
 use Rattle.tables.specs.Runs.{xor}
 use Rattle.tables.proofs.Lists.{Bits}
 use Rattle.tables.proofs.Put.{put-nil, put-zero}
 use Rattle.masks.specs.Codes.{xorAll, decodeFrom, decode}
 use Rattle.masks.specs.Says.{decodeFault, DecodeSays}
-use Rattle.masks.proofs.Answers.{answered-refused, left-refused, answered-none, left-none}
-use Rattle.masks.proofs.CodeFaults.{DecodePassed}
-use Rattle.masks.proofs.Encoding.{bit-xor, part, part-next, part-end, put-cons}
+use Rattle.encoding.proofs.Answers.{answered-refused, left-refused, answered-none, left-none}
+use Rattle.encoding.proofs.CodeFaults.{DecodePassed}
+use Rattle.encoding.proofs.Encoding.{bit-xor, part, part-next, part-end, put-cons}
 
 -- while n shares from a place on are added: those from j on are left, where `sum` is what the others give
 pub record Adding (bs : List ℕ) (at n j sum : ℕ) : Type 0 where

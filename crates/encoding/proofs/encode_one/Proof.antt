@@ -3,9 +3,9 @@
 use Prim.Native.Nat.{_*_, _-_}
 use native.Mathlib.Omega.{arith}
 use lib.ListN.{length-set}
-use Rattle.masks.proofs.Encoding.{Copying, copying-start, copying-turn, copying-end}
-use Rattle.masks.proofs.encode_one.Statement.{statement}
-use Rattle.masks.proofs.encode_one.Tie as tie
+use Rattle.encoding.proofs.Encoding.{Copying, copying-start, copying-turn, copying-end}
+use Rattle.encoding.proofs.encode_one.Statement.{statement}
+use Rattle.encoding.proofs.encode_one.Tie as tie
 
 abbrev Inv-loop : tie.InvT-loop
 Inv-loop order secret tape from out₀ at bits last₀ s₀ out last s = Copying order secret tape from out₀ at s last out

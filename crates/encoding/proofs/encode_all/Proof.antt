@@ -3,9 +3,9 @@
 use Prim.Native.Nat.{_+_, _-_, _*_, _≤_, _<_}
 use native.Mathlib.Omega.{arith}
 use lib.ListN.{length}
-use Rattle.masks.proofs.Encoding.{Encoding, encoding-start, encoding-fits, encoding-turn, encoding-end}
-use Rattle.masks.proofs.encode_all.Statement.{statement}
-use Rattle.masks.proofs.encode_all.Tie as tie
+use Rattle.encoding.proofs.Encoding.{Encoding, encoding-start, encoding-fits, encoding-turn, encoding-end}
+use Rattle.encoding.proofs.encode_all.Statement.{statement}
+use Rattle.encoding.proofs.encode_all.Tie as tie
 
 abbrev Inv-loop : tie.InvT-loop
 Inv-loop order secrets tape out₀ bits from₀ at₀ i₀ out from at i = Encoding order secrets tape out₀ i from at out

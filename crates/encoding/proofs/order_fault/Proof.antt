@@ -1,10 +1,10 @@
 -- `masks::order_fault` meets its contract: one law for each test.
 -- Assumes nothing.
 use native.Mathlib.Omega.{arith}
-use Rattle.masks.proofs.Answers.{refused}
-use Rattle.masks.proofs.CodeFaults.{order-low, order-high, order-none}
-use Rattle.masks.proofs.order_fault.Statement.{statement}
-use Rattle.masks.proofs.order_fault.Tie as tie
+use Rattle.encoding.proofs.Answers.{refused}
+use Rattle.encoding.proofs.CodeFaults.{order-low, order-high, order-none}
+use Rattle.encoding.proofs.order_fault.Statement.{statement}
+use Rattle.encoding.proofs.order_fault.Tie as tie
 
 fault-at-requires : tie.Need-fault-at-requires
 fault-at-requires c κs = omega arith

@@ -4,9 +4,9 @@ use mathlib.Core.Path.{_≡_}
 use mathlib.Core.Bool.{true}
 use native.Mathlib.Omega.{arith}
 use lib.ListN.{length}
 use Rattle.masks.specs.Says.{orderOk}
-use Rattle.masks.proofs.Answers.{refused}
-use Rattle.masks.proofs.CodeFaults.{
+use Rattle.encoding.proofs.Answers.{refused}
+use Rattle.encoding.proofs.CodeFaults.{
   order-good,
   order-in,
   shares-fit,
@@ -19,8 +19,8 @@ use Rattle.masks.proofs.CodeFaults.{
   encode-short,
   encode-none,
 }
-use Rattle.masks.proofs.encode_fault.Statement.{statement}
-use Rattle.masks.proofs.encode_fault.Tie as tie
+use Rattle.encoding.proofs.encode_fault.Statement.{statement}
+use Rattle.encoding.proofs.encode_fault.Tie as tie
 
 -- past the order's test, and past the test of the tape's length
 ordered : (c : tie.Else1) → orderOk (c .before .before .before .before .before .args .order) ≡ true

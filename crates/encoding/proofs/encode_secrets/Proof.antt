@@ -2,11 +2,11 @@
 -- Assumes nothing.
 use native.Mathlib.Omega.{arith}
 use lib.ListN.{length}
-use Rattle.masks.proofs.Answers.{refused-passed}
-use Rattle.masks.proofs.CodeFaults.{EncodePassed, encode-passed}
-use Rattle.masks.proofs.Encoding.{encode-refuses, encode-succeeds}
-use Rattle.masks.proofs.encode_secrets.Statement.{statement}
-use Rattle.masks.proofs.encode_secrets.Tie as tie
+use Rattle.encoding.proofs.Answers.{refused-passed}
+use Rattle.encoding.proofs.CodeFaults.{EncodePassed, encode-passed}
+use Rattle.encoding.proofs.Encoding.{encode-refuses, encode-succeeds}
+use Rattle.encoding.proofs.encode_secrets.Statement.{statement}
+use Rattle.encoding.proofs.encode_secrets.Tie as tie
 
 -- past the refusals
 accepted :

@@ -2,9 +2,9 @@
 -- Assumes nothing.
 use Prim.Native.Nat.{_-_}
 use native.Mathlib.Omega.{arith}
-use Rattle.masks.proofs.Decoding.{Decoding, decoding-start, decoding-fits, decoding-turn, decoding-end}
-use Rattle.masks.proofs.decode_all.Statement.{statement}
-use Rattle.masks.proofs.decode_all.Tie as tie
+use Rattle.encoding.proofs.Decoding.{Decoding, decoding-start, decoding-fits, decoding-turn, decoding-end}
+use Rattle.encoding.proofs.decode_all.Statement.{statement}
+use Rattle.encoding.proofs.decode_all.Tie as tie
 
 abbrev Inv-loop : tie.InvT-loop
 Inv-loop shares n count out₀ at₀ i₀ out at i = Decoding shares n count out₀ at i out

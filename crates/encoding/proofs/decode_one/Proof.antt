@@ -2,9 +2,9 @@
 -- Assumes nothing.
 use Prim.Native.Nat.{_-_}
 use native.Mathlib.Omega.{arith}
-use Rattle.masks.proofs.Decoding.{Adding, adding-start, adding-turn, adding-end}
-use Rattle.masks.proofs.decode_one.Statement.{statement}
-use Rattle.masks.proofs.decode_one.Tie as tie
+use Rattle.encoding.proofs.Decoding.{Adding, adding-start, adding-turn, adding-end}
+use Rattle.encoding.proofs.decode_one.Statement.{statement}
+use Rattle.encoding.proofs.decode_one.Tie as tie
 
 abbrev Inv-loop : tie.InvT-loop
 Inv-loop shares at n sum₀ j₀ sum j = Adding shares at n j sum

@@ -17,9 +17,9 @@ use Rattle.tables.proofs.Lists.{Bits}
 use Rattle.tables.proofs.Tests.{and-true, both-passed, first-refused, not-refused}
 use Rattle.tables.proofs.Accept.{pick-passed}
 use Rattle.tables.proofs.Bad.{bad-append, bad-bits}
 use Rattle.masks.specs.Shares.{sharesOf}
 use Rattle.masks.specs.Says.{orderOk, orderFault, encodeFault, decodeFault}
-use Rattle.masks.proofs.Answers.{refused-passed, refused-failed}
+use Rattle.encoding.proofs.Answers.{refused-passed, refused-failed}
 
 pub order-low : (o : ℕ) → o < 1 → orderFault o ≡ fault 6 0
 order-low o h = rw (lt-leb 1 o h)

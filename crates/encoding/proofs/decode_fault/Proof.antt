@@ -3,9 +3,9 @@
 use mathlib.Core.Path.{_≡_}
 use mathlib.Core.Bool.{true}
 use native.Mathlib.Omega.{arith}
 use Rattle.masks.specs.Says.{orderOk}
-use Rattle.masks.proofs.Answers.{refused}
-use Rattle.masks.proofs.CodeFaults.{
+use Rattle.encoding.proofs.Answers.{refused}
+use Rattle.encoding.proofs.CodeFaults.{
   order-good,
   decode-order,
   decode-many,
@@ -15,8 +15,8 @@ use Rattle.masks.proofs.CodeFaults.{
   decode-short,
   decode-none,
 }
-use Rattle.masks.proofs.decode_fault.Statement.{statement}
-use Rattle.masks.proofs.decode_fault.Tie as tie
+use Rattle.encoding.proofs.decode_fault.Statement.{statement}
+use Rattle.encoding.proofs.decode_fault.Tie as tie
 
 -- past the order's test, and past the test of the shares' number
 ordered : (c : tie.Else1) → orderOk (c .before .before .before .before .args .order) ≡ true

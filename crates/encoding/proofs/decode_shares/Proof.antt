@@ -5,11 +5,11 @@ use native.Mathlib.Nat.{mul-div-le, div-le-self}
 use native.Mathlib.Numerals.{add-one}
 use native.Mathlib.Omega.{arith}
 use lib.ListN.{length}
-use Rattle.masks.proofs.Answers.{refused-passed}
-use Rattle.masks.proofs.CodeFaults.{DecodePassed, decode-passed}
-use Rattle.masks.proofs.Decoding.{decode-refuses, decode-succeeds}
-use Rattle.masks.proofs.decode_shares.Statement.{statement}
-use Rattle.masks.proofs.decode_shares.Tie as tie
+use Rattle.encoding.proofs.Answers.{refused-passed}
+use Rattle.encoding.proofs.CodeFaults.{DecodePassed, decode-passed}
+use Rattle.encoding.proofs.Decoding.{decode-refuses, decode-succeeds}
+use Rattle.encoding.proofs.decode_shares.Statement.{statement}
+use Rattle.encoding.proofs.decode_shares.Tie as tie
 
 -- past the refusals
 accepted :
