@@ -5,7 +5,7 @@ ghost use mathlib.Core.List.{_++_};
 ghost use Prim.Native.Nat.{_+_, _*_, _≤_, _<_};
 ghost use lib.ListN.{length, take, drop};
 ghost use Rattle.tables.specs.Refusals.{passed, badBit};
-ghost use Rattle.tables.specs.Tables.{kindOf, gate, two, gatesFrom, wordsFrom, tableOf, tableFault};
+ghost use Rattle.tables.specs.Tables.{kindOf, gatesFrom, wordsFrom, tableOf, tableFault};
 ghost use Rattle.tables.specs.Runs.{drawn, runFrom, readAll, randoms};
 ghost use Rattle.tables.specs.Says.{Refused, over, runFault, RunSays};
 ghost use Rattle.running.specs.Running.{GateReady, GateSays, RunReady, OutputsReady, supplyFault, roomFault};
