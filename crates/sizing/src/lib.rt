@@ -230,7 +230,7 @@ pub fn plan_table(table: &[u8], order: u8) -> Planned
 }
 
 // How many bytes the masked table of a plan has.
-fn plan_bytes(p: Plan) -> usize
+pub fn plan_bytes(p: Plan) -> usize
     requires { ⌜ PlanFits p ⌝ }
     ensures { λ r. ⌜ r ≡ planBytes p ⌝ }
 {
