@@ -9,3 +9,6 @@ pub mod Bad
 pub mod Loops
 pub mod Answers
 pub mod Checks
+pub mod Gate
+pub mod Running
+pub mod Filling

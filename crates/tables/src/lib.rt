@@ -1,6 +1,6 @@
 ghost use mathlib.Core.Path.{_≡_};
 ghost use Prim.Native.Nat.{ℕ, _+_, _*_, _≤_, _<_};
-ghost use lib.ListN.{length, getD, drop};
+ghost use lib.ListN.{length, getD, take, drop};
 ghost use Rattle.tables.specs.Refusals.{numbered};
 ghost use Rattle.tables.specs.Tables.{
   kindOf,
@@ -9,13 +9,16 @@ ghost use Rattle.tables.specs.Tables.{
   two,
   gatesFrom,
   wordsFrom,
+  tableOf,
   gateFault,
   gatesFault,
   outputsFault,
   tableFault,
 };
+ghost use Rattle.tables.specs.Runs.{runFrom};
 ghost use Rattle.tables.specs.Says.{
   Refused,
+  over,
   putAt,
   FirstBad,
   leftLimit,
@@ -23,6 +26,7 @@ ghost use Rattle.tables.specs.Says.{
   SizesSay,
   CheckSays,
 };
+ghost use Rattle.tables.specs.Running.{GateReady, GateSays, RunReady};
 
 // A refusal's number and place; number 0 is no refusal.
 pub struct Refusal {
@@ -222,5 +226,76 @@ pub fn check_table(table: &[u8]) -> Answer
         number: 0,
         place: 0,
         value: wires as u32,
+    }
+}
+
+// A gate's value and the number of the next random bit.
+pub struct Drawn {
+    pub value: u8,
+    pub next: usize,
+}
+
+// What a gate drives, from its operands' values.
+pub fn gate_value(kind: u8, a: u8, b: u8, random: &[u8], at: usize) -> Drawn
+    requires { ⌜ GateReady kind a b (now random) at ⌝ }
+    ensures { λ r. ⌜ GateSays kind a b (now (random .entry)) at r ⌝ }
+{
+    if kind == 1 {
+        return Drawn {
+            value: (a + b) % 2,
+            next: at,
+        };
+    }
+    if kind == 2 {
+        return Drawn {
+            value: a * b,
+            next: at,
+        };
+    }
+    if kind == 0 {
+        return Drawn {
+            value: 1 - a,
+            next: at,
+        };
+    }
+    Drawn {
+        value: tape_bit(random, at),
+        next: at + 1,
+    }
+}
+
+// Runs the gates over values that begin with the inputs.
+pub fn run_gates(table: &[u8], inputs: usize, gates: usize, random: &[u8], values: &mut [u8])
+    requires { ⌜ RunReady (now table) (now random) (now values) inputs gates ⌝ }
+    ensures { λ _.
+        ⌜
+        now (values .exit)
+        ≡ over
+        (runFrom (tableOf (now (table .entry)) .gates) (now (random .entry))
+        (take inputs (now (values .entry))))
+        (now (values .entry))
+        ⌝ }
+{
+    let mut next: usize = 0;
+    let mut g: usize = 0;
+    while g < gates {
+        let left = field(table, 6 + gates + 4 * g);
+        let right = field(table, 8 + gates + 4 * g);
+        let turn = gate_value(table[6 + g], values[left], values[right], random, next);
+        values[inputs + g] = turn.value;
+        next = turn.next;
+        g += 1;
+    }
+}
+
+// Copies bits to the front of a buffer.
+pub fn copy_bits(from: &[u8], to: &mut [u8])
+    requires { ⌜ length (now from) ≤ length (now to) ⌝ }
+    ensures { λ _. ⌜ now (to .exit) ≡ over (now (from .entry)) (now (to .entry)) ⌝ }
+{
+    let mut i: usize = 0;
+    while i < from.len() {
+        to[i] = from[i];
+        i += 1;
     }
 }

@@ -1,0 +1,2 @@
+-- Laws of mapping's parts, by subject.
+pub mod Walking

@@ -1,0 +1,2 @@
+-- What the parts of mapping take and give.
+pub mod Walking
