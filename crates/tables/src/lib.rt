@@ -297,15 +297,15 @@ fn gate_value(kind: u8, a: u8, b: u8, random: &[u8], at: usize) -> Drawn
             next: at,
         };
     }
-    if kind == 0 {
+    if kind == 3 {
         return Drawn {
-            value: 1 - a,
-            next: at,
+            value: tape_bit(random, at),
+            next: at + 1,
         };
     }
     Drawn {
-        value: tape_bit(random, at),
-        next: at + 1,
+        value: 1 - a,
+        next: at,
     }
 }
 
@@ -447,6 +447,17 @@ fn run_fault(table: &[u8], inputs: &[u8], random: &[u8], values: usize, outputs:
     room_fault(table, values, outputs)
 }
 
+// The answer of a refused call.
+fn refused(found: Refusal) -> Answer
+    ensures { λ r. ⌜ (r .number ≡ found .number) × (r .place ≡ found .place) × (r .value ≡ 0) ⌝ }
+{
+    Answer {
+        number: found.number,
+        place: found.place,
+        value: 0,
+    }
+}
+
 // Runs a table: one value for each wire, and the values of the output wires.
 pub fn run_table(
     table: &[u8],
@@ -469,11 +480,7 @@ pub fn run_table(
 {
     let found = run_fault(table, inputs, random, values.len(), outputs.len());
     if found.number != 0 {
-        return Answer {
-            number: found.number,
-            place: found.place,
-            value: 0,
-        };
+        return refused(found);
     }
     let gates = field(table, 2);
     copy_bits(inputs, values);
