@@ -1,16 +1,16 @@
 -- The first byte above 1: of lists joined, of what a scan has left, and what it says where there is none.
 -- Assumes nothing.
-use mathlib.Core.Path.{_≡_, refl, sym, ap, _∙_}
+use mathlib.Core.Path.{_≡_, refl, _∙_}
 use mathlib.Core.Bool.{Bool, true, false}
 use mathlib.Core.List.{List, [], _∷_, _++_}
-use Prim.Native.Nat.{ℕ, zero, suc, _+_, _≤_, _<_}
+use Prim.Native.Nat.{ℕ, suc, _+_, _≤_, _<_}
 use native.Mathlib.Nat.{add-zero, add-suc, suc-add}
 use native.Mathlib.Omega.{arith}
-use lib.Dec.{leb, ltb}
+use lib.Dec.{leb}
 use lib.ListN.{length, getD, drop, drop-of-length-le}
 use lib.Seq.{drop-cons}
 use borrow.Author.Tests.{leb-true, le-leb, lt-leb, lt-ltb, le-ltb}
-use Rattle.tables.specs.Refusals.{pick, Fault, fault, none, passed, orElse, badBit}
+use Rattle.tables.specs.Refusals.{pick, fault, passed, orElse, badBit}
 use Rattle.tables.specs.Says.{FirstBad}
 use Rattle.tables.proofs.Lists.{Bits, bits-nil, bits-cons}
 use Rattle.tables.proofs.Accept.{pick-passed}

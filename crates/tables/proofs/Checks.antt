@@ -1,17 +1,16 @@
 -- Checking a table, step by step: what each test that the code makes says of the definition's chain of refusals.
 -- Assumes nothing.
-use mathlib.Core.Path.{_≡_, refl, sym, ap, _∙_}
-use mathlib.Core.Bool.{Bool, true, false, _&&_, _||_, not}
-use mathlib.Core.List.{List, [], _∷_}
-use Prim.Native.Nat.{ℕ, zero, suc, _+_, _-_, _*_, _≤_, _<_}
+use mathlib.Core.Path.{_≡_, refl, ap, _∙_}
+use mathlib.Core.Bool.{Bool, true, false, _&&_, _||_}
+use mathlib.Core.List.{List}
+use Prim.Native.Nat.{ℕ, zero, suc, _+_, _*_, _≤_, _<_}
 use native.Mathlib.Nat.{add-zero, add-suc}
 use native.Mathlib.Omega.{arith}
 use lib.Dec.{eqb, ltb}
 use lib.ListN.{length, getD, drop}
-use borrow.Author.Tests.{ltb-true, ltb-false, lt-ltb, le-ltb, eq-eqb, ne-eqb, eqb-true, eqb-false}
-use Rattle.tables.specs.declared.Answer as DA
+use borrow.Author.Tests.{lt-ltb, le-ltb, eq-eqb, ne-eqb}
 use Rattle.tables.specs.declared.Refusal as DR
-use Rattle.tables.specs.Refusals.{pick, Fault, fault, none, passed, orElse, refusedIf, numbered}
+use Rattle.tables.specs.Refusals.{Fault, fault, none, orElse, numbered}
 use Rattle.tables.specs.Tables.{
   Kind,
   NOT,
@@ -20,9 +19,7 @@ use Rattle.tables.specs.Tables.{
   RANDOM,
   UNKNOWN,
   kindOf,
-  Gate,
   gate,
-  wires,
   word,
   gatesFrom,
   wordsFrom,
@@ -36,7 +33,7 @@ use Rattle.tables.specs.Tables.{
   sizesBad,
   tableFault,
 }
-use Rattle.tables.specs.Says.{Refused, Answered, leftLimit, rightLimit, Sized, SizesSay, CheckSays}
+use Rattle.tables.specs.Says.{Refused, leftLimit, rightLimit, SizesSay}
 use Rattle.tables.proofs.Tests.{first-passed, first-refused}
 use Rattle.tables.proofs.Answers.{refused-passed, refused-fails}
 use Rattle.tables.proofs.Accept.{sizes-good}
@@ -246,7 +243,8 @@ module _
   module _ (some-input : n ≡ 0 → ⊥) (some-output : o ≡ 0 → ⊥) (few-wires : n + g ≤ 65535) where
     sizes-good-are : sizesBad (word s 0) (word s 2) (word s 4) ≡ false
     sizes-good-are =
-        let e : sizesBad n g o ≡ false = rw (ne-eqb n 0 some-input, ne-eqb o 0 some-output, le-ltb 65535 (n + g) few-wires) in
+        let few = le-ltb 65535 (n + g) few-wires in
+        let e : sizesBad n g o ≡ false = rw (ne-eqb n 0 some-input, ne-eqb o 0 some-output, few) in
         rw (inputs, gates, outputs) at e
 
     pub sizes-wrong : (length s ≡ 6 + 5 * g + 2 * o → ⊥) → SizesSay s 1
@@ -263,9 +261,10 @@ module _
     unfolding tableFault
     sizes-right l =
         let long : length s ≡ tableLong (word s 2) (word s 4) = rw (gates, outputs) at l in
+        let equal = eq-eqb (length s) (tableLong (word s 2) (word s 4)) long in
         let z = sizes-good (word s 0) (word s 2) (word s 4) sizes-good-are in
         record {
-          first = rw (le-ltb (length s) 6 six, sizes-good-are, eq-eqb (length s) (tableLong (word s 2) (word s 4)) long);
+          first = rw (le-ltb (length s) 6 six, sizes-good-are, equal);
           sized = λ _. record { some-input = z .0; some-output = z .1 .0; few-wires = z .1 .1; long = long };
         }
 

@@ -12,3 +12,5 @@ pub mod Checks
 pub mod Gate
 pub mod Running
 pub mod Filling
+pub mod RunFault
+pub mod RunTable

@@ -1,7 +1,9 @@
 ghost use mathlib.Core.Path.{_≡_};
+ghost use mathlib.Core.Bool.{true};
+ghost use mathlib.Core.List.{_++_};
 ghost use Prim.Native.Nat.{ℕ, _+_, _*_, _≤_, _<_};
 ghost use lib.ListN.{length, getD, take, drop};
-ghost use Rattle.tables.specs.Refusals.{numbered};
+ghost use Rattle.tables.specs.Refusals.{passed, numbered, badBit};
 ghost use Rattle.tables.specs.Tables.{
   kindOf,
   gate,
@@ -15,7 +17,7 @@ ghost use Rattle.tables.specs.Tables.{
   outputsFault,
   tableFault,
 };
-ghost use Rattle.tables.specs.Runs.{runFrom};
+ghost use Rattle.tables.specs.Runs.{drawn, runFrom, readAll, randoms};
 ghost use Rattle.tables.specs.Says.{
   Refused,
   over,
@@ -25,6 +27,16 @@ ghost use Rattle.tables.specs.Says.{
   rightLimit,
   SizesSay,
   CheckSays,
+  runFault,
+  RunSays,
+};
+ghost use Rattle.tables.specs.Running.{
+  GateReady,
+  GateSays,
+  RunReady,
+  OutputsReady,
+  supplyFault,
+  roomFault,
 };
 ghost use Rattle.tables.specs.Running.{GateReady, GateSays, RunReady};
 
@@ -46,7 +58,9 @@ pub fn field(s: &[u8], at: usize) -> usize
     requires { ⌜ at + 1 < length (now s) ⌝ }
     ensures { λ r. ⌜ (r ≡ word (now (s .entry)) at) × (r < 65536) ⌝ }
 {
-    s[at] as usize + 256 * s[at + 1] as usize
+    let low = s[at] as usize;
+    let high = s[at + 1] as usize;
+    low + 256 * high
 }
 
 // Writes a two-byte field, low byte first.
@@ -138,9 +152,10 @@ fn gates_fault(table: &[u8], inputs: usize, gates: usize) -> Refusal
         let right = field(table, 8 + gates + 4 * g);
         let number = gate_number(table[6 + g], left, right, inputs + g);
         if number != 0 {
+            let place = g as u32;
             break 'gates Refusal {
                 number: number,
-                place: g as u32,
+                place: place,
             };
         }
         g += 1;
@@ -156,9 +171,10 @@ fn outputs_fault(table: &[u8], start: usize, outputs: usize, wires: usize) -> Re
     let mut o = 0;
     while o < outputs {
         if field(table, start + 2 * o) >= wires {
+            let place = o as u32;
             return Refusal {
                 number: 5,
-                place: o as u32,
+                place: place,
             };
         }
         o += 1;
@@ -229,14 +245,44 @@ pub fn check_table(table: &[u8]) -> Answer
     }
 }
 
+// How many random bits a gate takes.
+fn drawn_bits(kind: u8) -> usize
+    ensures { λ r. ⌜ (r ≡ drawn (kindOf kind)) × (r ≤ 1) ⌝ }
+{
+    if kind == 3 {
+        return 1;
+    }
+    0
+}
+
+// How many random gates a table has.
+fn random_count(table: &[u8], gates: usize) -> usize
+    requires { ⌜ 6 + 5 * gates ≤ length (now table) ⌝ }
+    ensures { λ r.
+        ⌜
+        (r
+        ≡ randoms
+        (gatesFrom gates (drop 6 (now (table .entry))) (drop (6 + gates) (now (table .entry)))))
+        × (r ≤ gates)
+        ⌝ }
+{
+    let mut count: usize = 0;
+    let mut g: usize = 0;
+    while g < gates {
+        count += drawn_bits(table[6 + g]);
+        g += 1;
+    }
+    count
+}
+
 // A gate's value and the number of the next random bit.
-pub struct Drawn {
-    pub value: u8,
-    pub next: usize,
+struct Drawn {
+    value: u8,
+    next: usize,
 }
 
 // What a gate drives, from its operands' values.
-pub fn gate_value(kind: u8, a: u8, b: u8, random: &[u8], at: usize) -> Drawn
+fn gate_value(kind: u8, a: u8, b: u8, random: &[u8], at: usize) -> Drawn
     requires { ⌜ GateReady kind a b (now random) at ⌝ }
     ensures { λ r. ⌜ GateSays kind a b (now (random .entry)) at r ⌝ }
 {
@@ -252,15 +298,15 @@ pub fn gate_value(kind: u8, a: u8, b: u8, random: &[u8], at: usize) -> Drawn
             next: at,
         };
     }
-    if kind == 0 {
+    if kind == 3 {
         return Drawn {
-            value: 1 - a,
-            next: at,
+            value: tape_bit(random, at),
+            next: at + 1,
         };
     }
     Drawn {
-        value: tape_bit(random, at),
-        next: at + 1,
+        value: 1 - a,
+        next: at,
     }
 }
 
@@ -289,7 +335,7 @@ pub fn run_gates(table: &[u8], inputs: usize, gates: usize, random: &[u8], value
 }
 
 // Copies bits to the front of a buffer.
-pub fn copy_bits(from: &[u8], to: &mut [u8])
+fn copy_bits(from: &[u8], to: &mut [u8])
     requires { ⌜ length (now from) ≤ length (now to) ⌝ }
     ensures { λ _. ⌜ now (to .exit) ≡ over (now (from .entry)) (now (to .entry)) ⌝ }
 {
@@ -297,5 +343,153 @@ pub fn copy_bits(from: &[u8], to: &mut [u8])
     while i < from.len() {
         to[i] = from[i];
         i += 1;
+    }
+}
+
+// Writes the values of the output wires that stand in the table from `start` on.
+fn read_outputs(table: &[u8], start: usize, outputs: usize, values: &[u8], out: &mut [u8])
+    requires { ⌜ OutputsReady (now table) start outputs (now values) (now out) ⌝ }
+    ensures { λ _.
+        ⌜
+        now (out .exit)
+        ≡ over
+        (readAll (now (values .entry)) (wordsFrom outputs (drop start (now (table .entry)))))
+        (now (out .entry))
+        ⌝ }
+{
+    let mut i: usize = 0;
+    while i < outputs {
+        let wire = field(table, start + 2 * i);
+        out[i] = values[wire];
+        i += 1;
+    }
+}
+
+// The first byte above 1 of two lists of bits joined.
+fn bits_fault(first: &[u8], second: &[u8]) -> Refusal
+    requires { ⌜ length (now first) + length (now second) < 4294967296 ⌝ }
+    ensures { λ r. ⌜ Refused (badBit 0 (now (first .entry) ++ now (second .entry))) r ⌝ }
+{
+    let at = first_bad(first);
+    if at < first.len() {
+        return Refusal {
+            number: 11,
+            place: at as u32,
+        };
+    }
+    let next = first_bad(second);
+    if next < second.len() {
+        return Refusal {
+            number: 11,
+            place: (first.len() + next) as u32,
+        };
+    }
+    Refusal {
+        number: 0,
+        place: 0,
+    }
+}
+
+// The refusals of what a run of an accepted table is supplied with: wrong counts, then a byte above 1.
+fn supply_fault(table: &[u8], inputs: &[u8], random: &[u8]) -> Refusal
+    requires { ⌜ passed (tableFault (now table)) ≡ true ⌝ }
+    ensures { λ r. ⌜ Refused (supplyFault (now (table .entry)) (now (inputs .entry)) (now (random .entry))) r ⌝ }
+{
+    if inputs.len() != field(table, 0) {
+        return Refusal {
+            number: 10,
+            place: 0,
+        };
+    }
+    if random.len() != random_count(table, field(table, 2)) {
+        return Refusal {
+            number: 10,
+            place: 0,
+        };
+    }
+    bits_fault(inputs, random)
+}
+
+// The refusal of buffers that are shorter than what a run of an accepted table writes.
+fn room_fault(table: &[u8], values: usize, outputs: usize) -> Refusal
+    requires { ⌜ passed (tableFault (now table)) ≡ true ⌝ }
+    ensures { λ r. ⌜ Refused (roomFault (now (table .entry)) values outputs) r ⌝ }
+{
+    if values < field(table, 0) + field(table, 2) {
+        return Refusal {
+            number: 9,
+            place: 0,
+        };
+    }
+    if outputs < field(table, 4) {
+        return Refusal {
+            number: 9,
+            place: 0,
+        };
+    }
+    Refusal {
+        number: 0,
+        place: 0,
+    }
+}
+
+// The first refusal of a run: of the table, of what is supplied, of the buffers.
+fn run_fault(table: &[u8], inputs: &[u8], random: &[u8], values: usize, outputs: usize) -> Refusal
+    ensures { λ r. ⌜ Refused (runFault (now (table .entry)) (now (inputs .entry)) (now (random .entry)) values outputs) r ⌝ }
+{
+    let found = table_fault(table);
+    if found.number != 0 {
+        return found;
+    }
+    let supplied = supply_fault(table, inputs, random);
+    if supplied.number != 0 {
+        return supplied;
+    }
+    room_fault(table, values, outputs)
+}
+
+// The answer of a refused call.
+fn refused(found: Refusal) -> Answer
+    ensures { λ r. ⌜ (r .number ≡ found .number) × (r .place ≡ found .place) × (r .value ≡ 0) ⌝ }
+{
+    Answer {
+        number: found.number,
+        place: found.place,
+        value: 0,
+    }
+}
+
+// Runs a table: one value for each wire, and the values of the output wires.
+pub fn run_table(
+    table: &[u8],
+    inputs: &[u8],
+    random: &[u8],
+    values: &mut [u8],
+    outputs: &mut [u8],
+) -> Answer
+    ensures { λ r. ⌜
+        RunSays
+        (now (table .entry))
+        (now (inputs .entry))
+        (now (random .entry))
+        (now (values .entry))
+        (now (values .exit))
+        (now (outputs .entry))
+        (now (outputs .exit))
+        r
+        ⌝ }
+{
+    let found = run_fault(table, inputs, random, values.len(), outputs.len());
+    if found.number != 0 {
+        return refused(found);
+    }
+    let gates = field(table, 2);
+    copy_bits(inputs, values);
+    run_gates(table, inputs.len(), gates, random, values);
+    read_outputs(table, 6 + 5 * gates, field(table, 4), values, outputs);
+    Answer {
+        number: 0,
+        place: 0,
+        value: (inputs.len() + gates) as u32,
     }
 }

@@ -1,6 +1,5 @@
 -- `tables::check_table` meets its contract: where no check refuses, the sizes are there to read and add up to the wires.
 -- Assumes nothing.
-use mathlib.Core.Path.{refl}
 use native.Mathlib.Omega.{arith}
 use Rattle.tables.proofs.Accept.{accepted, wires-of}
 use Rattle.tables.proofs.Answers.{refused-passed, answered-refused, answered-passed, clean-table}
@@ -35,7 +34,8 @@ cast-t7 c = search needs
 returns-2 : tie.Need-returns-2
 returns-2 c =
     let s = c .before .before .before .before .before .before .args .table .now in
-    let passes = refused-passed _ _ (c .before .before .before .before .table-fault .ensures) (c .before .before .if1 .left) in
+    let refused = c .before .before .before .before .table-fault .ensures in
+    let passes = refused-passed _ _ refused (c .before .before .if1 .left) in
     rw (c .before .field .ensures .0, c .field2 .ensures .0, ← wires-of s)
     (record { answer = answered-passed _ _ (clean-table s) passes })
 

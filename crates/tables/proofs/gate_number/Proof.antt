@@ -6,26 +6,28 @@ use Rattle.tables.proofs.gate_number.Statement.{statement}
 use Rattle.tables.proofs.gate_number.Tie as tie
 
 returns : tie.Need-returns
-returns c = number-kind _ _ _ _ (c .if1 .taken)
+returns c = number-kind (c .before .args .kind) _ _ _ (omega arith)
 
 left-limit-requires : tie.Need-left-limit-requires
 left-limit-requires c κs = tt
 
 returns-2 : tie.Need-returns-2
-returns-2 c = number-left _ _ _ _ (c .before .before .if1 .left) (omega (arith, c .before .left-limit .ensures))
+returns-2 c =
+    number-left (c .before .before .before .args .kind) _ _ _ (omega arith)
+    (omega (arith, c .before .left-limit .ensures))
 
 right-limit-requires : tie.Need-right-limit-requires
 right-limit-requires c κs = tt
 
 returns-3 : tie.Need-returns-3
 returns-3 c =
-    number-right _ _ _ _ (c .before .before .before .before .if1 .left)
+    number-right (c .before .before .before .before .before .args .kind) _ _ _ (omega arith)
     (omega (arith, c .before .before .before .left-limit .ensures))
     (omega (arith, c .before .right-limit .ensures))
 
 returns-4 : tie.Need-returns-4
 returns-4 c =
-    number-good _ _ _ _ (c .before .before .before .before .if1 .left)
+    number-good (c .before .before .before .before .before .args .kind) _ _ _ (omega arith)
     (omega (arith, c .before .before .before .left-limit .ensures))
     (omega (arith, c .before .right-limit .ensures))
 

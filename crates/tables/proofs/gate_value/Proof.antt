@@ -21,24 +21,20 @@ mul-t9 c =
 returns-2 : tie.Need-returns-2
 returns-2 c = says-and (c .if2 .taken) refl refl
 
-sub-t10 : tie.Need-sub-t10
-sub-t10 c = search needs
+tape-bit-requires : tie.Need-tape-bit-requires
+tape-bit-requires c κs = c .before .before .before .before .pre .random (c .if3 .taken)
+
+add-t11 : tie.Need-add-t11
+add-t11 c = omega (arith, c .before .before .before .before .before .pre .random (c .before .if3 .taken))
 
 returns-3 : tie.Need-returns-3
-returns-3 c = says-not (c .if3 .taken) refl refl
+returns-3 c = says-random (c .before .if3 .taken) (c .tape-bit .ensures) refl
 
-tape-bit-requires : tie.Need-tape-bit-requires
-tape-bit-requires c κs =
-    let ready = c .before .before .before .before .pre in
-    ready .random (omega arith)
-
-add-t12 : tie.Need-add-t12
-add-t12 c =
-    let ready = c .before .before .before .before .before .pre in
-    omega (arith, ready .random (omega arith))
+sub-t12 : tie.Need-sub-t12
+sub-t12 c = search needs
 
 returns-4 : tie.Need-returns-4
-returns-4 c = says-random (omega arith) (c .tape-bit .ensures) refl
+returns-4 c = says-not (omega arith) refl refl
 
 pub gate-value-spec : {M : Type 1} → statement M
 gate-value-spec =
@@ -48,8 +44,8 @@ gate-value-spec =
     returns
     mul-t9
     returns-2
-    sub-t10
-    returns-3
     tape-bit-requires
-    add-t12
+    add-t11
+    returns-3
+    sub-t12
     returns-4)

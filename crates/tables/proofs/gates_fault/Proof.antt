@@ -3,7 +3,6 @@
 use Prim.Native.Nat.{_-_}
 use native.Mathlib.Numerals.{add-one}
 use native.Mathlib.Omega.{arith}
-use borrow.Author.Needs.{needs}
 use Rattle.tables.proofs.Answers.{refused-is}
 use Rattle.tables.proofs.Checks.{
   GatesGood,
@@ -25,49 +24,49 @@ gates-holds : tie.Need-gates-holds Inv-gates μ-gates
 gates-holds c = gates-good-start _ _ _
 
 add-field : tie.Need-add-field Inv-gates μ-gates
-add-field c = omega (arith, c .before .before .before .pre)
+add-field c = omega arith
 
 mul-field : tie.Need-mul-field Inv-gates μ-gates
-mul-field c = omega (arith, c .before .before .before .pre, c .before .gates .inv .within)
+mul-field c = omega arith
 
 add-field-2 : tie.Need-add-field-2 Inv-gates μ-gates
-add-field-2 c = omega (arith, c .before .before .before .pre, c .before .gates .inv .within)
+add-field-2 c = omega arith
 
 field-requires : tie.Need-field-requires Inv-gates μ-gates
-field-requires c κs = omega (arith, c .before .before .before .pre, c .before .gates .inv .within, c .if1 .left)
+field-requires c κs = omega arith
 
 add-field-3 : tie.Need-add-field-3 Inv-gates μ-gates
-add-field-3 c = omega (arith, c .before .before .before .before .pre)
+add-field-3 c = omega arith
 
 mul-field-2 : tie.Need-mul-field-2 Inv-gates μ-gates
-mul-field-2 c = omega (arith, c .before .before .before .before .pre, c .before .before .gates .inv .within)
+mul-field-2 c = omega arith
 
 add-field-4 : tie.Need-add-field-4 Inv-gates μ-gates
-add-field-4 c = omega (arith, c .before .before .before .before .pre, c .before .before .gates .inv .within)
+add-field-4 c = omega arith
 
 field-requires-2 : tie.Need-field-requires-2 Inv-gates μ-gates
-field-requires-2 c κs = omega (arith, c .before .before .before .before .pre, c .before .before .gates .inv .within, c .before .if1 .left)
+field-requires-2 c κs = omega arith
 
 add-gate-number : tie.Need-add-gate-number Inv-gates μ-gates
-add-gate-number c = omega (arith, c .before .before .before .before .before .pre, c .before .before .before .gates .inv .within)
+add-gate-number c = omega arith
 
 shared-slice-read-gate-number : tie.Need-shared-slice-read-gate-number Inv-gates μ-gates
-shared-slice-read-gate-number c = omega (arith, c .before .before .before .before .before .before .pre, c .before .before .before .before .gates .inv .within, c .before .before .before .if1 .left)
+shared-slice-read-gate-number c = omega arith
 
 add-gate-number-2 : tie.Need-add-gate-number-2 Inv-gates μ-gates
-add-gate-number-2 c = omega (arith, c .before .before .before .before .before .before .pre, c .before .before .before .before .gates .inv .within)
+add-gate-number-2 c = omega arith
 
 gate-number-requires : tie.Need-gate-number-requires Inv-gates μ-gates
 gate-number-requires c κs = tt
 
-cast-t16 : tie.Need-cast-t16 Inv-gates μ-gates
-cast-t16 c = omega (arith, c .before .before .before .before .before .before .before .before .pre, c .before .before .before .before .before .before .gates .inv .within)
+cast-place : tie.Need-cast-place Inv-gates μ-gates
+cast-place c = omega arith
 
 add-g : tie.Need-add-g Inv-gates μ-gates
-add-g c = omega (arith, c .before .before .before .before .before .before .before .before .pre, c .before .before .before .before .before .before .gates .inv .within)
+add-g c = omega arith
 
 gates-less : tie.Need-gates-less Inv-gates μ-gates
-gates-less c = omega (arith, c .before .before .before .before .before .before .gates .inv .within, c .before .before .before .before .before .if1 .left)
+gates-less c = omega arith
 
 gates-again : tie.Need-gates-again Inv-gates μ-gates
 gates-again c = rw add-one (gates-good-step (c .before .gate-number .result)
@@ -109,7 +108,7 @@ gates-fault-spec =
     shared-slice-read-gate-number
     add-gate-number-2
     gate-number-requires
-    cast-t16
+    cast-place
     add-g
     gates-less
     gates-again

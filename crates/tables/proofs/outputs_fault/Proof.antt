@@ -3,7 +3,6 @@
 use Prim.Native.Nat.{_-_}
 use native.Mathlib.Numerals.{add-one}
 use native.Mathlib.Omega.{arith}
-use borrow.Author.Needs.{needs}
 use Rattle.tables.proofs.Answers.{refused-is}
 use Rattle.tables.proofs.Checks.{
   OutputsGood,
@@ -25,16 +24,16 @@ loop-holds : tie.Need-loop-holds Inv-loop μ-loop
 loop-holds c = outputs-good-start _ _ _ _
 
 mul-field : tie.Need-mul-field Inv-loop μ-loop
-mul-field c = omega (arith, c .before .before .before .pre)
+mul-field c = omega arith
 
 add-field : tie.Need-add-field Inv-loop μ-loop
-add-field c = omega (arith, c .before .before .before .pre)
+add-field c = omega arith
 
 field-requires : tie.Need-field-requires Inv-loop μ-loop
-field-requires c κs = omega (arith, c .before .before .before .pre, c .loop-test .taken)
+field-requires c κs = omega arith
 
-cast-t10 : tie.Need-cast-t10 Inv-loop μ-loop
-cast-t10 c = omega (arith, c .before .before .before .before .before .pre, c .before .before .loop-test .taken)
+cast-place : tie.Need-cast-place Inv-loop μ-loop
+cast-place c = omega arith
 
 returns : tie.Need-returns Inv-loop μ-loop
 returns c =
@@ -43,13 +42,13 @@ returns c =
     (c .before .before .before .loop .inv)
     (c .before .before .loop-test .taken)
     (c .before .field .ensures .0)
-    (c .if1 .taken))
+    (omega arith))
 
 add-o : tie.Need-add-o Inv-loop μ-loop
-add-o c = omega (arith, c .before .before .loop-test .taken)
+add-o c = omega arith
 
 loop-less : tie.Need-loop-less Inv-loop μ-loop
-loop-less c = omega (arith, c .before .before .loop-test .taken)
+loop-less c = omega arith
 
 loop-again : tie.Need-loop-again Inv-loop μ-loop
 loop-again c =
@@ -58,7 +57,7 @@ loop-again c =
     (c .before .before .before .loop .inv)
     (c .before .before .loop-test .taken)
     (c .before .field .ensures .0)
-    (c .if1 .left))
+    (omega arith))
 
 returns-2 : tie.Need-returns-2 Inv-loop μ-loop
 returns-2 c = refused-is _ _ (outputs-good-end (c .before .loop .inv) (c .loop-test .left))
@@ -73,7 +72,7 @@ outputs-fault-spec =
     mul-field
     add-field
     field-requires
-    cast-t10
+    cast-place
     returns
     add-o
     loop-less

@@ -41,7 +41,7 @@ returns-2 c =
     (λ v.
     ⊎-elim
     (λ w. sizes-no-output s six inputs gates outputs (eqb-true _ _ (w .1 .taken)))
-    (λ w. sizes-many s six inputs gates outputs (ltb-true _ _ (w .2 .taken)))
+    (λ w. sizes-many s six inputs gates outputs (omega (arith, ltb-true)))
     v)
     (c .if2 .came)
 
@@ -67,7 +67,7 @@ returns-3 c =
     (c .before .before .before .before .field3 .ensures .0)
     (c .before .before .before .if2 .left)
     (eqb-false _ _ (c .before .before .if3 .left))
-    (ltb-false _ _ (c .before .if4 .left))
+    (omega (arith, ltb-false))
     (c .if5 .taken)
 
 returns-4 : tie.Need-returns-4
@@ -80,7 +80,7 @@ returns-4 c =
     (c .before .before .before .before .field3 .ensures .0)
     (c .before .before .before .if2 .left)
     (eqb-false _ _ (c .before .before .if3 .left))
-    (ltb-false _ _ (c .before .if4 .left))
+    (omega (arith, ltb-false))
     (c .if5 .left)
 
 pub sizes-number-spec : {M : Type 1} → statement M

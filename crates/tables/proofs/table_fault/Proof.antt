@@ -1,5 +1,5 @@
--- `tables::table_fault` meets its contract: sizes that pass make room for the gates and the outputs, and the first refusal of
--- the three answers.
+-- `tables::table_fault` meets its contract: sizes that pass make room for the gates and the outputs, and the first to refuse
+-- answers.
 -- Assumes nothing.
 use native.Mathlib.Omega.{arith}
 use Rattle.tables.proofs.Answers.{refused-is}
@@ -21,11 +21,14 @@ field-requires-2 : tie.Need-field-requires-2
 field-requires-2 c κs = omega (arith, c .before .before .sizes-number .ensures .sized (c .before .if1 .left) .long)
 
 field-requires-3 : tie.Need-field-requires-3
-field-requires-3 c κs = omega (arith, c .before .before .before .sizes-number .ensures .sized (c .before .before .if1 .left) .long)
+field-requires-3 c κs =
+    let sized = c .before .before .before .sizes-number .ensures .sized (c .before .before .if1 .left) in
+    omega (arith, sized .long)
 
 gates-fault-requires : tie.Need-gates-fault-requires
 gates-fault-requires c κs =
-    let sized = c .before .before .before .before .sizes-number .ensures .sized (c .before .before .before .if1 .left) in
+    let passes = c .before .before .before .if1 .left in
+    let sized = c .before .before .before .before .sizes-number .ensures .sized passes in
     let inputs = c .before .before .field .ensures .0 in
     let gates = c .before .field2 .ensures .0 in
     (omega (arith, sized .long), omega (arith, sized .few-wires))
@@ -53,7 +56,8 @@ add-outputs-fault-2 c = search needs
 
 outputs-fault-requires : tie.Need-outputs-fault-requires
 outputs-fault-requires c κs =
-    let sized = c .before .before .before .before .before .before .before .sizes-number .ensures .sized (c .before .before .before .before .before .before .if1 .left) in
+    let passes = c .before .before .before .before .before .before .if1 .left in
+    let sized = c .before .before .before .before .before .before .before .sizes-number .ensures .sized passes in
     let gates = c .before .before .before .before .field2 .ensures .0 in
     let outputs = c .before .before .before .field3 .ensures in
     (omega (arith, sized .long), omega arith)
