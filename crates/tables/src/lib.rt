@@ -38,7 +38,6 @@ ghost use Rattle.tables.specs.Running.{
   supplyFault,
   roomFault,
 };
-ghost use Rattle.tables.specs.Running.{GateReady, GateSays, RunReady};
 
 // A refusal's number and place; number 0 is no refusal.
 pub struct Refusal {
@@ -276,13 +275,13 @@ fn random_count(table: &[u8], gates: usize) -> usize
 }
 
 // A gate's value and the number of the next random bit.
-struct Drawn {
-    value: u8,
-    next: usize,
+pub struct Drawn {
+    pub value: u8,
+    pub next: usize,
 }
 
 // What a gate drives, from its operands' values.
-fn gate_value(kind: u8, a: u8, b: u8, random: &[u8], at: usize) -> Drawn
+pub fn gate_value(kind: u8, a: u8, b: u8, random: &[u8], at: usize) -> Drawn
     requires { ⌜ GateReady kind a b (now random) at ⌝ }
     ensures { λ r. ⌜ GateSays kind a b (now (random .entry)) at r ⌝ }
 {
