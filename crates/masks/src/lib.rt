@@ -1,3 +1,6 @@
+// The masking construction: what forecasting and the marks call answer, and where shares are.
+ghost use Prim.Native.Nat.{_+_};
+
 // What forecasting answers: a refusal's number and place, or 0, 0 and the masked table's four figures.
 pub struct Sizes {
     pub number: u8,

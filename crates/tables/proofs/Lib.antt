@@ -8,9 +8,3 @@ pub mod Put
 pub mod Bad
 pub mod Loops
 pub mod Answers
-pub mod Checks
-pub mod Gate
-pub mod Running
-pub mod Filling
-pub mod RunFault
-pub mod RunTable

@@ -3,4 +3,3 @@ pub mod Refusals
 pub mod Tables
 pub mod Runs
 pub mod Says
-pub mod Running

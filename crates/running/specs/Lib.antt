@@ -1,0 +1,2 @@
+-- What the steps of a run need and promise.
+pub mod Running
