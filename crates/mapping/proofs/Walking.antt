@@ -22,17 +22,17 @@ use lib.Seq.{
   drop-set-lt,
 }
 use borrow.Author.Tests.{eq-eqb, ne-eqb}
-use Rattle.tables.specs.declared.Drawn as DD
+use Rattle.running.specs.declared.Drawn as DD
 use Rattle.tables.specs.Refusals.{pick}
 use Rattle.tables.specs.Tables.{Kind, NOT, XOR, AND, RANDOM, UNKNOWN, kindOf, Gate, gate, word, tableOf}
 use Rattle.tables.specs.Runs.{xor, driven, drawn, runFrom, randoms}
 use Rattle.tables.specs.Says.{over}
-use Rattle.tables.specs.Running.{GateReady, GateSays, RunReady}
+use Rattle.running.specs.Running.{GateReady, GateSays, RunReady}
 use Rattle.tables.proofs.Lists.{Bits, bits-nil, bits-cons}
 use Rattle.tables.proofs.Accept.{gates-length, wires-of, accepted, Accepted}
 use Rattle.tables.proofs.Loops.{gatesAt, gateAt, gates-at-table, gates-at-step, gates-at-end}
-use Rattle.tables.proofs.Gate.{bit-product}
-use Rattle.tables.proofs.Running.{
+use Rattle.running.proofs.Gate.{bit-product}
+use Rattle.running.proofs.Running.{
   Running,
   running-start,
   left-earlier,

@@ -10,7 +10,7 @@ use Rattle.tables.specs.Refusals.{pick}
 use Rattle.tables.specs.Tables.{Kind, NOT, XOR, AND, RANDOM, UNKNOWN, kindOf, Gate, gate, word, tableOf}
 use Rattle.tables.specs.Runs.{xor, randoms, runFrom}
 use Rattle.tables.specs.Says.{over}
-use Rattle.tables.specs.Running.{RunReady}
+use Rattle.running.specs.Running.{RunReady}
 use Rattle.maps.specs.Walk.{inRow, gateDiffers, walked, Crossing}
 
 -- gate number g of the n gates in the bytes s

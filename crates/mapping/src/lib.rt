@@ -138,8 +138,8 @@ fn walk(
             other,
             mapped,
         );
-        let a = tables::gate_value(kind, one[left], one[right], random, next);
-        let b = tables::gate_value(kind, other[left], other[right], mapped, next);
+        let a = running::gate_value(kind, one[left], one[right], random, next);
+        let b = running::gate_value(kind, other[left], other[right], mapped, next);
         one[inputs + g] = a.value;
         other[inputs + g] = b.value;
         pair = next_pair(kind, pair, pairs);

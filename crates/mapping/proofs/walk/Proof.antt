@@ -3,7 +3,7 @@
 use Prim.Native.Nat.{_-_}
 use native.Mathlib.Numerals as num
 use native.Mathlib.Omega.{arith}
-use Rattle.tables.proofs.Running.{left-there, right-there, gate-ready}
+use Rattle.running.proofs.Running.{left-there, right-there, gate-ready}
 use Rattle.mapping.proofs.Walking.{
   Walking,
   walking-start,
