@@ -1,2 +1,3 @@
 -- Laws of mapping's parts, by subject.
 pub mod Walking
+pub mod Flipping

@@ -1,2 +1,3 @@
 -- What the parts of mapping take and give.
 pub mod Walking
+pub mod Flipping
