@@ -1,3 +1,4 @@
 -- What the parts of mapping take and give.
 pub mod Walking
 pub mod Flipping
+pub mod Seeing
