@@ -23,7 +23,7 @@ use Rattle.masks.specs.Wires.{driverOf, inputShares, draws, totalOf, maskedWire
 use Rattle.masks.specs.Codes.{encode, maskedRun}
 use Rattle.masks.proofs.Sum.{sumOf, up-length, up-at}
 use Rattle.masks.proofs.Lawful.{Lawful}
-use Rattle.masks.proofs.Costs.{masked-draws, masked-length}
+use Rattle.masks.proofs.Costs.{masked-tape}
 use Rattle.masks.proofs.Placed.{placed-inputs, masked-sound}
 use Rattle.masks.proofs.Codes.{encode-length, encode-bits, encode-adds}
 use Rattle.masks.proofs.Shares.{Shared}
@@ -40,12 +40,6 @@ pub run-is :
     ≡ runFrom (gatesOf G o t) (drop (2 * o * t .inputs) ts) (encode o xs (take (2 * o * t .inputs) ts))
 unfolding maskedRun run maskedTable
 run-is G o t xs ts = refl
-
-pub tape-length :
-    {G : Gadget} (L : Lawful G) (o : ℕ) (t : Table)
-    → tapeLong G o t ≡ 2 * o * t .inputs + totalOf (λ k. draws k (sharesOf o)) (t .gates)
-unfolding tapeLong maskedTable
-tape-length L o t = ap (λ (y : ℕ). 2 * o * t .inputs + y) (masked-draws L (sharesOf o) 0 _ _ (t .gates))
 
 -- secrets and tapes as facts
 pub secrets-are : (t : Table) (xs : List ℕ) → areSecrets t xs ≡ true → (length xs ≡ t .inputs) × Bits xs
@@ -75,11 +69,11 @@ module _ {G : Gadget} (L : Lawful G) (o : ℕ) (t : Table) (P : Plain t) (xs ts 
 
   pub front-long : length (take (2 * o * t .inputs) ts) ≡ 2 * o * length xs
   front-long =
-      length-take-le (2 * o * t .inputs) ts (omega (arith, tape-long, tape-length L o t))
+      length-take-le (2 * o * t .inputs) ts (omega (arith, tape-long, masked-tape L o t))
       ∙ ap (λ (y : ℕ). 2 * o * y) (sym secrets-long)
 
   pub rest-long : length (drop (2 * o * t .inputs) ts) ≡ totalOf (λ k. draws k (sharesOf o)) (t .gates)
-  rest-long = length-drop (2 * o * t .inputs) ts ∙ omega (arith, tape-long, tape-length L o t)
+  rest-long = length-drop (2 * o * t .inputs) ts ∙ omega (arith, tape-long, masked-tape L o t)
 
   pub shares-long : length (encode o xs (take (2 * o * t .inputs) ts)) ≡ sharesOf o * t .inputs
   shares-long = encode-length o xs _ front-long ∙ ap (λ (y : ℕ). sharesOf o * y) secrets-long

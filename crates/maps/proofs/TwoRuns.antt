@@ -21,7 +21,7 @@ use Rattle.masks.specs.Wires.{driverOf, draws, totalOf, inputShares, maskedWire
 use Rattle.masks.specs.Codes.{encode, maskedRun}
 use Rattle.masks.proofs.Sum.{up-length}
 use Rattle.masks.proofs.Lawful.{Lawful}
-use Rattle.masks.proofs.Costs.{masked-draws}
+use Rattle.masks.proofs.Costs.{masked-draws, masked-tape}
 use Rattle.masks.proofs.Placed.{placed-inputs}
 use Rattle.masks.proofs.Codes.{encode-length}
 use Rattle.maps.specs.Maps.{flipped, inputFlips, mapGates, gatesFlips, mappedAt, tapeFlips}
@@ -37,7 +37,7 @@ use Rattle.maps.proofs.Inputs.{
   input-flips-none,
   zero-append,
 }
-use Rattle.maps.proofs.Begun.{run-is, tape-length, secrets-are, tape-is}
+use Rattle.maps.proofs.Begun.{run-is, secrets-are, tape-is}
 use Rattle.maps.proofs.Flips.{
   flipped-split,
   runsFlips,
@@ -106,10 +106,10 @@ module _ {G : Gadget} (L : Lawful G) (t : Table) (o k : ℕ) (P : Plain t) (xs y
   mapped-is = refl
 
   enough : inputBits ≤ length ts
-  enough = omega (arith, tape-length L o t)
+  enough = omega (arith, masked-tape L o t)
 
   rest-long : length (drop inputBits ts) ≡ totalOf (λ kd. draws kd (sharesOf o)) (t .gates)
-  rest-long = length-drop inputBits ts ∙ omega (arith, tape-length L o t)
+  rest-long = length-drop inputBits ts ∙ omega (arith, masked-tape L o t)
 
   take-long : length (take inputBits ts) ≡ inputBits
   take-long = length-take-le inputBits ts enough

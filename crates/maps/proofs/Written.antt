@@ -20,38 +20,13 @@ use Rattle.masks.specs.Codes.{encode, maskedRun}
 use Rattle.masks.specs.Says.{plainFault}
 use Rattle.masks.proofs.Sum.{up-length}
 use Rattle.masks.proofs.Lawful.{Lawful, isw-lawful}
-use Rattle.masks.proofs.Costs.{masked-length, input-origins-length}
-use Rattle.masks.proofs.Placed.{Stands, placed-inputs, placed-after, shares-after-length, outputs-stand, masked-sound}
+use Rattle.masks.proofs.Costs.{masked-length, masked-wires, masked-tape, input-origins-length}
+use Rattle.masks.proofs.Placed.{placed-inputs, masked-outputs, masked-sound}
 use Rattle.masks.proofs.Passed.{plain-passed}
 use Rattle.maps.specs.Claims.{Sized, WrittenBack}
-use Rattle.maps.proofs.Begun.{tape-length, values-long}
+use Rattle.maps.proofs.Begun.{values-long}
 
 module _ {G : Gadget} (L : Lawful G) (o : ℕ) (t : Table) (P : Plain t) where
-  pub wires-are : wires (maskedTable G o t) ≡ sharesOf o * t .inputs + totalOf (λ k. cost k (sharesOf o)) (t .gates)
-  unfolding maskedTable
-  wires-are =
-      ap (λ (y : ℕ). sharesOf o * t .inputs + y)
-      (length-map (maskedWires G o t) driverOf ∙ masked-length G (sharesOf o) 0 _ _ (t .gates))
-
-  -- the masked outputs, n for each, are wires of the masked table
-  pub outputs-placed : Stands (sharesOf o * length (t .outputs)) (wires (maskedTable G o t)) (maskedTable G o t .outputs)
-  unfolding maskedTable
-  outputs-placed =
-      let n = sharesOf o in
-      let w = n * t .inputs in
-      let S = inputShares n (t .inputs) in
-      let long : length S ≡ t .inputs = up-length (t .inputs) 0 _ in
-      let all : length (sharesAfter n w S (t .gates)) ≡ wires t =
-      shares-after-length n w S (t .gates) ∙ ap (λ (y : ℕ). y + length (t .gates)) long in
-      let placed =
-      placed-after n w S (t .gates) (omega arith)
-      (subst (λ (y : ℕ). PlainGates y (t .gates)) (sym long) (P .gates))
-      (placed-inputs n (t .inputs)) in
-      subst (λ (y : ℕ). Stands (n * length (t .outputs)) y (outputShares (sharesAfter n w S (t .gates)) (t .outputs)))
-      (sym wires-are)
-      (outputs-stand n _ (sharesAfter n w S (t .gates)) (t .outputs) placed
-      (all-map _ _ (λ i h. omega (arith, all)) (t .outputs) (P .outputs)))
-
   origins-are : length (origins G o t) ≡ wires (maskedTable G o t)
   unfolding origins
   origins-are =
@@ -60,14 +35,14 @@ module _ {G : Gadget} (L : Lawful G) (o : ℕ) (t : Table) (P : Plain t) where
       ∙ ap₂ (λ (y z : ℕ). y + z)
       (input-origins-length n (t .inputs))
       (length-map (maskedWires G o t) originOf ∙ masked-length G n 0 _ _ (t .gates))
-      ∙ sym wires-are
+      ∙ sym (masked-wires G o t)
 
   pub sized : Sized G t o
   sized =
       record {
-        wires-are = wires-are;
-        tape-is = tape-length L o t;
-        outputs-are = outputs-placed .0;
+        wires-are = masked-wires G o t;
+        tape-is = masked-tape L o t;
+        outputs-are = masked-outputs G o t P .0;
         bytes-are = table-long (maskedTable G o t);
         origins-are = origins-are;
         values-are = λ xs ts hx ht. values-long L o t P xs ts hx ht;
@@ -90,11 +65,11 @@ module _ {G : Gadget} (L : Lawful G) (o : ℕ) (t : Table) (P : Plain t) where
   masked-table-sound hw ho =
       record {
         some-input = some-masked-input;
-        some-output = omega (arith, outputs-placed .0, mul-le-mul-left (sharesOf o) (P .some-output));
+        some-output = omega (arith, masked-outputs G o t P .0, mul-le-mul-left (sharesOf o) (P .some-output));
         few-wires = hw;
-        few-outputs = omega (arith, outputs-placed .0);
+        few-outputs = omega (arith, masked-outputs G o t P .0);
         gates = masked-gates-sound;
-        outputs = outputs-placed .1;
+        outputs = masked-outputs G o t P .1;
       }
 
 pub written : (s : List ℕ) (o : ℕ) → passed (plainFault s o) ≡ true → WrittenBack s o

@@ -7,13 +7,13 @@ use Prim.Native.Nat.{ℕ, zero, suc, _+_, _-_, _*_, _≤_, _<_}
 use native.Mathlib.Nat.{zero-add}
 use native.Mathlib.Omega.{arith}
 use lib.ListN.{length, getD, drop, length-append, length-map, length-drop}
-use Rattle.tables.specs.Tables.{Kind, NOT, XOR, AND, RANDOM, UNKNOWN, Gate, gate}
+use Rattle.tables.specs.Tables.{Kind, NOT, XOR, AND, RANDOM, UNKNOWN, Gate, gate, Table, wires}
 use Rattle.tables.specs.Runs.{randoms}
 use Rattle.tables.proofs.Lists.{All, all-append, all-getD, all-map}
 use Rattle.tables.proofs.Run.{randoms-append}
-use Rattle.masks.specs.Shares.{upFrom, inTurn, Pair, pairs, tri, row}
+use Rattle.masks.specs.Shares.{sharesOf, upFrom, inTurn, Pair, pairs, tri, row}
 use Rattle.masks.specs.Gadgets.{Gadget}
-use Rattle.masks.specs.Wires.{Wire, wire, Origin, andPart, sum, xorShare, share, driverOf, adding, pairWires, rowWires, pairWire, andWires, newWires, newShares, cost, draws, totalOf, masked, inputShare, inputOrigins}
+use Rattle.masks.specs.Wires.{Wire, wire, Origin, andPart, sum, xorShare, share, driverOf, adding, pairWires, rowWires, pairWire, andWires, newWires, newShares, cost, draws, totalOf, masked, maskedWires, maskedTable, tapeLong, inputShare, inputOrigins}
 use Rattle.masks.proofs.Sum.{up-length, up-all}
 use Rattle.masks.proofs.Rows.{pairs-length, row-length}
 use Rattle.masks.proofs.Each.{Spans, Draws, in-turn-length, in-turn-draws}
@@ -124,3 +124,19 @@ input-origins-length n m =
     in-turn-length n 0 (upFrom m 0 (λ i. i)) (λ w i. upFrom n 0 (λ s. inputShare i s))
     (all-of _ (λ i w. up-length n 0 _) _)
     ∙ ap (λ (y : ℕ). n * y) (up-length m 0 (λ (i : ℕ). i))
+
+-- the masked table's wires
+pub masked-wires :
+    (G : Gadget) (o : ℕ) (t : Table)
+    → wires (maskedTable G o t) ≡ sharesOf o * t .inputs + totalOf (λ k. cost k (sharesOf o)) (t .gates)
+unfolding maskedTable
+masked-wires G o t =
+    ap (λ (y : ℕ). sharesOf o * t .inputs + y)
+    (length-map (maskedWires G o t) driverOf ∙ masked-length G (sharesOf o) 0 _ _ (t .gates))
+
+-- the tape: the encoder's bits, and those of the random gates
+pub masked-tape :
+    {G : Gadget} (L : Lawful G) (o : ℕ) (t : Table)
+    → tapeLong G o t ≡ 2 * o * t .inputs + totalOf (λ k. draws k (sharesOf o)) (t .gates)
+unfolding tapeLong maskedTable
+masked-tape L o t = ap (λ (y : ℕ). 2 * o * t .inputs + y) (masked-draws L (sharesOf o) 0 _ _ (t .gates))

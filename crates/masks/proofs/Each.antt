@@ -5,7 +5,8 @@ use mathlib.Core.Path.{_≡_, refl, sym, ap, _∙_, subst, subst₂}
 use mathlib.Core.List.{List, [], _∷_, _++_, map, map-append}
 use Prim.Native.Nat.{ℕ, zero, suc, _+_, _*_, _≤_, _<_}
 use native.Mathlib.Omega.{arith}
-use lib.ListN.{length, getD, length-append, length-map}
+use lib.ListN.{length, getD, length-append, length-map, List·getD-append}
+use lib.Seq.{getD-append-add}
 use Rattle.tables.specs.Tables.{Gate}
 use Rattle.tables.specs.Runs.{randoms}
 use Rattle.tables.proofs.Lists.{All}
@@ -83,6 +84,25 @@ each-in-turn P size w (x ∷ xs) f e a h =
     (omega (arith, a .0 w))
     (each-in-turn P size (w + size) xs f e (a .1)
     (λ q hq. subst (λ (y : ℕ). Each P y (f y (getD xs q e))) (omega arith) (h (suc q) (omega arith)))))
+
+-- what stands at place r of block q
+pub in-turn-at :
+    {A B : Type 0} (size w : ℕ) (xs : List A) (f : ℕ → A → List B) (e : A) (d : B) → All (Spans size f) xs
+    → (q r p : ℕ) → q < length xs → r < size → p ≡ size * q + r
+    → getD (inTurn size w xs f) p d ≡ getD (f (w + size * q) (getD xs q e)) r d
+unfolding All inTurn
+in-turn-at size w [] f e d a q r p hq hr ep = absurd (omega arith)
+in-turn-at size w (x ∷ xs) f e d a zero r p hq hr ep =
+    let here : p ≡ r = omega arith in
+    let from : w + size * 0 ≡ w = omega arith in
+    rw (here, from) (List·getD-append (f w x) (inTurn size (w + size) xs f) d r (omega (arith, a .0 w)))
+in-turn-at size w (x ∷ xs) f e d a (suc q) r p hq hr ep =
+    let rest = inTurn size (w + size) xs f in
+    let past : p ≡ length (f w x) + (size * q + r) = omega (arith, a .0 w) in
+    let from : w + size * suc q ≡ w + size + size * q = omega arith in
+    rw (past, from)
+    (getD-append-add (f w x) rest (size * q + r) d
+    ∙ in-turn-at size (w + size) xs f e d (a .1) q r (size * q + r) (omega arith) hr refl)
 
 pub each-up :
     {A : Type 0} (P : ℕ → A → Type 0) (c s w : ℕ) (f : ℕ → A) → ((i : ℕ) → i < c → P (w + i) (f (s + i)))

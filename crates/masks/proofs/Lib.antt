@@ -5,6 +5,7 @@ pub mod Each
 pub mod Lawful
 pub mod Hiding
 pub mod Costs
+pub mod Figures
 pub mod Placed
 pub mod Passed
 pub mod Codes

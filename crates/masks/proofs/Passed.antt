@@ -1,20 +1,30 @@
 -- What it says of a plain table and an order that none of 1 to 8 refuses them.
 -- Assumes nothing.
-use mathlib.Core.Path.{_≡_, refl}
+use mathlib.Core.Path.{_≡_, refl, sym, ap}
 use mathlib.Core.Bool.{true, false, _||_, not}
 use mathlib.Core.List.{List}
 use Prim.Native.Nat.{ℕ, _*_, _≤_}
 use borrow.Author.Tests.{ltb-false, not-false}
 use lib.Dec.{ltb}
 use lib.ListN.{length}
-use Rattle.tables.specs.Refusals.{passed, orElse, refusedIf}
+use Rattle.tables.specs.declared.Refusal as DR
+use Rattle.tables.specs.Refusals.{Fault, fault, passed, orElse, refusedIf}
 use Rattle.tables.specs.Tables.{Table, wires, tableOf, tableFault, randomFault}
+use Rattle.tables.specs.Says.{Refused}
 use Rattle.tables.proofs.Tests.{both-passed, not-refused, or-false}
 use Rattle.tables.proofs.Accept.{Plain, accepted-plain}
 use Rattle.masks.specs.Shares.{sharesOf}
 use Rattle.masks.specs.Gadgets.{isw}
 use Rattle.masks.specs.Wires.{maskedTable}
 use Rattle.masks.specs.Says.{orderOk, orderFault, tooMany, plainFault}
+
+-- an answer that is the fault
+pub refused-as : (f : Fault) (r : DR.Refusal) → f ≡ fault (r .number) (r .place) → Refused f r
+refused-as f r e =
+    record {
+      number = ap (λ (g : Fault). g .number) (sym e);
+      place = ap (λ (g : Fault). g .place) (sym e);
+    }
 
 pub record PlainPassed (s : List ℕ) (o : ℕ) : Type 0 where
   pub plain : Plain (tableOf s)

@@ -11,19 +11,19 @@ use native.Mathlib.Nat.{mul-le-mul-left}
 use native.Mathlib.Omega.{arith}
 use lib.ListN.{length, getD, drop, length-append, length-map, length-drop, List·getD-append}
 use lib.Seq.{getD-at}
-use Rattle.tables.specs.Tables.{Kind, NOT, XOR, AND, RANDOM, UNKNOWN, Gate, gate, known, operandsOk}
+use Rattle.tables.specs.Tables.{Kind, NOT, XOR, AND, RANDOM, UNKNOWN, Gate, gate, Table, wires, known, operandsOk}
 use Rattle.tables.specs.Runs.{randoms}
 use Rattle.tables.proofs.Lists.{All, all-append, all-getD, all-map}
 use Rattle.tables.proofs.Format.{SoundGates, sound-append}
-use Rattle.tables.proofs.Accept.{PlainGate, PlainGates}
-use Rattle.masks.specs.Shares.{upFrom, inTurn, Pair, pairOf, pairs, tri, pairAt, row}
+use Rattle.tables.proofs.Accept.{PlainGate, PlainGates, Plain}
+use Rattle.masks.specs.Shares.{sharesOf, upFrom, inTurn, Pair, pairOf, pairs, tri, pairAt, row}
 use Rattle.masks.specs.Gadgets.{Five, first, second, third, fourth, fifth, place, Gadget}
-use Rattle.masks.specs.Wires.{Wire, wire, Origin, andPart, sum, xorShare, share, driverOf, adding, pairWires, rowWires, pairWire, andWires, newWires, newShares, inputShares, cost, draws, masked, sharesAfter, outputShares, totalOf}
+use Rattle.masks.specs.Wires.{Wire, wire, Origin, andPart, sum, xorShare, share, driverOf, adding, pairWires, rowWires, pairWire, andWires, newWires, newShares, inputShares, cost, draws, masked, sharesAfter, outputShares, maskedTable, totalOf}
 use Rattle.masks.proofs.Sum.{up-length, up-all, up-at}
 use Rattle.masks.proofs.Rows.{pairs-length, pairs-in, pair-below, row-length, row-all}
 use Rattle.masks.proofs.Each.{Each, each-append, each-in-turn, each-up, each-rows, in-turn-length}
 use Rattle.masks.proofs.Lawful.{Lawful, both-below}
-use Rattle.masks.proofs.Costs.{pairs-span, rows-span, new-length, adding-length}
+use Rattle.masks.proofs.Costs.{pairs-span, rows-span, new-length, adding-length, masked-wires}
 
 -- n wires, all before wire w
 abbrev pub Stands : ℕ → ℕ → List ℕ → Type 0
@@ -112,7 +112,7 @@ adding-ok o m last next (z ∷ zs) h a = (
   adding-ok o (suc m) next (suc next) zs (omega arith) (all-map _ _ (λ z k. omega arith) zs (a .1)),
 )
 
-place-small : (f : Five) → place f < 5
+pub place-small : (f : Five) → place f < 5
 place-small first = omega arith
 place-small second = omega arith
 place-small third = omega arith
@@ -250,3 +250,24 @@ outputs-stand n w S (o ∷ os) P a =
       length-append (getD S o []) (outputShares S os) ∙ omega (arith, s .0, rest .0),
       all-append (λ x. x < w) (getD S o []) (outputShares S os) (s .1) (rest .1),
     )
+
+-- the masked outputs, n for each, are wires of the masked table
+pub masked-outputs :
+    (G : Gadget) (o : ℕ) (t : Table) → Plain t
+    → Stands (sharesOf o * length (t .outputs)) (wires (maskedTable G o t)) (maskedTable G o t .outputs)
+unfolding maskedTable
+masked-outputs G o t P =
+    let n = sharesOf o in
+    let w = n * t .inputs in
+    let S = inputShares n (t .inputs) in
+    let long : length S ≡ t .inputs = up-length (t .inputs) 0 _ in
+    let all : length (sharesAfter n w S (t .gates)) ≡ wires t =
+    shares-after-length n w S (t .gates) ∙ ap (λ (y : ℕ). y + length (t .gates)) long in
+    let placed =
+    placed-after n w S (t .gates) (omega arith)
+    (subst (λ (y : ℕ). PlainGates y (t .gates)) (sym long) (P .gates))
+    (placed-inputs n (t .inputs)) in
+    subst (λ (y : ℕ). Stands (n * length (t .outputs)) y (outputShares (sharesAfter n w S (t .gates)) (t .outputs)))
+    (sym (masked-wires G o t))
+    (outputs-stand n _ (sharesAfter n w S (t .gates)) (t .outputs) placed
+    (all-map _ _ (λ i h. omega (arith, all)) (t .outputs) (P .outputs)))

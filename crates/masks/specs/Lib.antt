@@ -3,6 +3,5 @@ pub mod Shares
 pub mod Gadgets
 pub mod Wires
 pub mod Codes
-pub mod Layout
 pub mod Lines
 pub mod Says

@@ -1,5 +1,8 @@
-// The masking construction: what forecasting and the marks call answer, and where shares are.
-ghost use Prim.Native.Nat.{_+_};
+// The masking construction: what forecasting and the marks call answer.
+ghost use Prim.Native.Nat.{_/_};
+ghost use Rattle.tables.specs.Tables.{wires};
+ghost use Rattle.masks.specs.Wires.{share};
+ghost use Rattle.masks.specs.Gadgets.{first};
 
 // What forecasting answers: a refusal's number and place, or 0, 0 and the masked table's four figures.
 pub struct Sizes {
@@ -17,11 +20,4 @@ pub struct Marks {
     pub place: u32,
     pub first: u8,
     pub second: u8,
-}
-
-// Where the shares of a plain wire are: share 1 on wire first, share s on wire base + (s − 2)·step.
-pub struct Places {
-    pub first: usize,
-    pub base: usize,
-    pub step: usize,
 }

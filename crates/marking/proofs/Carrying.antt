@@ -1,0 +1,180 @@
+-- The share numbers that wires carry, for each case that the code tells apart.
+-- Assumes nothing.
+use mathlib.Core.Path.{_≡_, refl}
+use mathlib.Core.Bool.{true, false}
+use mathlib.Core.List.{List, [], _∷_}
+use Prim.Native.Nat.{ℕ, zero, suc, _+_, _*_, _%_, _≤_, _<_}
+use native.Mathlib.Numerals.{add-one}
+use native.Mathlib.Omega.{arith}
+use borrow.Author.Tests.{le-leb, lt-leb}
+use lib.Dec.{leb}
+use Rattle.tables.specs.Refusals.{fault, none}
+use Rattle.tables.specs.Tables.{kindOf, AND, wires, tableOf}
+use Rattle.tables.specs.declared.Refusal as DR
+use Rattle.sizing.specs.declared.Plan as DP
+use Rattle.marking.specs.declared.NewWire as DW
+use Rattle.marking.specs.declared.Carried as DC
+use Rattle.marking.specs.declared.AndPart as DA
+use Rattle.marking.specs.declared.AndPart.the-variants.{Pair, Own, Sum}
+use Rattle.masks.specs.Shares.{sharesOf}
+use Rattle.masks.specs.Gadgets.{iswMarks, isw}
+use Rattle.masks.specs.Wires.{andPart, marks, cost, maskedTable, origins}
+use Rattle.masks.specs.Says.{plainFault, originAt, marksFault, MarksSay}
+use Rattle.sizing.specs.Plans.{PlanRefused, PlanReady}
+use Rattle.marking.specs.Origins.{fiveOf, partOf, Among, PartSays, CarriedSays, PartMarksSay, GateMarksSay, orderOf, NewWireSays}
+use Rattle.marking.proofs.Ready.{ready-order}
+use Rattle.marking.proofs.Origins.{origins-input, not-origin, xor-origin}
+
+-- one share number, or two
+abbrev pub one : ℕ → DC.Carried
+one i = record { first = i + 1; second = 0 }
+
+abbrev pub both : ℕ → ℕ → DC.Carried
+both i j = record { first = i + 1; second = j + 1 }
+
+is-one : {p : DA.AndPart} (i : ℕ) → ((g : ℕ) → marks isw (andPart g (partOf p)) ≡ suc i ∷ []) → PartMarksSay p (one i)
+is-one i h = record { carried = λ g. record { first = rw h (add-one i); second = rw h } }
+
+is-both :
+    {p : DA.AndPart} (i j : ℕ) → ((g : ℕ) → marks isw (andPart g (partOf p)) ≡ suc i ∷ suc j ∷ [])
+    → PartMarksSay p (both i j)
+is-both i j h = record { carried = λ g. record { first = rw h (add-one i); second = rw h (add-one j) } }
+
+middle : (f i j : ℕ) → (f ≡ 0 → ⊥) → f < 4 → iswMarks (suc i) (suc j) (fiveOf f) ≡ suc i ∷ suc j ∷ []
+middle zero i j h k = absurd (h refl)
+middle (suc zero) i j h k = refl
+middle (suc (suc zero)) i j h k = refl
+middle (suc (suc (suc zero))) i j h k = refl
+middle (suc (suc (suc (suc f)))) i j h k = absurd (omega arith)
+
+last : (f i j : ℕ) → 4 ≤ f → iswMarks (suc i) (suc j) (fiveOf f) ≡ suc j ∷ []
+last zero i j h = absurd (omega arith)
+last (suc zero) i j h = absurd (omega arith)
+last (suc (suc zero)) i j h = absurd (omega arith)
+last (suc (suc (suc zero))) i j h = absurd (omega arith)
+last (suc (suc (suc (suc f)))) i j h = refl
+
+module _ {p : DA.AndPart} (f i j : ℕ) (e : p ≡ Pair f i j) where
+  pub pair-among : {n : ℕ} → Among n p → (i < j) × (j < n)
+  pair-among a = rw e at a
+
+  -- z(i,j)
+  pub first-marks : f ≡ 0 → PartMarksSay p (one i)
+  first-marks h = rw (e, h) (is-one i (λ g. refl))
+
+  -- a_i·b_j, z(i,j)⊕a_i·b_j and a_j·b_i
+  pub middle-marks : (f ≡ 0 → ⊥) → f < 4 → PartMarksSay p (both i j)
+  middle-marks h k = rw e (is-both i j (λ g. middle f i j h k))
+
+  -- z(j,i)
+  pub last-marks : 4 ≤ f → PartMarksSay p (one j)
+  last-marks h = rw e (is-one j (λ g. last f i j h))
+
+module _ {p : DA.AndPart} (i : ℕ) (e : p ≡ Own i) where
+  pub own-among : {n : ℕ} → Among n p → i < n
+  own-among a = rw e at a
+
+  pub own-marks : PartMarksSay p (one i)
+  own-marks = rw e (is-one i (λ g. refl))
+
+module _ {p : DA.AndPart} (i m : ℕ) (e : p ≡ Sum i m) where
+  pub sum-among : {n : ℕ} → Among n p → i < n
+  sum-among a = (rw e at a) .0
+
+  pub sum-marks : PartMarksSay p (one i)
+  sum-marks = rw e (is-one i (λ g. refl))
+
+-- new wire d of the gate of kind k
+module _ (k n d : ℕ) (h : d < cost (kindOf k) n) where
+  pub not-marks : k ≡ 0 → GateMarksSay (kindOf k) n d (record { first = 1; second = 0 })
+  not-marks e =
+      let small : d < 1 = rw e at h in
+      rw e
+      (record {
+        carried = λ g w a b. rw (not-origin isw n g w a b d small) (record { first = refl; second = refl });
+      })
+
+  pub xor-below : k ≡ 1 → d < n
+  xor-below e = rw e at h
+
+  pub xor-marks : k ≡ 1 → GateMarksSay (kindOf k) n d (one d)
+  xor-marks e =
+      rw e
+      (record {
+        carried = λ g w a b. rw (xor-origin isw n g w a b d (xor-below e)) (record { first = add-one d; second = refl });
+      })
+
+  -- a gate with new wires that is neither a NOT nor an XOR
+  module _ (no : k ≡ 0 → ⊥) (nx : k ≡ 1 → ⊥) where
+    is-and : kindOf k ≡ AND
+    is-and = go k no nx h
+      where
+        go : (k : ℕ) → (k ≡ 0 → ⊥) → (k ≡ 1 → ⊥) → d < cost (kindOf k) n → kindOf k ≡ AND
+        go zero a b h = absurd (a refl)
+        go (suc zero) a b h = absurd (b refl)
+        go (suc (suc zero)) a b h = refl
+        go (suc (suc (suc zero))) a b h = absurd (omega arith)
+        go (suc (suc (suc (suc k)))) a b h = absurd (omega arith)
+
+    pub and-below : d < cost AND n
+    and-below = rw is-and at h
+
+    pub and-marks :
+        {p : DA.AndPart} {r : DC.Carried} → PartSays n d p → PartMarksSay p r → GateMarksSay (kindOf k) n d r
+    and-marks P M =
+        rw is-and (record { carried = λ g w a b. rw (P .origin isw g w a b) (M .carried g) })
+
+pub among-more : {n m : ℕ} (p : DA.AndPart) → n ≤ m → Among n p → Among m p
+among-more (Pair f i j) h a = omega arith
+among-more (Own i) h a = omega arith
+among-more (Sum i m) h a = omega arith
+
+-- the wires of a planned table: an input share, and a new wire of a gate
+module _ {s : List ℕ} {o : ℕ} {p : DP.Plan} {w : ℕ} (R : PlanReady s o p) where
+  pub input-carried :
+      w < p .shares * p .inputs → CarriedSays (originAt (origins isw o (tableOf s)) w) (one (w % p .shares))
+  input-carried h =
+      let shares : p .shares * p .inputs ≡ sharesOf o * tableOf s .inputs = rw (R .shares, R .inputs) in
+      rw (R .shares, origins-input isw o (tableOf s) w (omega arith))
+      (record { first = add-one (w % sharesOf o); second = refl })
+
+  pub new-below : {x : DW.NewWire} → NewWireSays s o w x → x .place < cost (kindOf (x .kind)) (p .shares)
+  new-below N = rw (R .shares) (N .below)
+
+  pub new-carried :
+      {x : DW.NewWire} {r : DC.Carried} → NewWireSays s o w x → GateMarksSay (kindOf (x .kind)) (p .shares) (x .place) r
+      → CarriedSays (originAt (origins isw o (tableOf s)) w) r
+  new-carried {x} N M =
+      rw (N .origin) ((rw (R .shares) at M) .carried (x .gate) (N .first) (N .left) (N .right))
+
+-- the marks call: 1 to 8, 13, and the share numbers
+pub marks-refused :
+    {s : List ℕ} {o w : ℕ} {r : DR.Refusal} → PlanRefused s o r
+    → MarksSay s o w (record { number = r .number; place = r .place; first = 0; second = 0 })
+unfolding marksFault
+marks-refused {s} {o} {w} R =
+    let e : marksFault s o w ≡ plainFault s o = rw (R .refuses) in
+    record {
+      number = rw e (R .refusal .number);
+      place = rw e (R .refusal .place);
+      first = rw (e, R .refuses);
+      second = rw (e, R .refuses);
+    }
+
+module _ {s : List ℕ} {o w : ℕ} {p : DP.Plan} (R : PlanReady s o p) where
+  pub marks-outside : p .wires ≤ w → MarksSay s o w (record { number = 13; place = 0; first = 0; second = 0 })
+  unfolding marksFault
+  marks-outside h =
+      let past : leb (wires (maskedTable isw o (tableOf s))) w ≡ true = le-leb _ w (omega (arith, R .wires)) in
+      let e : marksFault s o w ≡ fault 13 0 = rw (R .passes, past) in
+      record { number = rw e; place = rw e; first = rw e; second = rw e }
+
+  pub marks-inside :
+      {c : DC.Carried} → w < p .wires → CarriedSays (originAt (origins isw (orderOf p) (tableOf s)) w) c
+      → MarksSay s o w (record { number = 0; place = 0; first = c .first; second = c .second })
+  unfolding marksFault
+  marks-inside h C =
+      let before : leb (wires (maskedTable isw o (tableOf s))) w ≡ false = lt-leb _ w (omega (arith, R .wires)) in
+      let e : marksFault s o w ≡ none = rw (R .passes, before) in
+      let D = rw (ready-order s o p R) at C in
+      record { number = rw e; place = rw e; first = rw e (D .first); second = rw e (D .second) }

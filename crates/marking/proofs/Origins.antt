@@ -1,0 +1,252 @@
+-- Where a masked wire comes from, by its place: which share of which input, or which gate and which of its new wires; inside
+-- an AND which wire of which pair, or which term of which row. All from what stands at a place of a block (`in-turn-at`).
+-- Assumes nothing.
+use mathlib.Core.Path.{_≡_, refl, sym, ap, _∙_}
+use mathlib.Core.List.{List, [], _∷_, _++_, map, map-append}
+use Prim.Native.Nat.{ℕ, zero, suc, _+_, _-_, _*_, _/_, _%_, _≤_, _<_}
+use native.Mathlib.Nat.{zero-add, mod-lt, div-add-mod, div-lt-iff-lt-mul}
+use native.Mathlib.Omega.{arith}
+use lib.ListN.{length, getD, length-map, List·getD-append, List·getD-map}
+use lib.Seq.{getD-append-add}
+use Rattle.tables.specs.Tables.{NOT, XOR, AND, Gate, gate, Table}
+use Rattle.marking.specs.declared.SharePair as DP
+use Rattle.marking.specs.declared.AndPart.the-variants.{Pair, Own, Sum}
+use Rattle.masks.specs.Shares as DS
+use Rattle.masks.specs.Shares.{sharesOf, upFrom, inTurn, pairOf, pairs, tri, row}
+use Rattle.masks.specs.Gadgets.{Gadget, Five, first, second, third, fourth, fifth, place}
+use Rattle.masks.specs.Wires.{
+  pair,
+  own,
+  sum,
+  Origin,
+  inputShare,
+  notOf,
+  xorShare,
+  andPart,
+  Wire,
+  wire,
+  originOf,
+  pairWires,
+  adding,
+  rowWires,
+  pairWire,
+  andWires,
+  newWires,
+  cost,
+  newShares,
+  inputOrigins,
+  origins,
+  masked,
+}
+use Rattle.masks.specs.Says.{originAt}
+use Rattle.marking.specs.Origins.{PairSays, fiveOf, PartSays}
+use Rattle.masks.proofs.Sum.{up-length, up-at}
+use Rattle.masks.proofs.Rows.{pairs-length, row-length}
+use Rattle.masks.proofs.Each.{in-turn-at, in-turn-length}
+use Rattle.masks.proofs.Costs.{all-of, pairs-span, rows-span, new-length, input-origins-length}
+use Rattle.masks.proofs.Placed.{place-small}
+
+abbrev noWire : Wire
+noWire = wire (gate NOT 0 0) (inputShare 0 0)
+
+origin-map : (xs : List Wire) (i : ℕ) → originAt (map originOf xs) i ≡ getD xs i noWire .origin
+origin-map xs i = List·getD-map originOf xs i noWire
+
+-- "Share s of input i is wire n·i+s−1"
+pub input-origin :
+    (n m i s w : ℕ) → i < m → s < n → w ≡ n * i + s → originAt (inputOrigins n m) w ≡ inputShare i s
+unfolding inputOrigins
+input-origin n m i s w hi hs e =
+    in-turn-at n 0 (upFrom m 0 (λ k. k)) (λ _ k. upFrom n 0 (λ s. inputShare k s)) 0 (inputShare 0 0)
+    (all-of _ (λ k _. up-length n 0 (λ s. inputShare k s)) _) i s w (omega (arith, up-length m 0 (λ (k : ℕ). k))) hs e
+    ∙ up-at n 0 _ s (inputShare 0 0) hs
+    ∙ rw (up-at m 0 (λ (k : ℕ). k) i 0 hi, zero-add i, zero-add s)
+
+-- an input share among all wires
+pub origins-input :
+    (G : Gadget) (o : ℕ) (t : Table) (w : ℕ) → w < sharesOf o * t .inputs
+    → originAt (origins G o t) w ≡ inputShare (w / sharesOf o) (w % sharesOf o)
+unfolding origins
+origins-input G o t w h =
+    let n = sharesOf o in
+    let m = t .inputs in
+    List·getD-append (inputOrigins n m) _ (inputShare 0 0) w (omega (arith, input-origins-length n m))
+    ∙ input-origin n m (w / n) (w % n) w
+    (div-lt-iff-lt-mul (omega arith) .1 (omega arith))
+    (mod-lt w (omega arith))
+    (sym (div-add-mod w n))
+
+-- the new wire of a NOT
+pub not-origin :
+    (G : Gadget) (n g w : ℕ) (a b : List ℕ) (d : ℕ) → d < 1 → originAt (map originOf (newWires G NOT n g w a b)) d ≡ notOf g
+not-origin G n g w a b zero h = refl
+not-origin G n g w a b (suc d) h = absurd (omega arith)
+
+-- new wire d of an XOR
+pub xor-origin :
+    (G : Gadget) (n g w : ℕ) (a b : List ℕ) (d : ℕ) → d < n
+    → originAt (map originOf (newWires G XOR n g w a b)) d ≡ xorShare g d
+xor-origin G n g w a b d h =
+    origin-map (newWires G XOR n g w a b) d
+    ∙ ap originOf (up-at n 0 _ d noWire h)
+    ∙ ap (λ (y : ℕ). xorShare g y) (zero-add d)
+
+-- term i of a running sum has the origin of term m + i
+adding-origin :
+    (o : ℕ → Origin) (m last next : ℕ) (zs : List ℕ) (i : ℕ) (d : Wire) → i < length zs
+    → getD (adding o m last next zs) i d .origin ≡ o (m + i)
+unfolding adding
+adding-origin o m last next [] i d h = absurd (omega arith)
+adding-origin o m last next (z ∷ zs) zero d h = ap o {x = m} {y = m + 0} (omega arith)
+adding-origin o m last next (z ∷ zs) (suc i) d h =
+    adding-origin o (suc m) next (suc next) zs i d (omega arith) ∙ ap o {x = suc m + i} {y = m + suc i} (omega arith)
+
+module _ (G : Gadget) (n g w : ℕ) (a b : List ℕ) where
+  abbrev zs : ℕ → List ℕ
+  zs = row n (pairWire w (G .low)) (pairWire w (G .high))
+
+  pairs-long : length (inTurn 5 w (pairs n) (pairWires G g a b)) ≡ 5 * tri n
+  pairs-long =
+      in-turn-length 5 w (pairs n) (pairWires G g a b) (pairs-span G n g a b)
+      ∙ ap (λ (y : ℕ). 5 * y) (pairs-length n 0)
+
+  in-pair :
+      (q r d : ℕ) → q < tri n → r < 5 → d ≡ 5 * q + r
+      → getD (andWires G n g w a b) d noWire
+      ≡ getD (pairWires G g a b (w + 5 * q) (getD (pairs n) q (pairOf 0 0))) r noWire
+  unfolding andWires
+  in-pair q r d hq hr e =
+      List·getD-append (inTurn 5 w (pairs n) (pairWires G g a b)) _ noWire d (omega (arith, pairs-long))
+      ∙ in-turn-at 5 w (pairs n) (pairWires G g a b) (pairOf 0 0) noWire (pairs-span G n g a b) q r d
+      (omega (arith, pairs-length n 0)) hr e
+
+  in-row :
+      (i r d : ℕ) → i < n → r < n → d ≡ 5 * tri n + n * i + r
+      → getD (andWires G n g w a b) d noWire ≡ getD (rowWires g a b zs (w + 5 * tri n + n * i) i) r noWire
+  unfolding andWires
+  in-row i r d hi hr e =
+      let ps = inTurn 5 w (pairs n) (pairWires G g a b) in
+      let rows = inTurn n (w + 5 * tri n) (upFrom n 0 (λ i. i)) (rowWires g a b zs) in
+      let past : d ≡ length ps + (n * i + r) = omega (arith, pairs-long) in
+      ap (λ (y : ℕ). getD (ps ++ rows) y noWire) past
+      ∙ getD-append-add ps rows (n * i + r) noWire
+      ∙ in-turn-at n (w + 5 * tri n) (upFrom n 0 (λ i. i)) (rowWires g a b zs) 0 noWire (rows-span G n g a b _ _) i r
+      (n * i + r) (omega (arith, up-length n 0 (λ (i : ℕ). i))) hr refl
+      ∙ ap (λ (y : ℕ). getD (rowWires g a b zs (w + 5 * tri n + n * i) y) r noWire)
+      (up-at n 0 (λ (y : ℕ). y) i 0 hi ∙ zero-add i)
+
+  -- wire f of pair number q
+  pub pair-origin :
+      (f : Five) (q d : ℕ) → q < tri n → d ≡ 5 * q + place f
+      → originAt (map originOf (andWires G n g w a b)) d
+      ≡ andPart g (pair f (getD (pairs n) q (pairOf 0 0) .lower) (getD (pairs n) q (pairOf 0 0) .upper))
+  pair-origin f q d h e =
+      origin-map (andWires G n g w a b) d ∙ ap originOf (in-pair q (place f) d h (place-small f) e) ∙ here f
+    where
+      here : (f : Five)
+          → getD (pairWires G g a b (w + 5 * q) (getD (pairs n) q (pairOf 0 0))) (place f) noWire .origin
+          ≡ andPart g (pair f (getD (pairs n) q (pairOf 0 0) .lower) (getD (pairs n) q (pairOf 0 0) .upper))
+      here first = refl
+      here second = refl
+      here third = refl
+      here fourth = refl
+      here fifth = refl
+
+  -- the own product of row i
+  pub own-origin :
+      (i d : ℕ) → i < n → d ≡ 5 * tri n + n * i → originAt (map originOf (andWires G n g w a b)) d ≡ andPart g (own i)
+  own-origin i d h e =
+      origin-map (andWires G n g w a b) d ∙ ap originOf (in-row i 0 d h (omega arith) (omega arith))
+
+  -- the sum of m terms of row i
+  pub sum-origin :
+      (i m d : ℕ) → i < n → 0 < m → m < n → d ≡ 5 * tri n + n * i + m
+      → originAt (map originOf (andWires G n g w a b)) d ≡ andPart g (sum i m)
+  sum-origin i zero d h k l e = absurd (omega arith)
+  sum-origin i (suc m) d h k l e =
+      origin-map (andWires G n g w a b) d
+      ∙ ap originOf (in-row i (suc m) d h l e)
+      ∙ adding-origin (λ m. andPart g (sum i m)) 1 _ _ (zs i) m noWire
+      (omega (arith, row-length n (pairWire w (G .low)) (pairWire w (G .high)) i h))
+      ∙ ap (λ (y : ℕ). andPart g (sum i y)) {x = 1 + m} {y = suc m} (omega arith)
+
+-- the wires of gates, the first of which is x: its new wires, and then those of the others
+module _ (G : Gadget) (n g w : ℕ) (S : List (List ℕ)) (x : Gate) (xs : List Gate) where
+  abbrev new : List Wire
+  new = newWires G (x .kind) n g w (getD S (x .left) []) (getD S (x .right) [])
+
+  abbrev later : List (List ℕ)
+  later = S ++ (newShares (x .kind) n w (getD S (x .left) []) ∷ [])
+
+  new-long : length (map originOf new) ≡ cost (x .kind) n
+  new-long = length-map new originOf ∙ new-length G (x .kind) n g w _ _
+
+  pub masked-here :
+      (d : ℕ) → d < cost (x .kind) n
+      → originAt (map originOf (masked G n g w S (x ∷ xs))) d ≡ originAt (map originOf new) d
+  unfolding masked
+  masked-here d h =
+      rw map-append (List·getD-append (map originOf new) _ (inputShare 0 0) d (omega (arith, new-long)))
+
+  pub masked-past :
+      (d e : ℕ) → d ≡ cost (x .kind) n + e
+      → originAt (map originOf (masked G n g w S (x ∷ xs))) d
+      ≡ originAt (map originOf (masked G n (suc g) (w + cost (x .kind) n) later xs)) e
+  unfolding masked
+  masked-past d e h =
+      let rest = map originOf (masked G n (suc g) (w + cost (x .kind) n) later xs) in
+      let past : d ≡ length (map originOf new) + e = omega (arith, new-long) in
+      rw (map-append, past) (getD-append-add (map originOf new) rest e (inputShare 0 0))
+
+five-place : (f : ℕ) → f < 5 → f ≡ place (fiveOf f)
+five-place zero h = refl
+five-place (suc zero) h = refl
+five-place (suc (suc zero)) h = refl
+five-place (suc (suc (suc zero))) h = refl
+five-place (suc (suc (suc (suc k)))) h = omega arith
+
+-- wire d of an AND, before its rows
+pub pair-says :
+    (n d c : ℕ) {p : DP.SharePair} → c ≡ tri n → d < 5 * c → PairSays n (d / 5) p
+    → PartSays n d (Pair (d % 5) (p .lower) (p .upper))
+pair-says n d c {p} e h P =
+    record {
+      origin =
+          λ G g w a b.
+          pair-origin G n g w a b (fiveOf (d % 5)) (d / 5) d (omega arith) (omega (arith, five-place (d % 5) (omega arith)))
+          ∙ ap (λ (y : DS.Pair). andPart g (pair (fiveOf (d % 5)) (y .lower) (y .upper))) (sym (P .is));
+      among = (P .ordered, P .inside);
+    }
+
+some-square : (n x : ℕ) → x < n * n → 0 < n
+some-square zero x h = absurd (omega arith)
+some-square (suc n) x h = omega arith
+
+-- wire d of an AND, in its rows
+module _ (n d c : ℕ) (e : c ≡ tri n) (past : 5 * c ≤ d) (h : d < cost AND n) where
+  pub row-some : 0 < n
+  row-some = some-square n (d - 5 * c) (omega arith)
+
+  pub row-below : (d - 5 * c) / n < n
+  row-below = div-lt-iff-lt-mul row-some .1 (omega arith)
+
+  pub terms-below : (d - 5 * c) % n < n
+  terms-below = mod-lt _ row-some
+
+  row-split : d ≡ 5 * tri n + n * ((d - 5 * c) / n) + (d - 5 * c) % n
+  row-split = omega (arith, div-add-mod (d - 5 * c) n)
+
+  pub own-says : (d - 5 * c) % n ≡ 0 → PartSays n d (Own ((d - 5 * c) / n))
+  own-says z =
+      record {
+        origin = λ G g w a b. own-origin G n g w a b _ d row-below (omega (arith, row-split));
+        among = row-below;
+      }
+
+  pub sum-says : ((d - 5 * c) % n ≡ 0 → ⊥) → PartSays n d (Sum ((d - 5 * c) / n) ((d - 5 * c) % n))
+  sum-says z =
+      record {
+        origin =
+            λ G g w a b. sum-origin G n g w a b _ _ d row-below (omega arith) terms-below row-split;
+        among = (row-below, terms-below);
+      }

@@ -1,0 +1,79 @@
+-- Where a wire of the masked table comes from, as the code answers it: the pair of shares at a place, the part of an AND that
+-- is one of its wires, and the share numbers that an origin carries.
+-- Assumes nothing.
+use mathlib.Core.Path.{_≡_}
+use mathlib.Core.List.{List, map}
+use Prim.Native.Nat.{ℕ, zero, suc, _/_, _<_}
+use lib.ListN.{getD}
+use Rattle.marking.specs.declared.SharePair as DP
+use Rattle.marking.specs.declared.Carried as DC
+use Rattle.sizing.specs.declared.Plan as DN
+use Rattle.marking.specs.declared.NewWire as DW
+use Rattle.tables.specs.Tables.{Kind, kindOf, tableOf}
+use Rattle.marking.specs.declared.AndPart as DA
+use Rattle.marking.specs.declared.AndPart.the-variants.{Pair, Own, Sum}
+use Rattle.masks.specs.Shares.{sharesOf, pairOf, pairs}
+use Rattle.masks.specs.Gadgets.{Five, first, second, third, fourth, fifth, Gadget, isw}
+use Rattle.masks.specs.Wires.{Part, pair, own, sum, Origin, andPart, originOf, marks, andWires, newWires, cost, origins}
+use Rattle.masks.specs.Says.{originAt}
+
+-- the pair at place q among the pairs of n shares
+pub record PairSays (n q : ℕ) (r : DP.SharePair) : Type 0 where
+  pub is : pairOf (r .lower) (r .upper) ≡ getD (pairs n) q (pairOf 0 0)
+  pub ordered : r .lower < r .upper
+  pub inside : r .upper < n
+
+-- the wires of a pair, by number from 0
+abbrev pub fiveOf : ℕ → Five
+fiveOf zero = first
+fiveOf (suc zero) = second
+fiveOf (suc (suc zero)) = third
+fiveOf (suc (suc (suc zero))) = fourth
+fiveOf (suc (suc (suc (suc k)))) = fifth
+
+-- the part that an answer names
+abbrev pub partOf : DA.AndPart → Part
+partOf (Pair f i j) = pair (fiveOf f) i j
+partOf (Own i) = own i
+partOf (Sum i m) = sum i m
+
+-- its shares and rows are among n
+abbrev pub Among : ℕ → DA.AndPart → Type 0
+Among n (Pair f i j) = (i < j) × (j < n)
+Among n (Own i) = i < n
+Among n (Sum i m) = (i < n) × (m < n)
+
+-- wire d of a masked AND of n shares, whichever AND it is
+pub record PartSays (n d : ℕ) (r : DA.AndPart) : Type 0 where
+  pub origin :
+      (G : Gadget) (g w : ℕ) (a b : List ℕ)
+      → originAt (map originOf (andWires G n g w a b)) d ≡ andPart g (partOf r)
+  pub among : Among n r
+
+-- the share numbers that a wire of an origin carries, 0 for none
+pub record CarriedSays (x : Origin) (r : DC.Carried) : Type 0 where
+  pub first : r .first ≡ getD (marks isw x) 0 0
+  pub second : r .second ≡ getD (marks isw x) 1 0
+
+-- those of a part of an AND, whichever AND it is
+pub record PartMarksSay (p : DA.AndPart) (r : DC.Carried) : Type 0 where
+  pub carried : (g : ℕ) → CarriedSays (andPart g (partOf p)) r
+
+-- those of new wire d of a plain gate, whichever gate it is
+pub record GateMarksSay (k : Kind) (n d : ℕ) (r : DC.Carried) : Type 0 where
+  pub carried : (g w : ℕ) (a b : List ℕ) → CarriedSays (originAt (map originOf (newWires isw k n g w a b)) d) r
+
+-- the order of a plan: "n = 2t+1"
+abbrev pub orderOf : DN.Plan → ℕ
+orderOf p = p .shares / 2
+
+-- the plain gate that a wire past the input shares is a new wire of, and which of them, where the gate's first new wire is
+-- `first` and its operands' shares are on the wires `left` and `right`
+pub record NewWireSays (s : List ℕ) (o wire : ℕ) (r : DW.NewWire) : Type 0 where
+  pub first : ℕ
+  pub left : List ℕ
+  pub right : List ℕ
+  pub below : r .place < cost (kindOf (r .kind)) (sharesOf o)
+  pub origin :
+      originAt (origins isw o (tableOf s)) wire
+      ≡ originAt (map originOf (newWires isw (kindOf (r .kind)) (sharesOf o) (r .gate) first left right)) (r .place)

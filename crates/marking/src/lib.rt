@@ -1,0 +1,207 @@
+// The marks of a wire: which plain gate it belongs to, which part of an AND it is, and the shares that it carries.
+ghost use Prim.Native.Nat.{_+_, _*_, _/_, _≤_, _<_, _-_};
+ghost use Rattle.tables.specs.Tables.{kindOf, wires, tableOf, AND};
+ghost use Rattle.masks.specs.Shares.{tri, pairs, row};
+ghost use Rattle.masks.specs.Wires.{cost, share, origins};
+ghost use Rattle.tables.specs.Says.{Refused};
+ghost use Rattle.masks.specs.Says.{originAt, MarksSay};
+ghost use Rattle.sizing.specs.Plans.{PlanReady};
+ghost use Rattle.masks.specs.Gadgets.{first, isw};
+ghost use Rattle.marking.specs.Origins.{PairSays, Among, PartSays, CarriedSays, PartMarksSay, GateMarksSay, orderOf, NewWireSays};
+
+// The share numbers that a wire carries, ascending, 0 for none.
+pub struct Carried {
+    pub first: u8,
+    pub second: u8,
+}
+
+// A pair of shares, counted from 0.
+pub struct SharePair {
+    pub lower: usize,
+    pub upper: usize,
+}
+
+// A wire of a masked AND: one of the five of a pair, a row's own product, or a row's sum of some terms. Wires of a pair, shares
+// and rows are counted from 0.
+pub enum AndPart {
+    Pair { wire: u8, lower: u8, upper: u8 },
+    Own { row: u8 },
+    Sum { row: u8, terms: u8 },
+}
+
+// A new wire of a plain gate: the gate's number and kind, and which of its new wires, counted from 0.
+pub struct NewWire {
+    pub gate: usize,
+    pub kind: u8,
+    pub place: usize,
+}
+
+// The pair of shares that stands at place q among the pairs of n shares.
+pub fn pair_of(n: usize, q: usize) -> SharePair
+    requires { ⌜ q < tri n ⌝ }
+    ensures { λ r. ⌜ PairSays n q r ⌝ }
+{
+    let mut lower = 0;
+    let mut left = q;
+    let mut after = n - 1;
+    while after <= left {
+        left -= after;
+        after -= 1;
+        lower += 1;
+    }
+    SharePair {
+        lower: lower,
+        upper: lower + 1 + left,
+    }
+}
+
+// The part that wire d of a masked AND of n shares is.
+pub fn and_part(n: usize, d: usize) -> AndPart
+    requires { ⌜ (n ≤ 31) × (d < cost AND n) ⌝ }
+    ensures { λ r. ⌜ PartSays n d r ⌝ }
+{
+    let crossed = 5 * sizing::pair_count(n);
+    if d < crossed {
+        let p = pair_of(n, d / 5);
+        return AndPart::Pair {
+            wire: (d % 5) as u8,
+            lower: p.lower as u8,
+            upper: p.upper as u8,
+        };
+    }
+    let row = (d - crossed) / n;
+    let terms = (d - crossed) % n;
+    if terms == 0 {
+        return AndPart::Own { row: row as u8 };
+    }
+    AndPart::Sum {
+        row: row as u8,
+        terms: terms as u8,
+    }
+}
+
+// The share numbers that a part of a masked AND carries.
+pub fn part_marks(part: AndPart) -> Carried
+    requires { ⌜ Among 31 part ⌝ }
+    ensures { λ r. ⌜ PartMarksSay part r ⌝ }
+{
+    match part {
+        AndPart::Pair { wire, lower, upper } => {
+            if wire == 0 {
+                return Carried {
+                    first: lower + 1,
+                    second: 0,
+                };
+            }
+            if wire < 4 {
+                return Carried {
+                    first: lower + 1,
+                    second: upper + 1,
+                };
+            }
+            Carried {
+                first: upper + 1,
+                second: 0,
+            }
+        }
+        AndPart::Own { row } => Carried {
+            first: row + 1,
+            second: 0,
+        },
+        AndPart::Sum { row: i, terms: _ } => Carried {
+            first: i + 1,
+            second: 0,
+        },
+    }
+}
+
+// The share numbers that new wire d of a plain gate carries.
+fn gate_marks(kind: u8, n: usize, d: usize) -> Carried
+    requires { ⌜ (n ≤ 31) × (d < cost (kindOf kind) n) ⌝ }
+    ensures { λ r. ⌜ GateMarksSay (kindOf kind) n d r ⌝ }
+{
+    if kind == 0 {
+        return Carried {
+            first: 1,
+            second: 0,
+        };
+    }
+    if kind == 1 {
+        return Carried {
+            first: (d + 1) as u8,
+            second: 0,
+        };
+    }
+    part_marks(and_part(n, d))
+}
+
+// The plain gate that a wire past the input shares is a new wire of.
+pub fn find_gate(table: &[u8], p: sizing::Plan, wire: usize) -> NewWire
+    requires { ⌜ PlanReady (now table) (orderOf p) p × (p .shares * p .inputs ≤ wire) × (wire < p .wires) ⌝ }
+    ensures { λ r. ⌜ NewWireSays (now (table .entry)) (orderOf p) wire r ⌝ }
+{
+    let n = p.shares;
+    let mut first = n * p.inputs;
+    let mut g = 0;
+    loop {
+        let kind = table[6 + g];
+        let next = first + sizing::gate_cost(kind, n);
+        if wire < next {
+            return NewWire {
+                gate: g,
+                kind,
+                place: wire - first,
+            };
+        }
+        first = next;
+        g += 1;
+    }
+}
+
+// The share numbers that a wire of the masked table carries.
+pub fn marks_at(table: &[u8], p: sizing::Plan, wire: usize) -> Carried
+    requires { ⌜ PlanReady (now table) (orderOf p) p × (wire < p .wires) ⌝ }
+    ensures { λ r. ⌜ CarriedSays (originAt (origins isw (orderOf p) (tableOf (now (table .entry)))) wire) r ⌝ }
+{
+    let n = p.shares;
+    if wire < n * p.inputs {
+        return Carried {
+            first: (wire % n + 1) as u8,
+            second: 0,
+        };
+    }
+    let x = find_gate(table, p, wire);
+    gate_marks(x.kind, n, x.place)
+}
+
+// The share numbers that a wire of the masked table of a plain table carries, or the refusal.
+pub fn wire_marks(table: &[u8], order: u8, wire: u32) -> masks::Marks
+    ensures { λ r. ⌜ MarksSay (now (table .entry)) order wire r ⌝ }
+{
+    match sizing::plan_table(table, order) {
+        sizing::Planned::Refused(r) => masks::Marks {
+            number: r.number,
+            place: r.place,
+            first: 0,
+            second: 0,
+        },
+        sizing::Planned::Ready(p) => {
+            let w = wire as usize;
+            if p.wires <= w {
+                return masks::Marks {
+                    number: 13,
+                    place: 0,
+                    first: 0,
+                    second: 0,
+                };
+            }
+            let c = marks_at(table, p, w);
+            masks::Marks {
+                number: 0,
+                place: 0,
+                first: c.first,
+                second: c.second,
+            }
+        }
+    }
+}

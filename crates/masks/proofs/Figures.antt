@@ -1,0 +1,137 @@
+-- Figures of a gate by its kind's byte, their bounds at 31 shares at most, and the loops over a table's kinds: the search for
+-- a random gate and the totals, each by what is left.
+-- Assumes nothing.
+use mathlib.Core.Path.{_≡_, refl, sym, ap, _∙_}
+use mathlib.Core.Bool.{false}
+use mathlib.Core.List.{List, [], _∷_}
+use Prim.Native.Nat.{ℕ, zero, suc, _+_, _*_, _≤_, _<_}
+use native.Mathlib.Nat.{mul-le-mul, mul-le-mul-right}
+use native.Mathlib.Numerals.{add-one}
+use native.Mathlib.Omega.{arith}
+use lib.ListN.{length, getD}
+use Rattle.tables.specs.Refusals.{Fault, none, fault}
+use Rattle.tables.specs.Tables.{Kind, NOT, XOR, AND, RANDOM, UNKNOWN, kindOf, Gate, word, tableOf, isRandom, randomFault}
+use Rattle.tables.proofs.Loops.{gatesAt, gates-at-table, gates-at-step, gates-at-end}
+use Rattle.masks.specs.Shares.{tri}
+use Rattle.masks.specs.Wires.{cost, draws, totalOf}
+use Rattle.masks.proofs.Rows.{tri-closed}
+
+pub square-small : (n : ℕ) → n ≤ 31 → n * n ≤ 961
+square-small n h = mul-le-mul {n₂ = 31} {m₂ = 31} h h
+
+pub tri-small : (n : ℕ) → n ≤ 31 → tri n ≤ 465
+tri-small n h = omega (arith, tri-closed n, mul-le-mul-right n h)
+
+-- "3,286 and 465 at t = 15"
+pub cost-small : (k : Kind) (n : ℕ) → n ≤ 31 → cost k n ≤ 3286
+cost-small NOT n h = omega arith
+cost-small XOR n h = omega arith
+cost-small AND n h = omega (arith, tri-small n h, square-small n h)
+cost-small RANDOM n h = omega arith
+cost-small (UNKNOWN k) n h = omega arith
+
+pub draws-small : (k : Kind) (n : ℕ) → n ≤ 31 → draws k n ≤ 465
+draws-small NOT n h = omega arith
+draws-small XOR n h = omega arith
+draws-small AND n h = tri-small n h
+draws-small RANDOM n h = omega arith
+draws-small (UNKNOWN k) n h = omega arith
+
+pub total-small :
+    (f : Kind → ℕ) (m : ℕ) → ((k : Kind) → f k ≤ m) → (gs : List Gate) → totalOf f gs ≤ m * length gs
+unfolding totalOf
+total-small f m h [] = omega arith
+total-small f m h (g ∷ gs) = omega (arith, h (g .kind), total-small f m h gs)
+
+-- a byte past those of NOT, XOR and AND costs nothing; only an AND draws; only byte 3 is a random gate
+pub other-cost : (k n : ℕ) → (k ≡ 0 → ⊥) → (k ≡ 1 → ⊥) → (k ≡ 2 → ⊥) → cost (kindOf k) n ≡ 0
+other-cost zero n a b c = absurd (a refl)
+other-cost (suc zero) n a b c = absurd (b refl)
+other-cost (suc (suc zero)) n a b c = absurd (c refl)
+other-cost (suc (suc (suc zero))) n a b c = refl
+other-cost (suc (suc (suc (suc k)))) n a b c = refl
+
+pub other-draws : (k n : ℕ) → (k ≡ 2 → ⊥) → draws (kindOf k) n ≡ 0
+other-draws zero n c = refl
+other-draws (suc zero) n c = refl
+other-draws (suc (suc zero)) n c = absurd (c refl)
+other-draws (suc (suc (suc zero))) n c = refl
+other-draws (suc (suc (suc (suc k)))) n c = refl
+
+other-random : (k : ℕ) → (k ≡ 3 → ⊥) → isRandom (kindOf k) ≡ false
+other-random zero h = refl
+other-random (suc zero) h = refl
+other-random (suc (suc zero)) h = refl
+other-random (suc (suc (suc zero))) h = absurd (h refl)
+other-random (suc (suc (suc (suc k)))) h = refl
+
+-- the search for a random gate, at gate i of g
+pub record Searching (s : List ℕ) (g i : ℕ) : Type 0 where
+  pub within : i ≤ g
+  pub left : randomFault 0 (tableOf s .gates) ≡ randomFault i (gatesAt s g i)
+
+pub search-start : (s : List ℕ) (g : ℕ) → g ≡ word s 2 → Searching s g 0
+search-start s g e = record { within = omega arith; left = rw (e, gates-at-table s) }
+
+module _ {s : List ℕ} {g i : ℕ} (S : Searching s g i) where
+  pub search-found : i < g → getD s (6 + i) 0 ≡ 3 → randomFault 0 (tableOf s .gates) ≡ fault 7 i
+  unfolding randomFault
+  search-found h e = S .left ∙ rw (gates-at-step s g i h, e)
+
+  pub search-turn : i < g → (getD s (6 + i) 0 ≡ 3 → ⊥) → Searching s g (i + 1)
+  unfolding randomFault
+  search-turn h e =
+      rw add-one
+      (record { within = h; left = S .left ∙ rw (gates-at-step s g i h, other-random (getD s (6 + i) 0) e) })
+
+  pub search-end : g ≤ i → randomFault 0 (tableOf s .gates) ≡ none
+  unfolding randomFault
+  search-end h = let e : i ≡ g = omega (arith, S .within) in S .left ∙ rw (e, gates-at-end s g)
+
+-- the totals of a table's gates at n shares, the first i of g gates added to w wires and d random bits
+pub record Adding (s : List ℕ) (n g i w d : ℕ) : Type 0 where
+  pub within : i ≤ g
+  pub wires : w + totalOf (λ k. cost k n) (gatesAt s g i) ≡ totalOf (λ k. cost k n) (tableOf s .gates)
+  pub draws : d + totalOf (λ k. draws k n) (gatesAt s g i) ≡ totalOf (λ k. draws k n) (tableOf s .gates)
+  pub few-wires : w ≤ 3286 * i
+  pub few-draws : d ≤ 465 * i
+
+pub adding-start : (s : List ℕ) (n g : ℕ) → g ≡ word s 2 → Adding s n g 0 0 0
+adding-start s n g e =
+    record {
+      within = omega arith;
+      wires = rw (e, gates-at-table s) (omega arith);
+      draws = rw (e, gates-at-table s) (omega arith);
+      few-wires = omega arith;
+      few-draws = omega arith;
+    }
+
+total-step :
+    (f : Kind → ℕ) (s : List ℕ) (g i v : ℕ) → i < g → v ≡ f (kindOf (getD s (6 + i) 0))
+    → totalOf f (gatesAt s g i) ≡ v + totalOf f (gatesAt s g (suc i))
+unfolding totalOf
+total-step f s g i v h e = rw (gates-at-step s g i h, e)
+
+module _ {s : List ℕ} {n g i w d : ℕ} (A : Adding s n g i w d) where
+  pub adding-turn :
+      i < g → n ≤ 31 → (u v : ℕ) → u ≡ cost (kindOf (getD s (6 + i) 0)) n → v ≡ draws (kindOf (getD s (6 + i) 0)) n
+      → Adding s n g (i + 1) (w + u) (d + v)
+  adding-turn h small u v a b =
+      let k = kindOf (getD s (6 + i) 0) in
+      rw add-one
+      (record {
+        within = h;
+        wires = omega (arith, A .wires, total-step (λ k. cost k n) s g i u h a);
+        draws = omega (arith, A .draws, total-step (λ k. draws k n) s g i v h b);
+        few-wires = omega (arith, A .few-wires, cost-small k n small);
+        few-draws = omega (arith, A .few-draws, draws-small k n small);
+      })
+
+  pub adding-end :
+      g ≤ i
+      → (w ≡ totalOf (λ k. cost k n) (tableOf s .gates)) × (d ≡ totalOf (λ k. draws k n) (tableOf s .gates))
+  unfolding totalOf
+  adding-end h =
+      let e : i ≡ g = omega (arith, A .within) in
+      let none : (f : Kind → ℕ) → totalOf f (gatesAt s g i) ≡ 0 = λ f. rw (e, gates-at-end s g) in
+      (omega (arith, A .wires, none (λ k. cost k n)), omega (arith, A .draws, none (λ k. draws k n)))

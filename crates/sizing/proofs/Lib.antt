@@ -1,0 +1,4 @@
+-- Laws that the proofs of sizing cite.
+pub mod Planning
+pub mod Writing
+pub mod Line

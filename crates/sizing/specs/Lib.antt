@@ -1,0 +1,2 @@
+-- What planning promises.
+pub mod Plans

@@ -1,0 +1,353 @@
+// What a plain table and an order come to: refusals 1 to 8, the sizes of the masked table, and the forecast's line.
+ghost use mathlib.Core.Path.{_≡_};
+ghost use Prim.Native.Nat.{_+_, _*_, _/_, _≤_, _<_, _-_};
+ghost use lib.ListN.{length};
+ghost use Rattle.tables.specs.Tables.{kindOf, wires, tableOf, randomFault, two};
+ghost use Rattle.masks.specs.Shares.{tri, pairs};
+ghost use Rattle.masks.specs.Wires.{cost, draws};
+ghost use Rattle.tables.specs.Refusals.{Fault, orElse};
+ghost use Rattle.tables.specs.Says.{Refused};
+ghost use Rattle.masks.specs.Says.{orderFault, ForecastSays};
+ghost use Rattle.sizing.specs.Plans.{HasGates, TotalsSay, Maskable, PlanSays, PlanFits, planBytes, FiguresSay};
+ghost use mathlib.Core.List.{[], _∷_, _++_};
+ghost use Rattle.masks.specs.Gadgets.{first};
+ghost use Rattle.masks.specs.Lines.{decimal, Spelled, Puts, lineOf, refusedWord, forecastLine, sizesLine, LineSays};
+
+// The sizes of a plain table that 1 to 8 accept at an order, and its masked table's wires and tape bits.
+pub struct Plan {
+    pub inputs: usize,
+    pub gates: usize,
+    pub outputs: usize,
+    pub shares: usize,
+    pub wires: usize,
+    pub tape: usize,
+}
+
+// Whether a plain table can be masked at an order: the refusal, or the sizes.
+pub enum Planned {
+    Refused(tables::Refusal),
+    Ready(Plan),
+}
+
+// The masked wires and the random bits of a plain table's gates, in all.
+struct Totals {
+    wires: usize,
+    draws: usize,
+}
+
+// How many pairs n shares have.
+pub fn pair_count(n: usize) -> usize
+    requires { ⌜ n ≤ 31 ⌝ }
+    ensures { λ r. ⌜ r ≡ tri n ⌝ }
+{
+    (n * n - n) / 2
+}
+
+// How many masked wires a plain gate costs.
+pub fn gate_cost(kind: u8, n: usize) -> usize
+    requires { ⌜ n ≤ 31 ⌝ }
+    ensures { λ r. ⌜ r ≡ cost (kindOf kind) n ⌝ }
+{
+    match kind {
+        0 => 1,
+        1 => n,
+        2 => 5 * pair_count(n) + n * n,
+        _ => 0,
+    }
+}
+
+// How many random bits a plain gate draws once it is masked.
+pub fn gate_draws(kind: u8, n: usize) -> usize
+    requires { ⌜ n ≤ 31 ⌝ }
+    ensures { λ r. ⌜ r ≡ draws (kindOf kind) n ⌝ }
+{
+    if kind == 2 {
+        return pair_count(n);
+    }
+    0
+}
+
+// Refusal 7 at the first random gate, or no refusal.
+fn random_fault(table: &[u8], gates: usize) -> tables::Refusal
+    requires { ⌜ HasGates (now table) gates ⌝ }
+    ensures { λ r. ⌜ Refused (randomFault 0 (tableOf (now (table .entry)) .gates)) r ⌝ }
+{
+    let mut i = 0;
+    while i < gates {
+        if table[6 + i] == 3 {
+            return tables::Refusal {
+                number: 7,
+                place: i as u32,
+            };
+        }
+        i += 1;
+    }
+    tables::Refusal {
+        number: 0,
+        place: 0,
+    }
+}
+
+// What the gates of a plain table cost and draw at n shares.
+fn gate_totals(table: &[u8], gates: usize, n: usize) -> Totals
+    requires { ⌜ HasGates (now table) gates × (n ≤ 31) ⌝ }
+    ensures { λ r. ⌜ TotalsSay (now (table .entry)) n r ⌝ }
+{
+    let mut wires = 0;
+    let mut draws = 0;
+    let mut i = 0;
+    while i < gates {
+        let kind = table[6 + i];
+        wires += gate_cost(kind, n);
+        draws += gate_draws(kind, n);
+        i += 1;
+    }
+    Totals { wires, draws }
+}
+
+// Refusal 6, or none.
+fn order_fault(order: u8) -> tables::Refusal
+    ensures { λ r. ⌜ Refused (orderFault order) r ⌝ }
+{
+    if order < 1 {
+        return tables::Refusal {
+            number: 6,
+            place: 0,
+        };
+    }
+    if order > 15 {
+        return tables::Refusal {
+            number: 6,
+            place: 0,
+        };
+    }
+    tables::Refusal {
+        number: 0,
+        place: 0,
+    }
+}
+
+// Of two checks in their order, the first that refuses.
+fn first_of(a: tables::Refusal, b: tables::Refusal) -> tables::Refusal
+    ensures { λ r. ⌜ ((f g : Fault) → Refused f a → Refused g b → Refused (orElse f g) r) ⌝ }
+{
+    if a.number != 0 {
+        return a;
+    }
+    b
+}
+
+// A refusal with no place of its own.
+fn refuse(number: u8) -> Planned
+    ensures { λ r. ⌜ r ≡ Planned.Refused (record { number = number; place = 0 }) ⌝ }
+{
+    Planned::Refused(tables::Refusal { number, place: 0 })
+}
+
+// 8, or the sizes, for a table and an order that 1 to 7 accept.
+fn plan_sizes(table: &[u8], order: u8) -> Planned
+    requires { ⌜ Maskable (now table) order ⌝ }
+    ensures { λ r. ⌜ PlanSays (now (table .entry)) order r ⌝ }
+{
+    let inputs = tables::field(table, 0);
+    let gates = tables::field(table, 2);
+    let outputs = tables::field(table, 4);
+    let random = 2 * order as usize;
+    let shares = random + 1;
+    let all = gate_totals(table, gates, shares);
+    let wires = shares * inputs + all.wires;
+    if wires > 65535 {
+        return refuse(8);
+    }
+    if shares * outputs > 65535 {
+        return refuse(8);
+    }
+    Planned::Ready(Plan {
+        inputs,
+        gates,
+        outputs,
+        shares,
+        wires,
+        tape: random * inputs + all.draws,
+    })
+}
+
+// Puts a number's digits at the end of a buffer, and answers where they begin.
+fn spell(digits: &mut [u8], v: u32) -> usize
+    requires { ⌜ length (now digits) ≡ 10 ⌝ }
+    ensures { λ r. ⌜ Spelled v (now (digits .exit)) r ⌝ }
+{
+    let mut rest = v;
+    let mut i = 9;
+    while rest > 9 {
+        digits[i] = 48 + (rest % 10) as u8;
+        rest /= 10;
+        i -= 1;
+    }
+    digits[i] = 48 + rest as u8;
+    i
+}
+
+// Puts bytes at a place, and answers the next place.
+fn put_bytes(out: &mut [u8], at: usize, src: &[u8]) -> usize
+    requires { ⌜ at + length (now src) ≤ length (now out) ⌝ }
+    ensures { λ r. ⌜ Puts at (now (src .entry)) (now (out .entry)) (now (out .exit)) r ⌝ }
+{
+    let mut i = 0;
+    while i < src.len() {
+        out[at + i] = src[i];
+        i += 1;
+    }
+    at + i
+}
+
+// Puts a number in decimal and the byte that ends it, and answers the next place.
+fn put_number(out: &mut [u8], at: usize, v: u32, end: u8) -> usize
+    requires { ⌜ at + 11 ≤ length (now out) ⌝ }
+    ensures { λ r. ⌜ Puts at (decimal v ++ (end ∷ [])) (now (out .entry)) (now (out .exit)) r × (r ≤ at + 11) ⌝ }
+{
+    let mut digits = [48u8; 10];
+    let first = spell(&mut digits, v);
+    let next = put_bytes(out, at, &digits[first..]);
+    out[next] = end;
+    next + 1
+}
+
+// What a plain table and an order come to: the first of refusals 1 to 8, or the sizes.
+pub fn plan_table(table: &[u8], order: u8) -> Planned
+    ensures { λ r. ⌜ PlanSays (now (table .entry)) order r ⌝ }
+{
+    let found = checking::table_fault(table);
+    if found.number != 0 {
+        return Planned::Refused(found);
+    }
+    let gates = tables::field(table, 2);
+    let random = random_fault(table, gates);
+    let first = first_of(order_fault(order), random);
+    if first.number != 0 {
+        return Planned::Refused(first);
+    }
+    plan_sizes(table, order)
+}
+
+// How many bytes the masked table of a plan has.
+fn plan_bytes(p: Plan) -> usize
+    requires { ⌜ PlanFits p ⌝ }
+    ensures { λ r. ⌜ r ≡ planBytes p ⌝ }
+{
+    let gates = p.wires - p.shares * p.inputs;
+    6 + 5 * gates + 2 * (p.shares * p.outputs)
+}
+
+// The four figures of a plan.
+fn plan_figures(p: Plan) -> masks::Sizes
+    requires { ⌜ PlanFits p ⌝ }
+    ensures { λ r. ⌜ FiguresSay p r ⌝ }
+{
+    let bytes = plan_bytes(p);
+    masks::Sizes {
+        number: 0,
+        place: 0,
+        shares: p.shares as u32,
+        wires: p.wires as u32,
+        tape: p.tape as u32,
+        bytes: bytes as u32,
+    }
+}
+
+// Forecasts the sizes of the table that masking writes.
+pub fn forecast_sizes(table: &[u8], order: u8) -> masks::Sizes
+    ensures { λ r. ⌜ ForecastSays (now (table .entry)) order r ⌝ }
+{
+    let planned = plan_table(table, order);
+    match planned {
+        Planned::Refused(f) => {
+            return masks::Sizes {
+                number: f.number,
+                place: f.place,
+                shares: 0,
+                wires: 0,
+                tape: 0,
+                bytes: 0,
+            };
+        }
+        Planned::Ready(p) => {
+            return plan_figures(p);
+        }
+    }
+}
+
+// Puts the line of a refusal, and answers its length.
+fn put_refusal(out: &mut [u8], number: u32, place: u32) -> usize
+    requires { ⌜ 64 ≤ length (now out) ⌝ }
+    ensures { λ r. ⌜
+        Puts 0 (lineOf refusedWord (decimal number ∷ decimal place ∷ [])) (now (out .entry)) (now (out .exit)) r
+        ⌝ }
+{
+    let first = put_bytes(out, 0, b"refused ");
+    let second = put_number(out, first, number, b' ');
+    put_number(out, second, place, b'\n')
+}
+
+// Puts the line of the four figures, and answers its length.
+fn put_figures(out: &mut [u8], sizes: masks::Sizes) -> usize
+    requires { ⌜ 64 ≤ length (now out) ⌝ }
+    ensures { λ r. ⌜
+        Puts
+        0
+        (lineOf
+        (decimal (sizes .shares))
+        (decimal (sizes .wires) ∷ decimal (sizes .tape) ∷ decimal (sizes .bytes) ∷ []))
+        (now (out .entry))
+        (now (out .exit))
+        r
+        ⌝ }
+{
+    let second = put_number(out, 0, sizes.shares, b' ');
+    let third = put_number(out, second, sizes.wires, b' ');
+    let fourth = put_number(out, third, sizes.tape, b' ');
+    put_number(out, fourth, sizes.bytes, b'\n')
+}
+
+// Puts the line of a forecast, and answers its length.
+fn put_line(out: &mut [u8], sizes: masks::Sizes) -> usize
+    requires { ⌜ 64 ≤ length (now out) ⌝ }
+    ensures { λ r. ⌜ Puts 0 (sizesLine sizes) (now (out .entry)) (now (out .exit)) r ⌝ }
+{
+    if sizes.number != 0 {
+        return put_refusal(out, sizes.number as u32, sizes.place);
+    }
+    put_figures(out, sizes)
+}
+
+// The forecast of an input: an order byte, then a table.
+fn line_sizes(input: &[u8]) -> masks::Sizes
+    ensures { λ r. ⌜ sizesLine r ≡ forecastLine (now (input .entry)) ⌝ }
+{
+    if input.len() > 65536 {
+        return masks::Sizes {
+            number: 9,
+            place: 0,
+            shares: 0,
+            wires: 0,
+            tape: 0,
+            bytes: 0,
+        };
+    }
+    if input.len() == 0 {
+        return forecast_sizes(input, 0);
+    }
+    forecast_sizes(&input[1..], input[0])
+}
+
+// Writes the forecast program's line for an input, and answers its length; where fewer than 64 bytes are lent, writes nothing and
+// answers 0.
+pub fn forecast_line(input: &[u8], out: &mut [u8]) -> usize
+    ensures { λ r. ⌜ LineSays (now (input .entry)) (now (out .entry)) (now (out .exit)) r ⌝ }
+{
+    if out.len() < 64 {
+        return 0;
+    }
+    let sizes = line_sizes(input);
+    put_line(out, sizes)
+}

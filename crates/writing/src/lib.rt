@@ -1,0 +1,311 @@
+// Writing the new wires of one masked gate: their kinds and their operands.
+ghost use mathlib.Core.Path.{_≡_};
+ghost use Prim.Native.Nat.{_+_, _*_, _/_, _≤_, _<_, ℕ, suc, _-_};
+ghost use lib.ListN.{length, replicate};
+ghost use Rattle.tables.specs.Tables.{kindOf, wires, two, kindBytes, pairBytes, XOR, AND};
+ghost use Rattle.masks.specs.Shares.{tri, pairs, pairAt, row};
+ghost use Rattle.masks.specs.Wires.{cost, driverOf, share, pairWire, newWires};
+ghost use Rattle.writing.specs.Layout.{listed, LowShares, OperandRoom, PairRoom, ReadsShares, operandBytes, pairsOf, allPairs, sumBytes, times, highWires, lowWires, rowBytes, allRows, pairKinds, rowKinds};
+ghost use Rattle.tables.specs.Says.{putAt};
+ghost use mathlib.Core.List.{[], _++_, map};
+ghost use Rattle.masks.specs.Gadgets.{first, fifth, allFive, iswGates, isw};
+
+// Where the shares of a plain wire are: share 1 on wire first, share s on wire base + (s − 2)·step.
+pub struct Places {
+    pub first: usize,
+    pub base: usize,
+    pub step: usize,
+}
+
+// The wire of share i, counted from 0, for a share that is not the first.
+fn later_wire(a: Places, i: usize) -> usize
+    requires { ⌜ (1 ≤ i) × (share (listed (suc i) a) i < 65536) ⌝ }
+    ensures { λ r. ⌜ (r < 65536) × ((n : ℕ) → i < n → r ≡ share (listed n a) i) ⌝ }
+{
+    a.base + (i - 1) * a.step
+}
+
+// The wire of share i, counted from 0.
+pub fn share_wire(a: Places, i: usize) -> usize
+    requires { ⌜ share (listed (suc i) a) i < 65536 ⌝ }
+    ensures { λ r. ⌜ (r < 65536) × ((n : ℕ) → i < n → r ≡ share (listed n a) i) ⌝ }
+{
+    if i == 0 {
+        return a.first;
+    }
+    later_wire(a, i)
+}
+
+// Writes one gate's operands: two fields.
+fn put_gate(ops: &mut [u8], at: usize, left: usize, right: usize)
+    requires { ⌜ (at + 4 ≤ length (now ops)) × (left < 65536) × (right < 65536) ⌝ }
+    ensures { λ _. ⌜ now (ops .exit) ≡ putAt at (two left ++ two right) (now (ops .entry)) ⌝ }
+{
+    tables::put_field(ops, at, left);
+    tables::put_field(ops, at + 2, right);
+}
+
+// Writes the operands of a pair's five wires, from wire w on.
+fn write_pair(ops: &mut [u8], at: usize, w: usize, ai: usize, bj: usize, aj: usize, bi: usize)
+    requires { ⌜ PairRoom w ai bj aj bi at (now ops) ⌝ }
+    ensures { λ _. ⌜ now (ops .exit)
+        ≡ putAt at (pairBytes (map (iswGates w ai bj aj bi) allFive)) (now (ops .entry)) ⌝ }
+{
+    put_gate(ops, at, 0, 0);
+    put_gate(ops, at + 4, ai, bj);
+    put_gate(ops, at + 8, w, w + 1);
+    put_gate(ops, at + 12, aj, bi);
+    put_gate(ops, at + 16, w + 2, w + 3);
+}
+
+// Writes the operands of the pairs (i, j), j rising, from wire w on.
+fn write_pairs_of(ops: &mut [u8], at: usize, w: usize, n: usize, i: usize, a: Places, b: Places)
+    requires { ⌜ ReadsShares n i a b
+        × (w + 5 * (n - suc i) ≤ 65536)
+        × (at + 20 * (n - suc i) ≤ length (now ops)) ⌝ }
+    ensures { λ _. ⌜ now (ops .exit) ≡ putAt at (pairsOf n i w (listed n a) (listed n b)) (now (ops .entry)) ⌝ }
+{
+    let ai = share_wire(a, i);
+    let bi = share_wire(b, i);
+    let m = n - 1 - i;
+    let mut c = 0;
+    while c < m {
+        let j = i + 1 + c;
+        let aj = later_wire(a, j);
+        let bj = later_wire(b, j);
+        write_pair(ops, at + 20 * c, w + 5 * c, ai, bj, aj, bi);
+        c += 1;
+    }
+}
+
+// Writes the operands of all pairs, from wire w on, and returns the wire after them.
+fn write_pairs(ops: &mut [u8], at: usize, w: usize, n: usize, a: Places, b: Places) -> usize
+    requires { ⌜ LowShares n a × LowShares n b × (w + 5 * tri n ≤ 65536) × (at + 20 * tri n ≤ length (now ops)) ⌝ }
+    ensures { λ r. ⌜ (r ≡ w + 5 * tri n)
+        × (now (ops .exit) ≡ putAt at (allPairs n w (listed n a) (listed n b)) (now (ops .entry))) ⌝ }
+{
+    let mut to = at;
+    let mut from = w;
+    let mut i = 0;
+    while i < n {
+        write_pairs_of(ops, to, from, n, i, a, b);
+        let m = n - 1 - i;
+        to += 20 * m;
+        from += 5 * m;
+        i += 1;
+    }
+    from
+}
+
+// Writes the operands of a row's last m sums, the first of which reads wire last: they add one wire each of m pairs, from
+// wire z on.
+fn write_low_sums(ops: &mut [u8], at: usize, last: usize, z: usize, m: usize)
+    requires { ⌜ (last + m ≤ 65536) × ((c : ℕ) → c < m → pairWire z (isw .low) c < 65536) × (at + 4 * m ≤ length (now ops)) ⌝ }
+    ensures { λ _. ⌜ now (ops .exit) ≡ putAt at (sumBytes last (lowWires m z)) (now (ops .entry)) ⌝ }
+{
+    let mut c = 0;
+    while c < m {
+        put_gate(ops, at + 4 * c, last + c, z + 5 * c + LOW);
+        c += 1;
+    }
+}
+
+// Writes the operands of row i's first i sums, the first of which reads wire last: they add one wire each of the pairs (j, i),
+// j rising, where the AND's first wire is w. Returns the first wire of the pair (i, i + 1), if there is one.
+fn write_high_sums(ops: &mut [u8], at: usize, last: usize, w: usize, n: usize, i: usize) -> usize
+    requires { ⌜ (i < n) × (last + n ≤ 65536) × (w + 5 * tri n ≤ 65536) × (at + 4 * i ≤ length (now ops)) ⌝ }
+    ensures { λ r. ⌜ (suc i < n → r ≡ pairWire w first (pairAt n i (suc i)))
+        × (now (ops .exit) ≡ putAt at (sumBytes last (highWires n w i)) (now (ops .entry))) ⌝ }
+{
+    let mut z = w + 5 * i;
+    let mut j = 0;
+    while j < i {
+        put_gate(ops, at + 4 * j, last + j, z - 5 + HIGH);
+        z += 5 * (n - 2 - j);
+        j += 1;
+    }
+    z
+}
+
+// Writes the operands of row i from wire v on, where the AND's first wire is w: its own product, then the sums.
+fn write_row(
+    ops: &mut [u8],
+    at: usize,
+    v: usize,
+    w: usize,
+    n: usize,
+    i: usize,
+    a: Places,
+    b: Places,
+)
+    requires { ⌜ ReadsShares n i a b × (v + n ≤ 65536) × (w + 5 * tri n ≤ 65536) × (at + 4 * n ≤ length (now ops)) ⌝ }
+    ensures { λ _. ⌜ now (ops .exit) ≡ putAt at (rowBytes n w v (listed n a) (listed n b) i) (now (ops .entry)) ⌝ }
+{
+    let ai = share_wire(a, i);
+    let bi = share_wire(b, i);
+    put_gate(ops, at, ai, bi);
+    let z = write_high_sums(ops, at + 4, v, w, n, i);
+    write_low_sums(ops, at + 4 + 4 * i, v + i, z, n - 1 - i);
+}
+
+// Writes the operands of all rows from wire v on, where the AND's first wire is w.
+fn write_rows(ops: &mut [u8], at: usize, v: usize, w: usize, n: usize, a: Places, b: Places)
+    requires { ⌜ LowShares n a
+        × LowShares n b
+        × (v + n * n ≤ 65536)
+        × (w + 5 * tri n ≤ 65536)
+        × (at + 4 * (n * n) ≤ length (now ops)) ⌝ }
+    ensures { λ _. ⌜ now (ops .exit) ≡ putAt at (allRows n w v (listed n a) (listed n b)) (now (ops .entry)) ⌝ }
+{
+    let mut to = at;
+    let mut from = v;
+    let mut i = 0;
+    while i < n {
+        write_row(ops, to, from, w, n, i, a, b);
+        to += 4 * n;
+        from += n;
+        i += 1;
+    }
+}
+
+// Writes the operands of an XOR's wires, share by share.
+fn write_xor(ops: &mut [u8], at: usize, n: usize, a: Places, b: Places)
+    requires { ⌜ LowShares n a × LowShares n b × (at + 4 * n ≤ length (now ops)) ⌝ }
+    ensures { λ _. ⌜ now (ops .exit)
+        ≡ putAt at (operandBytes (newWires isw XOR n 0 0 (listed n a) (listed n b))) (now (ops .entry)) ⌝ }
+{
+    let mut s = 0;
+    while s < n {
+        let left = share_wire(a, s);
+        let right = share_wire(b, s);
+        put_gate(ops, at + 4 * s, left, right);
+        s += 1;
+    }
+}
+
+// Writes the operands of an AND's wires, from wire w on: the pairs, then the rows.
+fn write_and(ops: &mut [u8], at: usize, w: usize, n: usize, a: Places, b: Places)
+    requires { ⌜ LowShares n a
+        × LowShares n b
+        × (w + cost AND n ≤ 65536)
+        × (at + 4 * cost AND n ≤ length (now ops)) ⌝ }
+    ensures { λ _. ⌜ now (ops .exit)
+        ≡ putAt at (operandBytes (newWires isw AND n 0 w (listed n a) (listed n b))) (now (ops .entry)) ⌝ }
+{
+    let v = write_pairs(ops, at, w, n, a, b);
+    write_rows(ops, at + 4 * (v - w), v, w, n, a, b);
+}
+
+// Writes the operands of a plain gate's new wires, from wire w on, where a and b keep its operands' shares.
+pub fn write_operands_of(
+    kind: u8,
+    n: usize,
+    w: usize,
+    a: Places,
+    b: Places,
+    ops: &mut [u8],
+    at: usize,
+)
+    requires { ⌜ OperandRoom kind n w a b at (now ops) ⌝ }
+    ensures { λ _. ⌜ now (ops .exit)
+        ≡ putAt at (pairBytes (map driverOf (newWires isw (kindOf kind) n 0 w (listed n a) (listed n b)))) (now (ops .entry)) ⌝ }
+{
+    if kind == 2 {
+        write_and(ops, at, w, n, a, b);
+    } else if kind == 1 {
+        write_xor(ops, at, n, a, b);
+    } else if kind == 0 {
+        let left = share_wire(a, 0);
+        put_gate(ops, at, left, 0);
+    }
+}
+
+// Writes the kinds of a pair's five wires.
+fn put_pair_kinds(kinds: &mut [u8], at: usize)
+    requires { ⌜ at + 5 ≤ length (now kinds) ⌝ }
+    ensures { λ _. ⌜ now (kinds .exit) ≡ putAt at pairKinds (now (kinds .entry)) ⌝ }
+{
+    kinds[at] = 3;
+    kinds[at + 1] = 2;
+    kinds[at + 2] = 1;
+    kinds[at + 3] = 2;
+    kinds[at + 4] = 1;
+}
+
+// Writes the kinds of m pairs.
+fn write_pair_kinds(kinds: &mut [u8], at: usize, m: usize)
+    requires { ⌜ at + 5 * m ≤ length (now kinds) ⌝ }
+    ensures { λ _. ⌜ now (kinds .exit) ≡ putAt at (times m pairKinds) (now (kinds .entry)) ⌝ }
+{
+    let mut c = 0;
+    while c < m {
+        put_pair_kinds(kinds, at + 5 * c);
+        c += 1;
+    }
+}
+
+// Writes the kinds of m XOR gates.
+fn write_xor_kinds(kinds: &mut [u8], at: usize, m: usize)
+    requires { ⌜ at + m ≤ length (now kinds) ⌝ }
+    ensures { λ _. ⌜ now (kinds .exit) ≡ putAt at (replicate m 1) (now (kinds .entry)) ⌝ }
+{
+    let mut c = 0;
+    while c < m {
+        kinds[at + c] = 1;
+        c += 1;
+    }
+}
+
+// Writes the kinds of a row: its own product, then the sums.
+fn write_row_kinds(kinds: &mut [u8], at: usize, n: usize)
+    requires { ⌜ (1 ≤ n) × (at + n ≤ length (now kinds)) ⌝ }
+    ensures { λ _. ⌜ now (kinds .exit) ≡ putAt at (rowKinds n) (now (kinds .entry)) ⌝ }
+{
+    kinds[at] = 2;
+    write_xor_kinds(kinds, at + 1, n - 1);
+}
+
+// Writes the kinds of all rows.
+fn write_rows_kinds(kinds: &mut [u8], at: usize, n: usize)
+    requires { ⌜ at + n * n ≤ length (now kinds) ⌝ }
+    ensures { λ _. ⌜ now (kinds .exit) ≡ putAt at (times n (rowKinds n)) (now (kinds .entry)) ⌝ }
+{
+    let mut to = at;
+    let mut i = 0;
+    while i < n {
+        write_row_kinds(kinds, to, n);
+        to += n;
+        i += 1;
+    }
+}
+
+// Writes the kinds of an AND's wires: the pairs, then the rows.
+fn write_and_kinds(kinds: &mut [u8], at: usize, n: usize)
+    requires { ⌜ at + cost AND n ≤ length (now kinds) ⌝ }
+    ensures { λ _. ⌜ now (kinds .exit)
+        ≡ putAt at (times (tri n) pairKinds ++ times n (rowKinds n)) (now (kinds .entry)) ⌝ }
+{
+    let m = (n * n - n) / 2;
+    write_pair_kinds(kinds, at, m);
+    write_rows_kinds(kinds, at + 5 * m, n);
+}
+
+// Writes the kinds of a plain gate's new wires.
+pub fn write_kinds_of(kind: u8, n: usize, kinds: &mut [u8], at: usize)
+    requires { ⌜ at + cost (kindOf kind) n ≤ length (now kinds) ⌝ }
+    ensures { λ _. ⌜ now (kinds .exit)
+        ≡ putAt at (kindBytes (map driverOf (newWires isw (kindOf kind) n 0 0 [] []))) (now (kinds .entry)) ⌝ }
+{
+    if kind == 2 {
+        write_and_kinds(kinds, at, n);
+    } else if kind == 1 {
+        write_xor_kinds(kinds, at, n);
+    } else if kind == 0 {
+        kinds[at] = 0;
+    }
+}
+
+// Which of the five wires of a pair (i, j) the rows add: row i the first, row j the fifth.
+const LOW: usize = 0;
+
+const HIGH: usize = 4;
