@@ -7,16 +7,19 @@ use Prim.Native.Nat.{ℕ, zero, suc, _+_, _-_, _*_, _≤_, _<_}
 use native.Mathlib.Numerals.{add-one}
 use native.Mathlib.Omega.{arith}
 use lib.Dec.{eqb}
-use lib.ListN.{length, getD, drop, set, length-set, drop-of-length-le}
+use lib.ListN.{length, getD, drop, set, length-set, drop-of-length-le, replicate, length-replicate, getD-replicate}
 use lib.Seq.{getD-set-same, getD-set-other, drop-cons}
 use borrow.Author.Tests.{eqb-true, eqb-false}
 use Rattle.tables.specs.Refusals.{pick}
+use Rattle.tables.specs.Tables.{tableOf}
 use Rattle.masks.specs.Gadgets.{isIn, isw}
-use Rattle.masks.specs.Wires.{Origin, marks}
+use Rattle.masks.specs.Wires.{Origin, marks, origins}
 use Rattle.masks.specs.Says.{originAt}
-use Rattle.maps.specs.Maps.{carried, freeFrom}
+use Rattle.sizing.specs.declared.Plan as DP
+use Rattle.sizing.specs.Plans.{PlanReady}
+use Rattle.maps.specs.Maps.{carried, freeFrom, freeShare}
 use Rattle.maps.proofs.Free.{free-past, free-here, isIn-join, marks-two}
-use Rattle.mapping.specs.Seeing.{Seen}
+use Rattle.mapping.specs.Seeing.{Seen, Probes, MarkReady}
 
 -- what a byte of the numbers seen says
 seen-false : (t : Bool) → _≡_ {A = ℕ} (pick t 1 0) 0 → t ≡ false
@@ -142,3 +145,16 @@ module _ {os : List Origin} {ps seen : List ℕ} {j : ℕ} (M : Marking os ps se
             let none : drop j ps ≡ [] = drop-of-length-le ps {i = j} h in
             rw none at (M .left i l k);
       }
+
+-- nothing is marked yet
+pub mark-ready : (ps : List ℕ) (w : ℕ) → Probes ps w → MarkReady ps w (replicate 256 0)
+mark-ready ps w h =
+    record { probes = h; long = length-replicate {A = ℕ} 256 0; none = λ i k. getD-replicate 256 i 0 0 k }
+
+-- what is found in the numbers that the probes carry is the free share
+pub free-share-is :
+    {s : List ℕ} {o : ℕ} {p : DP.Plan} (ps : List ℕ) {seen : List ℕ} {r : ℕ} → PlanReady s o p
+    → Seen (carried (marks isw) (origins isw o (tableOf s)) ps) seen
+    → ((cs : List ℕ) → Seen cs seen → r ≡ freeFrom (p .shares) 1 cs) → r ≡ freeShare isw o (tableOf s) ps
+unfolding freeShare
+free-share-is ps R S f = rw (R .shares) at (f _ S)

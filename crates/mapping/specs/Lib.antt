@@ -2,3 +2,4 @@
 pub mod Walking
 pub mod Flipping
 pub mod Seeing
+pub mod Faults
