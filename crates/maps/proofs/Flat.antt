@@ -151,14 +151,14 @@ tests-up T k q (suc c) s i h = (
 )
 
 -- a number outside the row, and one inside
-outside : (from to q : ℕ) → (from ≤ q → to ≤ q) → inRow from to q ≡ false
+pub outside : (from to q : ℕ) → (from ≤ q → to ≤ q) → inRow from to q ≡ false
 outside from to q h = go (leb from q) refl
   where
     go : (t : Bool) → leb from q ≡ t → t && ltb q to ≡ false
     go true e = le-ltb q to (h (leb-true from q e))
     go false e = refl
 
-inside : (from to q : ℕ) → from ≤ q → q < to → inRow from to q ≡ true
+pub inside : (from to q : ℕ) → from ≤ q → q < to → inRow from to q ≡ true
 inside from to q h l = rw (le-leb from q, lt-ltb q to)
 
 -- rows after the free share's

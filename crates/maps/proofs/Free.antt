@@ -26,11 +26,11 @@ carriedCount zero k cs = 0
 carriedCount (suc c) k cs = pick (isIn k cs) 1 0 + carriedCount c (suc k) cs
 
 -- looking goes on past a number that is in the list, and ends at one that is not
-free-past : (c k : ℕ) (cs : List ℕ) → isIn k cs ≡ true → freeFrom (suc c) k cs ≡ freeFrom c (suc k) cs
+pub free-past : (c k : ℕ) (cs : List ℕ) → isIn k cs ≡ true → freeFrom (suc c) k cs ≡ freeFrom c (suc k) cs
 unfolding freeFrom
 free-past c k cs e = rw (e, freeFrom)
 
-free-here : (c k : ℕ) (cs : List ℕ) → isIn k cs ≡ false → freeFrom (suc c) k cs ≡ k
+pub free-here : (c k : ℕ) (cs : List ℕ) → isIn k cs ≡ false → freeFrom (suc c) k cs ≡ k
 unfolding freeFrom
 free-here c k cs e = rw (e, freeFrom)
 
@@ -75,7 +75,7 @@ free-found (suc c) k cs h = go (isIn k cs) refl h (free-found c (suc k) cs)
         rw (free-past c k cs e) (omega arith, found .1)
     go false e few later = rw (free-here c k cs e) (omega arith, e)
 
-isIn-join : (k : ℕ) (xs ys : List ℕ) → isIn k (xs ++ ys) ≡ isIn k xs || isIn k ys
+pub isIn-join : (k : ℕ) (xs ys : List ℕ) → isIn k (xs ++ ys) ≡ isIn k xs || isIn k ys
 isIn-join k [] ys = refl
 isIn-join k (x ∷ xs) ys = go (eqb k x) (isIn-join k xs ys)
   where

@@ -23,26 +23,12 @@ use Rattle.masks.proofs.Lawful.{isw-lawful}
 use Rattle.masks.proofs.Costs.{masked-draws}
 use Rattle.masks.proofs.Placed.{Stands, Placed, share-below, placed-at, placed-step}
 use Rattle.maps.specs.Maps.{flipped, mapGates}
-use Rattle.maps.specs.Walk.{offset, inRow, flatFlip, gateDiffers, noGate, walkedBit, afterGate, walked}
+use Rattle.maps.specs.Walk.{offset, inRow, flatFlip, gateDiffers, noGate, walkedBit, afterGate, walked, CrossOf, Crossing}
 use Rattle.maps.proofs.Flat.{flatFlips, gates-apart, flat-flips, tests-row}
 use Rattle.maps.proofs.Flips.{map-gates-only}
 
--- the products of a random gate's pair are of wires before it
-abbrev CrossOf : Kind → ℕ → List Gate → Type 0
-CrossOf NOT w gs = Unit {0}
-CrossOf XOR w gs = Unit {0}
-CrossOf AND w gs = Unit {0}
-CrossOf RANDOM w gs =
-    let g = getD gs 0 noGate in
-    let h = getD gs 2 noGate in
-    ((g .left < w) × (g .right < w)) × ((h .left < w) × (h .right < w))
-CrossOf (UNKNOWN k) w gs = Unit {0}
-
-unfoldable pub Crossing : ℕ → List Gate → Type 0
-Crossing w [] = Unit {0}
-Crossing w (g ∷ gs) = CrossOf (g .kind) w gs × Crossing (suc w) gs
-
-differs-same :
+-- a product differs alike where the values of its wires are the same
+pub differs-same :
     (v u v′ u′ : ℕ → ℕ) (g : Gate) (w : ℕ) → (g .left < w) × (g .right < w) → ((p : ℕ) → p < w → v p ≡ v′ p)
     → ((p : ℕ) → p < w → u p ≡ u′ p) → gateDiffers v u g ≡ gateDiffers v′ u′ g
 differs-same v u v′ u′ g w h e f =
@@ -101,8 +87,8 @@ walked-law T m q w (g ∷ gs) rs vs us ev eu er c =
         let ss = walked T m (afterGate RANDOM m q) gs bs (vs ++ (b ∷ [])) (us ++ (z ∷ [])) in
         let v′ : ℕ → ℕ = λ p. getD (runFrom gs bs (vs ++ (b ∷ []))) p 0 in
         let u′ : ℕ → ℕ = λ p. getD (runFrom gs ss (us ++ (z ∷ []))) p 0 in
-        let g0 = differs-same (λ p. getD vs p 0) (λ p. getD us p 0) v′ u′ (getD gs 0 noGate) w (c .0) (keeps gs bs vs b w ev) (keeps gs ss us z w eu) in
-        let g2 = differs-same (λ p. getD vs p 0) (λ p. getD us p 0) v′ u′ (getD gs 2 noGate) w (c .1) (keeps gs bs vs b w ev) (keeps gs ss us z w eu) in
+        let g0 = differs-same (λ p. getD vs p 0) (λ p. getD us p 0) v′ u′ (getD gs 0 noGate) w (c .one) (keeps gs bs vs b w ev) (keeps gs ss us z w eu) in
+        let g2 = differs-same (λ p. getD vs p 0) (λ p. getD us p 0) v′ u′ (getD gs 2 noGate) w (c .other) (keeps gs bs vs b w ev) (keeps gs ss us z w eu) in
         let same : z ≡ xor b (flatFlip T q gs v′ u′) =
         ap₂ (λ (d e : ℕ). xor b (pick (T q) (xor d e) 0)) g0 g2 in
         record { long = omega (arith, x .long); law = ap₂ (λ (h : ℕ) (l : List ℕ). h ∷ l) same (x .law) }
@@ -161,7 +147,7 @@ crossing-pairs n g w₀ w a b (p ∷ ps) hs sa sb h l x =
     λ i k. omega (arith, share-below n w₀ a sa i k, share-below n w₀ b sb i k) in
     let lo = below (p .lower) (omega arith) in
     let up = below (p .upper) (l .0 .1) in (
-      ((lo .0, up .1), (up .0, lo .1)),
+      record { long = omega arith; one = (lo .0, up .1); other = (up .0, lo .1) },
       (
         tt,
         (

@@ -4,9 +4,9 @@
 -- Assumes nothing.
 use mathlib.Core.Bool.{Bool, true, false, _&&_}
 use mathlib.Core.List.{List, [], _∷_, _++_}
-use Prim.Native.Nat.{ℕ, zero, suc, _+_}
+use Prim.Native.Nat.{ℕ, zero, suc, _+_, _≤_, _<_}
 use lib.Dec.{eqb, ltb, leb}
-use lib.ListN.{getD, drop}
+use lib.ListN.{length, getD, drop}
 use Rattle.tables.specs.Refusals.{pick}
 use Rattle.tables.specs.Tables.{Kind, NOT, XOR, AND, RANDOM, UNKNOWN, Gate, gate}
 use Rattle.tables.specs.Runs.{xor, driven, drawn}
@@ -61,3 +61,21 @@ walked T m q (g ∷ gs) rs vs us =
     (vs ++ (driven (g .kind) (g .left) (g .right) (λ p. getD vs p 0) r ∷ []))
     (us ++ (driven (g .kind) (g .left) (g .right) (λ p. getD us p 0) b ∷ [])) in
     elim (g .kind) [ NOT ↦ rest | XOR ↦ rest | AND ↦ rest | RANDOM ↦ b ∷ rest | UNKNOWN k ↦ rest ]
+
+-- the gates after a random gate that drives wire w: the two products of its pair are there, and are of wires before w
+pub record Crosses (w : ℕ) (gs : List Gate) : Type 0 where
+  pub long : 3 ≤ length gs
+  pub one : (getD gs 0 noGate .left < w) × (getD gs 0 noGate .right < w)
+  pub other : (getD gs 2 noGate .left < w) × (getD gs 2 noGate .right < w)
+
+abbrev pub CrossOf : Kind → ℕ → List Gate → Type 0
+CrossOf NOT w gs = Unit {0}
+CrossOf XOR w gs = Unit {0}
+CrossOf AND w gs = Unit {0}
+CrossOf RANDOM w gs = Crosses w gs
+CrossOf (UNKNOWN k) w gs = Unit {0}
+
+-- every random gate is the first of a pair; the gates' first wire is w
+unfoldable pub Crossing : ℕ → List Gate → Type 0
+Crossing w [] = Unit {0}
+Crossing w (g ∷ gs) = CrossOf (g .kind) w gs × Crossing (suc w) gs

@@ -131,10 +131,10 @@ module _ {s rs start : List ℕ} {n g : ℕ} {vs : List ℕ} {c i : ℕ} (r : Ru
   unfolding SoundGates
   operands = operands-earlier (n + i) (kindOf kind) _ _ (omega arith) (left-sound .0 .1)
 
-  left-earlier : word s pair < n + i
+  pub left-earlier : word s pair < n + i
   left-earlier = operands .0
 
-  right-earlier : word s (8 + g + 4 * i) < n + i
+  pub right-earlier : word s (8 + g + 4 * i) < n + i
   right-earlier = operands .1
 
   -- the values so far are bits

@@ -1,0 +1,158 @@
+-- Mapping the inputs' tape bits: what is left of one input's bits while they are copied, and of all bits between two inputs.
+-- Assumes nothing.
+use mathlib.Core.Path.{_≡_, refl, sym, ap, ap₂, subst, _∙_}
+use mathlib.Core.Bool.{Bool}
+use mathlib.Core.List.{List, [], _∷_, _++_}
+use Prim.Native.Nat.{ℕ, zero, suc, _+_, _-_, _*_, _%_, _≤_, _<_}
+use native.Mathlib.Nat.{add-zero, add-suc}
+use native.Mathlib.Numerals.{add-one}
+use native.Mathlib.Omega.{arith}
+use lib.Dec.{eqb}
+use lib.ListN.{length, getD, take, drop, set, length-set, length-drop, drop-of-length-le, take-append-drop}
+use lib.Seq.{length-take-le, drop-cons, drop-drop}
+use borrow.Author.Tests.{eq-eqb, ne-eqb}
+use Rattle.tables.specs.Refusals.{pick}
+use Rattle.tables.specs.Runs.{xor}
+use Rattle.tables.specs.Says.{over, putAt}
+use Rattle.tables.proofs.Lists.{Bits}
+use Rattle.tables.proofs.Put.{put-length, put-zero, put-nil, put-append}
+use Rattle.masks.specs.Shares.{upFrom}
+use Rattle.encoding.proofs.Encoding.{part, part-next, part-end, put-cons}
+use Rattle.maps.specs.Maps.{flipped, inputFlips}
+use Rattle.maps.proofs.Inputs.{flipsOf, flips-long, flipped-append, flipped-length}
+use Rattle.mapping.specs.Flipping.{FlipReady}
+
+pub bit-at : (bit s k flip : ℕ) → s ≡ k → (bit + flip) % 2 ≡ xor bit (pick (eqb s k) flip 0)
+bit-at bit s k flip e = rw (eq-eqb s k e)
+
+pub bit-off : (bit s k flip : ℕ) → bit ≤ 1 → (s ≡ k → ⊥) → bit ≡ xor bit (pick (eqb s k) flip 0)
+bit-off bit s k flip h n = rw (ne-eqb s k n) (omega arith)
+
+-- share k alone is flipped
+abbrev only : ℕ → ℕ → ℕ → ℕ
+only k flip s = pick (eqb s k) flip 0
+
+-- before bit s of an input, whose tape bits stand from `at` on: the bits from s on are left
+pub record FlippingOne (n k flip : ℕ) (ts : List ℕ) (at : ℕ) (b₀ : List ℕ) (s : ℕ) (b : List ℕ) : Type 0 where
+  pub within : s ≤ n
+  pub long : length b ≡ length b₀
+  pub left :
+      putAt (at + s) (flipped (drop s (part n at ts)) (upFrom (n - s) (suc s) (only k flip))) b
+      ≡ putAt at (flipped (part n at ts) (upFrom n 1 (only k flip))) b₀
+
+pub flipping-one-start :
+    (n k flip : ℕ) (ts : List ℕ) (at : ℕ) (b : List ℕ) → FlippingOne n k flip ts at b 0 b
+flipping-one-start n k flip ts at b =
+    let all : n - 0 ≡ n = omega arith in
+    record { within = omega arith; long = refl; left = rw (add-zero, all) }
+
+module _ {n k flip : ℕ} {ts : List ℕ} {at : ℕ} {b₀ : List ℕ} {s : ℕ} {b : List ℕ}
+    (F : FlippingOne n k flip ts at b₀ s b) (tape : at + n ≤ length ts) where
+  pub flipping-one-turn :
+      {bit v : ℕ} → s < n → at + n ≤ length b₀ → bit ≡ getD ts (at + s) 0 → v ≡ xor bit (pick (eqb (s + 1) k) flip 0)
+      → FlippingOne n k flip ts at b₀ (s + 1) (set b (at + s) v)
+  unfolding flipped upFrom
+  flipping-one-turn {bit} {v} h room e ev =
+      let rest = drop (suc s) (part n at ts) in
+      let flips = upFrom (n - suc s) (suc (suc s)) (only k flip) in
+      let next : drop s (part n at ts) ≡ bit ∷ rest = part-next n at s ts tape h ∙ rw e in
+      let count : n - s ≡ suc (n - suc s) = omega arith in
+      let value : v ≡ xor bit (only k flip (suc s)) = rw (← add-one s) ev in
+      let left : putAt (at + s) (v ∷ flipped rest flips) b ≡ putAt at (flipped (part n at ts) (upFrom n 1 (only k flip))) b₀ =
+      rw value (rw (next, count) at (F .left)) in
+      let step : putAt (suc (at + s)) (flipped rest flips) (set b (at + s) v) ≡ putAt (at + s) (v ∷ flipped rest flips) b =
+      put-cons (at + s) v (flipped rest flips) b (omega (arith, F .long)) in
+      rw add-one
+      record {
+        within = omega arith;
+        long = length-set b (at + s) v ∙ F .long;
+        left = rw add-suc (step ∙ left);
+      }
+
+  pub flipping-one-end : n ≤ s → b ≡ putAt at (flipped (part n at ts) (upFrom n 1 (only k flip))) b₀
+  unfolding flipped
+  flipping-one-end h =
+      let e : s ≡ n = omega (arith, F .within) in
+      let none : drop s (part n at ts) ≡ [] = rw e (part-end n at ts tape) in
+      sym (put-nil (at + s) b) ∙ rw none at (F .left)
+
+flips-next :
+    (o k x y : ℕ) (xs ys : List ℕ) → inputFlips o k (x ∷ xs) (y ∷ ys) ≡ flipsOf o k x y ++ inputFlips o k xs ys
+unfolding inputFlips
+flips-next o k x y xs ys = refl
+
+-- between two inputs: the tape bits of those from i on are left
+pub record Flipping (o k : ℕ) (xs ys ts b₀ : List ℕ) (at i : ℕ) (b : List ℕ) : Type 0 where
+  pub within : i ≤ length xs
+  pub second : length ys ≡ length xs
+  pub tape : at + 2 * o * length (drop i xs) ≡ length ts
+  pub room : length ts ≤ length b₀
+  pub long : length b ≡ length b₀
+  pub left :
+      putAt at (flipped (drop at ts) (inputFlips o k (drop i xs) (drop i ys))) b
+      ≡ over (flipped ts (inputFlips o k xs ys)) b₀
+
+pub flipping-start :
+    (o k : ℕ) (xs ys ts b : List ℕ) → FlipReady o xs ys ts b → Flipping o k xs ys ts b 0 0 b
+flipping-start o k xs ys ts b r =
+    record {
+      within = omega arith;
+      second = r .second;
+      tape = omega (arith, r .tape);
+      room = r .room;
+      long = refl;
+      left = put-zero (flipped ts (inputFlips o k xs ys)) b;
+    }
+
+module _ {o k : ℕ} {xs ys ts b₀ : List ℕ} {at i : ℕ} {b : List ℕ} (F : Flipping o k xs ys ts b₀ at i b) where
+  pub flipping-fits : i < length xs → (at + 2 * o ≤ length ts) × (at + 2 * o ≤ length b)
+  flipping-fits h =
+      let next : length (drop i xs) ≡ suc (length (drop (suc i) xs)) = ap length (drop-cons xs i 0 h) in
+      let tape : at + 2 * o * suc (length (drop (suc i) xs)) ≡ length ts = rw next at (F .tape) in
+      (omega arith, omega (arith, F .long, F .room))
+
+  pub flipping-turn :
+      {x y : ℕ} {b′ : List ℕ} → i < length xs → x ≡ getD xs i 0 → y ≡ getD ys i 0
+      → b′ ≡ putAt at (flipped (part (2 * o) at ts) (upFrom (2 * o) 1 (only k ((x + y) % 2)))) b
+      → Flipping o k xs ys ts b₀ (at + 2 * o) (i + 1) b′
+  flipping-turn {x} {y} {b′} h ex ey w =
+      let fits = flipping-fits h in
+      let after = drop (suc i) xs in
+      let behind = drop (suc i) ys in
+      let next : drop i xs ≡ x ∷ after = drop-cons xs i 0 h ∙ rw ex in
+      let follow : drop i ys ≡ y ∷ behind = drop-cons ys i 0 (omega (arith, F .second)) ∙ rw ey in
+      let count : length (drop i xs) ≡ suc (length after) = ap length next in
+      let tape : at + 2 * o * suc (length after) ≡ length ts = rw count at (F .tape) in
+      let here = part (2 * o) at ts in
+      let later = drop (at + 2 * o) ts in
+      let size : length here ≡ 2 * o = length-take-le (2 * o) (drop at ts) (omega (arith, length-drop at ts)) in
+      let bits : drop at ts ≡ here ++ later =
+      sym (take-append-drop (2 * o) (drop at ts)) ∙ rw (drop-drop (2 * o) at ts) in
+      let one = flipped here (flipsOf o k x y) in
+      let rest = flipped later (inputFlips o k after behind) in
+      let flips : inputFlips o k (drop i xs) (drop i ys) ≡ flipsOf o k x y ++ inputFlips o k after behind =
+      rw (next, follow) (flips-next o k x y after behind) in
+      let split : flipped (drop at ts) (inputFlips o k (drop i xs) (drop i ys)) ≡ one ++ rest =
+      ap₂ flipped bits flips
+      ∙ (flipped-append here later (flipsOf o k x y) (inputFlips o k after behind) (size ∙ sym (flips-long o k x y))) in
+      let long : length one ≡ 2 * o = flipped-length here (flipsOf o k x y) ∙ size in
+      let put : putAt (at + 2 * o) rest (putAt at one b) ≡ putAt at (one ++ rest) b =
+      subst (λ (y : ℕ). putAt (at + y) rest (putAt at one b) ≡ putAt at (one ++ rest) b) long
+      (put-append at one rest b (omega (arith, fits))) in
+      rw (add-one i, w)
+      record {
+        within = omega arith;
+        second = F .second;
+        tape = omega arith;
+        room = F .room;
+        long = put-length at one b (omega (arith, fits)) ∙ F .long;
+        left = put ∙ rw split at (F .left);
+      }
+
+  pub flipping-end : length xs ≤ i → b ≡ over (flipped ts (inputFlips o k xs ys)) b₀
+  unfolding flipped
+  flipping-end h =
+      let none : drop i xs ≡ [] = drop-of-length-le xs {i = i} h in
+      let done : at + 2 * o * length (drop i xs) ≡ length ts = F .tape in
+      let no-bits : drop at ts ≡ [] = drop-of-length-le ts {i = at} (omega (arith, rw none at done)) in
+      sym (put-nil at b) ∙ rw no-bits at (F .left)

@@ -1,0 +1,5 @@
+-- Laws of mapping's parts, by subject.
+pub mod Walking
+pub mod Flipping
+pub mod Seeing
+pub mod Faults

@@ -1,0 +1,5 @@
+-- What the parts of mapping take and give.
+pub mod Walking
+pub mod Flipping
+pub mod Seeing
+pub mod Faults

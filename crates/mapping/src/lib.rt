@@ -1,0 +1,338 @@
+ghost use mathlib.Core.Path.{_≡_};
+ghost use Prim.Native.Nat.{ℕ, _+_, _*_, _≤_, _<_};
+ghost use lib.ListN.{length, getD, take, drop};
+ghost use mathlib.Core.List.{List};
+ghost use Rattle.tables.specs.Tables.{kindOf, tableOf};
+ghost use lib.Dec.{eqb};
+ghost use Rattle.tables.specs.Refusals.{pick, fault, badBit};
+ghost use Rattle.tables.specs.Runs.{xor};
+ghost use Rattle.tables.specs.Says.{over, putAt, Refused};
+ghost use Rattle.tables.proofs.Lists.{Bits};
+ghost use Rattle.masks.specs.Shares.{upFrom};
+ghost use Rattle.masks.specs.Gadgets.{isw};
+ghost use Rattle.masks.specs.Wires.{marks, origins};
+ghost use Rattle.sizing.specs.Plans.{PlanReady};
+ghost use Rattle.marking.specs.Origins.{orderOf};
+ghost use Rattle.maps.specs.Maps.{flipped, inputFlips, carried, freeFrom, freeShare};
+ghost use Rattle.mapping.specs.Faults.{supplyFault, probesFault, roomFault, callFault, MapPlanSays};
+ghost use Rattle.mapping.specs.Seeing.{Seen, Probes, MarkReady};
+ghost use Rattle.mapping.specs.Flipping.{FlipReady};
+ghost use Rattle.maps.specs.Walk.{inRow, gateDiffers, afterGate};
+ghost use Rattle.mapping.specs.Walking.{
+  gateOf,
+  ProductReady,
+  crossFlip,
+  CrossReady,
+  BitReady,
+  bitPut,
+  WalkReady,
+  WalkSays,
+};
+
+
+// Whether the product that a gate makes differs between the runs: 1 or 0.
+fn product_differs(masked: &[u8], gates: usize, g: usize, one: &[u8], other: &[u8]) -> u8
+    requires { ⌜ ProductReady (now masked) gates g (now one) (now other) ⌝ }
+    ensures { λ r. ⌜ (r
+        ≡ gateDiffers (λ p. getD (now (one .entry)) p 0) (λ p. getD (now (other .entry)) p 0)
+        (gateOf (now (masked .entry)) gates g))
+        × (r ≤ 1) ⌝ }
+{
+    let left = tables::field(masked, 6 + gates + 4 * g);
+    let right = tables::field(masked, 8 + gates + 4 * g);
+    (one[left] * one[right] + other[left] * other[right]) % 2
+}
+
+// The bit that random gate g takes in the second run, where its bit in the first is known and its pair is given by number.
+fn mapped_bit(
+    masked: &[u8],
+    gates: usize,
+    g: usize,
+    from: usize,
+    to: usize,
+    pair: usize,
+    bit: u8,
+    one: &[u8],
+    other: &[u8],
+) -> u8
+    requires { ⌜ CrossReady (now masked) gates g (now one) (now other) × (bit ≤ 1) ⌝ }
+    ensures { λ r. ⌜ r
+        ≡ xor bit
+        (crossFlip (now (masked .entry)) gates g (inRow from to pair) (now (one .entry)) (now (other .entry))) ⌝ }
+{
+    if pair < from {
+        return bit;
+    }
+    if to <= pair {
+        return bit;
+    }
+    let a = product_differs(masked, gates, g + 1, one, other);
+    let b = product_differs(masked, gates, g + 3, one, other);
+    (bit + (a + b) % 2) % 2
+}
+
+// Puts the bit that gate g takes in the second run, where it is a random gate.
+fn put_mapped(
+    masked: &[u8],
+    gates: usize,
+    g: usize,
+    from: usize,
+    to: usize,
+    pair: usize,
+    random: &[u8],
+    next: usize,
+    one: &[u8],
+    other: &[u8],
+    mapped: &mut [u8],
+)
+    requires { ⌜ BitReady (now masked) (now random) gates g next (now one) (now other) (now mapped) ⌝ }
+    ensures { λ _. ⌜ now (mapped .exit)
+        ≡ bitPut (kindOf (getD (now (masked .entry)) (6 + g) 0)) (now (mapped .entry)) next
+        (xor (getD (now (random .entry)) next 0)
+        (crossFlip (now (masked .entry)) gates g (inRow from to pair) (now (one .entry)) (now (other .entry)))) ⌝ }
+{
+    if masked[6 + g] == 3 {
+        let bit = tables::tape_bit(random, next);
+        mapped[next] = mapped_bit(masked, gates, g, from, to, pair, bit, one, other);
+    }
+}
+
+// The number of the pair after a gate: a random gate ends one, and the last pair is followed by the first of another AND.
+fn next_pair(kind: u8, pair: usize, pairs: usize) -> usize
+    requires { ⌜ pair ≤ 65535 ⌝ }
+    ensures { λ r. ⌜ r ≡ afterGate (kindOf kind) pairs pair ⌝ }
+{
+    if kind != 3 {
+        return pair;
+    }
+    if pair + 1 == pairs {
+        return 0;
+    }
+    pair + 1
+}
+
+// One pass over a masked table's gates with both runs: the second run's random bits, and both runs' values.
+fn walk(
+    masked: &[u8],
+    inputs: usize,
+    gates: usize,
+    from: usize,
+    to: usize,
+    pairs: usize,
+    random: &[u8],
+    mapped: &mut [u8],
+    one: &mut [u8],
+    other: &mut [u8],
+)
+    requires { ⌜ WalkReady (now masked) (now random) (now mapped) (now one) (now other) inputs gates ⌝ }
+    ensures { λ _. ⌜ WalkSays (now (masked .entry)) (now (random .entry)) inputs from to pairs
+        (now (mapped .entry))
+        (now (mapped .exit))
+        (now (one .entry))
+        (now (one .exit))
+        (now (other .entry))
+        (now (other .exit)) ⌝ }
+{
+    let mut next: usize = 0;
+    let mut pair: usize = 0;
+    let mut g: usize = 0;
+    while g < gates {
+        let kind = masked[6 + g];
+        let left = tables::field(masked, 6 + gates + 4 * g);
+        let right = tables::field(masked, 8 + gates + 4 * g);
+        put_mapped(
+            masked,
+            gates,
+            g,
+            from,
+            to,
+            pair,
+            random,
+            next,
+            one,
+            other,
+            mapped,
+        );
+        let a = running::gate_value(kind, one[left], one[right], random, next);
+        let b = running::gate_value(kind, other[left], other[right], mapped, next);
+        one[inputs + g] = a.value;
+        other[inputs + g] = b.value;
+        pair = next_pair(kind, pair, pairs);
+        next = a.next;
+        g += 1;
+    }
+}
+
+// A tape bit of share s of an input, flipped where s is the free share and the secrets differ.
+fn flip_bit(bit: u8, s: usize, k: usize, flip: u8) -> u8
+    requires { ⌜ (bit ≤ 1) × (flip ≤ 1) ⌝ }
+    ensures { λ r. ⌜ r ≡ xor bit (pick (eqb s k) flip 0) ⌝ }
+{
+    if s == k {
+        return (bit + flip) % 2;
+    }
+    bit
+}
+
+// Copies the tape bits of one input, which stand from a place on, and flips bit k of them where the secrets differ.
+fn flip_one(bits: usize, k: usize, flip: u8, tape: &[u8], at: usize, mapped: &mut [u8])
+    requires { ⌜ (at + bits ≤ length (now tape))
+        × (at + bits ≤ length (now mapped))
+        × (flip ≤ 1)
+        × Bits (now tape) ⌝ }
+    ensures { λ _. ⌜ now (mapped .exit)
+        ≡ putAt at
+        (flipped (take bits (drop at (now (tape .entry)))) (upFrom bits 1 (λ s. pick (eqb s k) flip 0)))
+        (now (mapped .entry)) ⌝ }
+{
+    let mut s = 0;
+    while s < bits {
+        let bit = tables::tape_bit(tape, at + s);
+        mapped[at + s] = flip_bit(bit, s + 1, k, flip);
+        s += 1;
+    }
+}
+
+// The front of the mapped tape: every input's tape bits, bit k flipped where the secrets differ.
+fn flip_inputs(order: usize, k: usize, first: &[u8], second: &[u8], tape: &[u8], mapped: &mut [u8])
+    requires { ⌜ FlipReady order (now first) (now second) (now tape) (now mapped) ⌝ }
+    ensures { λ _. ⌜ now (mapped .exit)
+        ≡ over
+        (flipped (now (tape .entry)) (inputFlips order k (now (first .entry)) (now (second .entry))))
+        (now (mapped .entry)) ⌝ }
+{
+    let bits = 2 * order;
+    let mut at = 0;
+    let mut i = 0;
+    while i < first.len() {
+        let x = tables::tape_bit(first, i);
+        let y = tables::tape_bit(second, i);
+        flip_one(bits, k, (x + y) % 2, tape, at, mapped);
+        at += bits;
+        i += 1;
+    }
+}
+
+// The smallest number from 1 to n that is not seen, else n + 1.
+fn free_of(seen: &[u8; 256], n: usize) -> usize
+    requires { ⌜ n ≤ 31 ⌝ }
+    ensures { λ r. ⌜ ((cs : List ℕ) → Seen cs (now (seen .entry)) → r ≡ freeFrom n 1 cs) ⌝ }
+{
+    let mut k = 1;
+    while k <= n {
+        if seen[k] == 0 {
+            return k;
+        }
+        k += 1;
+    }
+    k
+}
+
+// Marks the share numbers that the probes carry.
+fn mark_probes(table: &[u8], p: sizing::Plan, probes: &[u32], seen: &mut [u8; 256])
+    requires { ⌜ PlanReady (now table) (orderOf p) p × MarkReady (now probes) (p .wires) (now seen) ⌝ }
+    ensures { λ _. ⌜ Seen
+        (carried (marks isw) (origins isw (orderOf p) (tableOf (now (table .entry)))) (now (probes .entry)))
+        (now (seen .exit)) ⌝ }
+{
+    let mut j = 0;
+    while j < probes.len() {
+        let c = marking::marks_at(table, p, probes[j] as usize);
+        let first = c.first as usize;
+        let second = c.second as usize;
+        seen[first] = 1;
+        seen[second] = 1;
+        j += 1;
+    }
+}
+
+// The smallest share number that no probe carries.
+fn free_share(table: &[u8], p: sizing::Plan, probes: &[u32]) -> usize
+    requires { ⌜ PlanReady (now table) (orderOf p) p × Probes (now probes) (p .wires) ⌝ }
+    ensures { λ r. ⌜ r ≡ freeShare isw (orderOf p) (tableOf (now (table .entry))) (now (probes .entry)) ⌝ }
+{
+    let mut seen = [0u8; 256];
+    mark_probes(table, p, probes, &mut seen);
+    free_of(&seen, p.shares)
+}
+
+// A refusal, or none where the number is 0.
+fn refused(number: u8, place: usize) -> tables::Refusal
+    requires { ⌜ place < 4294967296 ⌝ }
+    ensures { λ r. ⌜ Refused (fault number place) r ⌝ }
+{
+    tables::Refusal {
+        number,
+        place: place as u32,
+    }
+}
+
+// The first byte above 1, where the bits begin at a place of the call's bits joined.
+fn bits_fault(bits: &[u8], start: usize) -> tables::Refusal
+    requires { ⌜ start + length (now bits) < 4294967296 ⌝ }
+    ensures { λ r. ⌜ Refused (badBit start (now (bits .entry))) r ⌝ }
+{
+    let at = tables::first_bad(bits);
+    if at < bits.len() {
+        return refused(11, start + at);
+    }
+    refused(0, 0)
+}
+
+// What is supplied to a plan: wrong counts, then a byte above 1 of both secrets and the tape joined.
+fn supply_fault(p: sizing::Plan, first: &[u8], second: &[u8], tape: &[u8]) -> tables::Refusal
+    requires { ⌜ (p .inputs ≤ 65535) × (p .tape ≤ 65535) ⌝ }
+    ensures { λ r. ⌜ Refused (supplyFault p (now (first .entry)) (now (second .entry)) (now (tape .entry))) r ⌝ }
+{
+    if first.len() != p.inputs {
+        return refused(10, 0);
+    }
+    if second.len() != p.inputs {
+        return refused(10, 0);
+    }
+    if tape.len() != p.tape {
+        return refused(10, 0);
+    }
+    let found = bits_fault(first, 0);
+    if found.number != 0 {
+        return found;
+    }
+    let found = bits_fault(second, first.len());
+    if found.number != 0 {
+        return found;
+    }
+    bits_fault(tape, first.len() + second.len())
+}
+
+// The probes: more than the order, then one that is no wire of the masked table.
+fn probes_fault(order: u8, wires: usize, probes: &[u32]) -> tables::Refusal
+    ensures { λ r. ⌜ Refused (probesFault order wires (now (probes .entry))) r ⌝ }
+{
+    if probes.len() > order as usize {
+        return refused(12, 0);
+    }
+    let mut j = 0;
+    while j < probes.len() {
+        if probes[j] as usize >= wires {
+            return refused(13, j);
+        }
+        j += 1;
+    }
+    refused(0, 0)
+}
+
+// A buffer that is shorter than what is written into it.
+fn room_fault(p: sizing::Plan, mapped: usize, one: usize, other: usize) -> tables::Refusal
+    ensures { λ r. ⌜ Refused (roomFault p mapped one other) r ⌝ }
+{
+    if mapped < p.tape {
+        return refused(9, 0);
+    }
+    if one < p.wires {
+        return refused(9, 0);
+    }
+    if other < p.wires {
+        return refused(9, 0);
+    }
+    refused(0, 0)
+}
