@@ -4,3 +4,4 @@ pub mod Shareable
 pub mod Placing
 pub mod Stretches
 pub mod Assembled
+pub mod Masked

@@ -2,14 +2,15 @@
 ghost use mathlib.Core.Path.{_≡_};
 ghost use Prim.Native.Nat.{_+_, _*_, _/_, _≤_, _<_, _-_};
 ghost use lib.ListN.{length};
-ghost use Rattle.tables.specs.Tables.{kindOf, wordBytes, word, tableOf, two, kindBytes, pairBytes};
+ghost use Rattle.tables.specs.Tables.{kindOf, wordBytes, word, tableOf, two, kindBytes, pairBytes, tableBytes};
 ghost use Rattle.masks.specs.Wires.{cost, totalOf, newShares, inputShares, outputShares, maskedTable};
 ghost use Rattle.writing.specs.Layout.{listed, LowShares};
 ghost use Rattle.masking.specs.Masking.{Shareable, placesAt, Small, sharesBy, Room, Put, Located, allShares, gateWire, stretch, maskedGates, afterSizes};
-ghost use Rattle.tables.specs.Says.{putAt};
+ghost use Rattle.tables.specs.Says.{putAt, over};
 ghost use Rattle.sizing.specs.Plans.{PlanReady, planBytes};
 ghost use mathlib.Core.List.{[], _++_};
 ghost use Rattle.masks.specs.Gadgets.{isw};
+ghost use Rattle.masks.specs.Says.{MaskSays};
 
 // Where the shares of plain wire p are.
 fn places_at(first: &[u16], base: &[u16], step: &[u16], p: usize) -> writing::Places
@@ -257,4 +258,93 @@ fn mask_gates(
         step,
         &mut out[6 + 5 * g..],
     );
+}
+
+// Writes the masked table of a plan; the three arrays are lent to note where shares are.
+fn mask_with(
+    table: &[u8],
+    p: sizing::Plan,
+    first: &mut [u16],
+    base: &mut [u16],
+    step: &mut [u16],
+    out: &mut [u8],
+)
+    requires { ⌜ PlanReady (now table) (p .shares / 2) p × Room (p .inputs + p .gates) (now first) (now base) (now step)
+        × (planBytes p ≤ length (now out)) ⌝ }
+    ensures { λ _. ⌜ now (out .exit)
+        ≡ over (tableBytes (maskedTable isw (p .shares / 2) (tableOf (now (table .entry))))) (now (out .entry)) ⌝ }
+{
+    locate(table, p, first, base, step);
+    let inputs = p.shares * p.inputs;
+    put_sizes(out, inputs, p.wires - inputs, p.shares * p.outputs);
+    mask_gates(table, p, first, base, step, out);
+}
+
+// Masks a table of at most 1,024 wires.
+fn mask_small(table: &[u8], p: sizing::Plan, out: &mut [u8])
+    requires { ⌜ PlanReady (now table) (p .shares / 2) p × (p .inputs + p .gates ≤ 1024) × (planBytes p ≤ length (now out)) ⌝ }
+    ensures { λ _. ⌜ now (out .exit)
+        ≡ over (tableBytes (maskedTable isw (p .shares / 2) (tableOf (now (table .entry))))) (now (out .entry)) ⌝ }
+{
+    let mut first = [0u16; 1024];
+    let mut base = [0u16; 1024];
+    let mut step = [0u16; 1024];
+    mask_with(table, p, &mut first, &mut base, &mut step, out);
+}
+
+// Masks a table of any number of wires.
+fn mask_large(table: &[u8], p: sizing::Plan, out: &mut [u8])
+    requires { ⌜ PlanReady (now table) (p .shares / 2) p × (planBytes p ≤ length (now out)) ⌝ }
+    ensures { λ _. ⌜ now (out .exit)
+        ≡ over (tableBytes (maskedTable isw (p .shares / 2) (tableOf (now (table .entry))))) (now (out .entry)) ⌝ }
+{
+    let mut first = [0u16; 65536];
+    let mut base = [0u16; 65536];
+    let mut step = [0u16; 65536];
+    mask_with(table, p, &mut first, &mut base, &mut step, out);
+}
+
+// Writes the masked table of a plan into a buffer that has room for it.
+pub fn mask_into(table: &[u8], p: sizing::Plan, out: &mut [u8])
+    requires { ⌜ PlanReady (now table) (p .shares / 2) p × (planBytes p ≤ length (now out)) ⌝ }
+    ensures { λ _. ⌜ now (out .exit)
+        ≡ over (tableBytes (maskedTable isw (p .shares / 2) (tableOf (now (table .entry))))) (now (out .entry)) ⌝ }
+{
+    if p.inputs + p.gates <= 1024 {
+        mask_small(table, p, out);
+        return;
+    }
+    mask_large(table, p, out);
+}
+
+// Masks a plain table at an order; the bytes written.
+pub fn mask_table(table: &[u8], order: u8, out: &mut [u8]) -> tables::Answer
+    ensures { λ r. ⌜ MaskSays (now (table .entry)) order (now (out .entry)) (now (out .exit)) r ⌝ }
+{
+    let planned = sizing::plan_table(table, order);
+    match planned {
+        sizing::Planned::Refused(f) => {
+            return tables::Answer {
+                number: f.number,
+                place: f.place,
+                value: 0,
+            };
+        }
+        sizing::Planned::Ready(p) => {
+            let bytes = sizing::plan_bytes(p);
+            if out.len() < bytes {
+                return tables::Answer {
+                    number: 9,
+                    place: 0,
+                    value: 0,
+                };
+            }
+            mask_into(table, p, out);
+            return tables::Answer {
+                number: 0,
+                place: 0,
+                value: bytes as u32,
+            };
+        }
+    }
 }
