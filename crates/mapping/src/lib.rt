@@ -29,7 +29,6 @@ ghost use Rattle.mapping.specs.Walking.{
   WalkSays,
 };
 
-
 // Whether the product that a gate makes differs between the runs: 1 or 0.
 fn product_differs(masked: &[u8], gates: usize, g: usize, one: &[u8], other: &[u8]) -> u8
     requires { ⌜ ProductReady (now masked) gates g (now one) (now other) ⌝ }
@@ -335,4 +334,67 @@ fn room_fault(p: sizing::Plan, mapped: usize, one: usize, other: usize) -> table
         return refused(9, 0);
     }
     refused(0, 0)
+}
+
+// The refusals that follow those of the plan: 10 to 13, then 9.
+fn call_fault(
+    p: sizing::Plan,
+    order: u8,
+    first: &[u8],
+    second: &[u8],
+    tape: &[u8],
+    probes: &[u32],
+    mapped: usize,
+    one: usize,
+    other: usize,
+) -> tables::Refusal
+    requires { ⌜ (p .inputs ≤ 65535) × (p .tape ≤ 65535) ⌝ }
+    ensures { λ r. ⌜ Refused
+        (callFault order p (now (first .entry)) (now (second .entry)) (now (tape .entry)) (now (probes .entry)) mapped one other)
+        r ⌝ }
+{
+    let found = supply_fault(p, first, second, tape);
+    if found.number != 0 {
+        return found;
+    }
+    let found = probes_fault(order, p.wires, probes);
+    if found.number != 0 {
+        return found;
+    }
+    room_fault(p, mapped, one, other)
+}
+
+// Whether mapping is refused: the first refusal, or the sizes.
+fn map_fault(
+    table: &[u8],
+    order: u8,
+    first: &[u8],
+    second: &[u8],
+    tape: &[u8],
+    probes: &[u32],
+    mapped: usize,
+    one: usize,
+    other: usize,
+) -> sizing::Planned
+    ensures { λ r. ⌜ MapPlanSays (now (table .entry)) order
+        (now (first .entry))
+        (now (second .entry))
+        (now (tape .entry))
+        (now (probes .entry))
+        mapped
+        one
+        other
+        r ⌝ }
+{
+    let planned = sizing::plan_table(table, order);
+    match planned {
+        sizing::Planned::Refused(r) => sizing::Planned::Refused(r),
+        sizing::Planned::Ready(p) => {
+            let found = call_fault(p, order, first, second, tape, probes, mapped, one, other);
+            if found.number != 0 {
+                return sizing::Planned::Refused(found);
+            }
+            sizing::Planned::Ready(p)
+        }
+    }
 }
