@@ -5,7 +5,7 @@ use mathlib.Core.Path.{_≡_, refl, sym, ap, ap₂, subst, _∙_}
 use mathlib.Core.Bool.{true}
 use mathlib.Core.List.{List, [], _∷_, _++_, map}
 use Prim.Native.Nat.{ℕ, zero, suc, _+_, _-_, _*_, _/_, _≤_, _<_}
-use native.Mathlib.Nat.{add-zero, zero-add}
+use native.Mathlib.Nat.{add-zero, mul-le-mul}
 use native.Mathlib.Omega.{arith}
 use lib.ListN.{length, getD, take, drop, length-append, length-drop, List·getD-append, take-append-drop}
 use lib.Seq.{length-take-le, take-append-seam, take-at, drop-at}
@@ -46,6 +46,57 @@ use Rattle.maps.proofs.Written.{written}
 use Rattle.mapping.specs.Walking.{WalkReady, walkedBits, WalkSays}
 use Rattle.mapping.specs.Flipping.{FlipReady}
 use Rattle.mapping.specs.Working.{BeginReady, BegunSays, WorkReady, WorkSays}
+
+-- products of small numbers
+pub small-products : (n d : ℕ) → d ≤ n → n ≤ 31 → (n * d ≤ 961) × (d * d ≤ 961)
+small-products n d h k = (
+  mul-le-mul {n₂ = 31} {m₂ = 31} k (omega arith),
+  mul-le-mul {n₂ = 31} {m₂ = 31} (omega arith) (omega arith),
+)
+
+-- both runs begun: the second encoding takes the front of the mapped tape
+module _ {o : ℕ} {xs ys ts m a b : List ℕ} (B : BeginReady o xs ys ts m a b) where
+  pub encode-first :
+      (o ≤ 15) × (length ts ≡ 2 * o * length xs) × (sharesOf o * length xs ≤ length a) × Bits xs × Bits ts
+  encode-first = (B .flip .order, B .flip .tape, B .one, B .flip .first-bits, B .flip .tape-bits)
+
+  module _ (k : ℕ) where
+    abbrev flips : List ℕ
+    flips = flipped ts (inputFlips o k xs ys)
+
+    flips-long : length flips ≡ length ts
+    flips-long = flipped-length ts (inputFlips o k xs ys)
+
+    flips-bits : Bits flips
+    flips-bits = flipped-bits ts (inputFlips o k xs ys) (B .flip .tape-bits)
+
+    pub flips-taken : {m′ : List ℕ} → m′ ≡ over flips m → take (length ts) m′ ≡ flips
+    flips-taken e = rw e (take-at flips (drop (length flips) m) (length ts) flips-long)
+
+    pub taken-long : {m′ : List ℕ} → m′ ≡ over flips m → length ts ≡ length (take (length ts) m′)
+    taken-long e = sym (ap length (flips-taken e) ∙ flips-long)
+
+    pub encode-second :
+        {fs : List ℕ} → fs ≡ flips
+        → (o ≤ 15) × (length fs ≡ 2 * o * length ys) × (sharesOf o * length ys ≤ length b) × Bits ys × Bits fs
+    encode-second {fs} e =
+        let same = B .flip .second in
+        let each : length fs ≡ 2 * o * length ys =
+        ap length e ∙ flips-long ∙ B .flip .tape ∙ ap (λ (i : ℕ). 2 * o * i) (sym same) in
+        let room : sharesOf o * length ys ≤ length b = rw same (B .other) in
+        (B .flip .order, each, room, B .flip .second-bits, rw e flips-bits)
+
+    pub begun-says :
+        {fs m′ a′ b′ : List ℕ} → m′ ≡ over flips m → a′ ≡ over (encode o xs ts) a → fs ≡ flips
+        → b′ ≡ over (encode o ys fs) b → BegunSays o k xs ys ts m m′ a a′ b b′
+    begun-says em ea f eb =
+        record { mapped = em; one = ea; other = eb ∙ ap (λ (l : List ℕ). over (encode o ys l) b) f }
+
+-- the walk, by equal numbers of pairs
+pub walk-as :
+    {s rs : List ℕ} {n from to pairs from′ to′ pairs′ : ℕ} {m m′ a a′ b b′ : List ℕ} → from ≡ from′ → to ≡ to′
+    → pairs ≡ pairs′ → WalkSays s rs n from to pairs m m′ a a′ b b′ → WalkSays s rs n from′ to′ pairs′ m m′ a a′ b b′
+walk-as ef et ep w = rw (← ef, ← et, ← ep) w
 
 -- what is written at the front of a part that was lent is written at the part's place
 part-back :
