@@ -1,6 +1,6 @@
 // Checking a gate table: refusals 1 to 5 in document 01's order.
 ghost use mathlib.Core.Path.{_≡_};
-ghost use Prim.Native.Nat.{ℕ, _+_, _*_, _≤_, _<_};
+ghost use Prim.Native.Nat.{ℕ, _+_, _*_, _≤_};
 ghost use lib.ListN.{length, drop};
 ghost use Rattle.tables.specs.Refusals.{numbered};
 ghost use Rattle.tables.specs.Tables.{kindOf, gate, gatesFrom, wordsFrom, gateFault, gatesFault, outputsFault, tableFault};

@@ -31,7 +31,6 @@ use Rattle.running.specs.Running.{GateReady, GateSays, RunReady}
 use Rattle.tables.proofs.Lists.{Bits, bits-nil, bits-cons}
 use Rattle.tables.proofs.Accept.{gates-length, wires-of, accepted, Accepted}
 use Rattle.tables.proofs.Loops.{gatesAt, gateAt, gates-at-table, gates-at-step, gates-at-end}
-use Rattle.running.proofs.Gate.{bit-product}
 use Rattle.running.proofs.Running.{
   Running,
   running-start,
@@ -67,6 +66,11 @@ use Rattle.mapping.specs.Walking.{
   walkedBits,
   WalkSays,
 }
+
+bit-product : (a b : ℕ) → a ≤ 1 → b ≤ 1 → a * b ≤ 1
+bit-product zero b h k = omega arith
+bit-product (suc zero) b h k = omega arith
+bit-product (suc (suc a)) b h k = absurd (omega arith)
 
 -- the product of two wires that have values
 pub valued-product :

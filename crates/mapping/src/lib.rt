@@ -30,7 +30,6 @@ ghost use Rattle.mapping.specs.Walking.{
   WalkSays,
 };
 
-
 // Whether the product that a gate makes differs between the runs: 1 or 0.
 fn product_differs(masked: &[u8], gates: usize, g: usize, one: &[u8], other: &[u8]) -> u8
     requires { ⌜ ProductReady (now masked) gates g (now one) (now other) ⌝ }

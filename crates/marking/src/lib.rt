@@ -1,12 +1,11 @@
 // The marks of a wire: which plain gate it belongs to, which part of an AND it is, and the shares that it carries.
-ghost use Prim.Native.Nat.{_+_, _*_, _/_, _≤_, _<_, _-_};
-ghost use Rattle.tables.specs.Tables.{kindOf, wires, tableOf, AND};
-ghost use Rattle.masks.specs.Shares.{tri, pairs, row};
-ghost use Rattle.masks.specs.Wires.{cost, share, origins};
-ghost use Rattle.tables.specs.Says.{Refused};
+ghost use Prim.Native.Nat.{_*_, _≤_, _<_};
+ghost use Rattle.tables.specs.Tables.{kindOf, tableOf, AND};
+ghost use Rattle.masks.specs.Shares.{tri};
+ghost use Rattle.masks.specs.Wires.{cost, origins};
 ghost use Rattle.masks.specs.Says.{originAt, MarksSay};
 ghost use Rattle.sizing.specs.Plans.{PlanReady};
-ghost use Rattle.masks.specs.Gadgets.{first, isw};
+ghost use Rattle.masks.specs.Gadgets.{isw};
 ghost use Rattle.marking.specs.Origins.{PairSays, Among, PartSays, CarriedSays, PartMarksSay, GateMarksSay, orderOf, NewWireSays};
 
 // The share numbers that a wire carries, ascending, 0 for none.

@@ -1,10 +1,7 @@
 // The masking construction: what forecasting and the marks call answer.
-ghost use Prim.Native.Nat.{_/_};
-ghost use Rattle.tables.specs.Tables.{wires};
-ghost use Rattle.masks.specs.Wires.{share};
-ghost use Rattle.masks.specs.Gadgets.{first};
 
 // What forecasting answers: a refusal's number and place, or 0, 0 and the masked table's four figures.
+#[repr(C)]
 pub struct Sizes {
     pub number: u8,
     pub place: u32,
@@ -15,6 +12,7 @@ pub struct Sizes {
 }
 
 // What the marks call answers: a refusal's number and place, or 0, 0 and the share numbers, ascending, 0 for none.
+#[repr(C)]
 pub struct Marks {
     pub number: u8,
     pub place: u32,

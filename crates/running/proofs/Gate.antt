@@ -1,34 +1,49 @@
--- A gate's value by its kind's byte, and counting the random gates of a table.
+-- A gate's value by its kind's byte and the truth tables, and counting the random gates of a table.
 -- Assumes nothing.
 use mathlib.Core.Path.{_≡_, refl, subst, _∙_}
 use mathlib.Core.List.{List}
-use Prim.Native.Nat.{ℕ, zero, suc, _+_, _-_, _*_, _%_, _≤_, _<_}
+use Prim.Native.Nat.{ℕ, zero, suc, _+_, _-_, _*_, _/_, _%_, _^_, _≤_, _<_}
 use native.Mathlib.Nat.{add-zero}
 use native.Mathlib.Omega.{arith}
 use lib.ListN.{length, getD, drop}
 use Rattle.running.specs.declared.Drawn as DD
 use Rattle.tables.specs.Tables.{kindOf, Gate, gatesFrom}
-use Rattle.tables.specs.Runs.{drawn, randoms}
+use Rattle.tables.specs.Runs.{driven, drawn, randoms}
 use Rattle.running.specs.Running.{GateReady, GateSays}
 use Rattle.tables.proofs.Loops.{gatesAt, gates-at-start, gates-at-step, gates-at-end}
 
-module _ {k a b : ℕ} {rs : List ℕ} {c : ℕ} {r : DD.Drawn} where
-  pub says-not : k ≡ 0 → r .value ≡ 1 - a → r .next ≡ c → GateSays k a b rs c r
-  says-not e v n = record { value = λ l m u p q. rw (e, p) v; next = rw (e, add-zero) n }
+-- what holds of the four pairs of bits holds of two bits
+pub both-bits :
+    (P : ℕ → ℕ → Type 0) → P 0 0 → P 0 1 → P 1 0 → P 1 1 → (a b : ℕ) → a ≤ 1 → b ≤ 1 → P a b
+both-bits P p q r t zero zero h k = p
+both-bits P p q r t zero (suc zero) h k = q
+both-bits P p q r t zero (suc (suc b)) h k = absurd (omega arith)
+both-bits P p q r t (suc zero) zero h k = r
+both-bits P p q r t (suc zero) (suc zero) h k = t
+both-bits P p q r t (suc zero) (suc (suc b)) h k = absurd (omega arith)
+both-bits P p q r t (suc (suc a)) b h k = absurd (omega arith)
 
-  pub says-xor : k ≡ 1 → r .value ≡ (a + b) % 2 → r .next ≡ c → GateSays k a b rs c r
-  says-xor e v n = record { value = λ l m u p q. rw (e, p, q) v; next = rw (e, add-zero) n }
+-- the truth tables of NOT, XOR and AND
+abbrev pub truth : ℕ → ℕ → ℕ → ℕ
+truth k a b = 2147 / 2 ^ (4 * k + 2 * a + b) % 2
 
-  pub says-and : k ≡ 2 → r .value ≡ a * b → r .next ≡ c → GateSays k a b rs c r
-  says-and e v n = record { value = λ l m u p q. rw (e, p, q) v; next = rw (e, add-zero) n }
+truth-not : (a b : ℕ) → a ≤ 1 → b ≤ 1 → truth 0 a b ≡ 1 - a
+truth-not = both-bits (λ a b. truth 0 a b ≡ 1 - a) refl refl refl refl
 
-  pub says-random : k ≡ 3 → r .value ≡ getD rs c 0 → r .next ≡ c + 1 → GateSays k a b rs c r
-  says-random e v n = record { value = λ l m u p q. rw e v; next = rw e n }
+truth-xor : (a b : ℕ) → a ≤ 1 → b ≤ 1 → truth 1 a b ≡ (a + b) % 2
+truth-xor = both-bits (λ a b. truth 1 a b ≡ (a + b) % 2) refl refl refl refl
 
-pub bit-product : (a b : ℕ) → a ≤ 1 → b ≤ 1 → a * b ≤ 1
-bit-product zero b h k = omega arith
-bit-product (suc zero) b h k = omega arith
-bit-product (suc (suc a)) b h k = absurd (omega arith)
+truth-and : (a b : ℕ) → a ≤ 1 → b ≤ 1 → truth 2 a b ≡ a * b
+truth-and = both-bits (λ a b. truth 2 a b ≡ a * b) refl refl refl refl
+
+truth-driven :
+    (k a b : ℕ) → k ≤ 3 → (k ≡ 3 → ⊥) → a ≤ 1 → b ≤ 1 → (l m c : ℕ) (v : ℕ → ℕ) → v l ≡ a → v m ≡ b
+    → truth k a b ≡ driven (kindOf k) l m v c
+truth-driven zero a b h n ha hb l m c v p q = rw p (truth-not a b ha hb)
+truth-driven (suc zero) a b h n ha hb l m c v p q = rw (p, q) (truth-xor a b ha hb)
+truth-driven (suc (suc zero)) a b h n ha hb l m c v p q = rw (p, q) (truth-and a b ha hb)
+truth-driven (suc (suc (suc zero))) a b h n ha hb l m c v p q = absurd (n refl)
+truth-driven (suc (suc (suc (suc k)))) a b h n ha hb l m c v p q = absurd (omega arith)
 
 -- a gate that is not random takes no bit
 pub drawn-none : (k : ℕ) → (k ≡ 3 → ⊥) → drawn (kindOf k) ≡ 0
@@ -37,6 +52,18 @@ drawn-none (suc zero) h = refl
 drawn-none (suc (suc zero)) h = refl
 drawn-none (suc (suc (suc zero))) h = absurd (h refl)
 drawn-none (suc (suc (suc (suc k)))) h = refl
+
+-- a random gate takes the next bit; any other goes by the truth tables
+module _ {k a b : ℕ} {rs : List ℕ} {c : ℕ} {r : DD.Drawn} (ready : GateReady k a b rs c) where
+  pub says-random : k ≡ 3 → r .value ≡ getD rs c 0 → r .next ≡ c + 1 → GateSays k a b rs c r
+  says-random e v n = record { value = λ l m u p q. rw e v; next = rw e n }
+
+  pub says-truth : (k ≡ 3 → ⊥) → r .value ≡ truth k a b → r .next ≡ c → GateSays k a b rs c r
+  says-truth h v n =
+      record {
+        value = λ l m u p q. v ∙ truth-driven k a b (ready .known) h (ready .left) (ready .right) l m _ u p q;
+        next = rw (drawn-none k h, add-zero) n;
+      }
 
 -- counting the random gates of n: m of those before gate i are random
 pub record Counting (s : List ℕ) (n m i : ℕ) : Type 0 where

@@ -26,7 +26,7 @@ use Rattle.tables.proofs.Accept.{
   outputs-passed,
 }
 use Rattle.tables.proofs.Loops.{word-drop}
-use Rattle.tables.proofs.Answers.{refused-fails, answered-refused, answered-passed}
+use Rattle.tables.proofs.Answers.{refused-fails, answered-passed}
 use Rattle.running.proofs.RunFault.{accepted-long, clean-run, RunGood}
 
 -- the front of a buffer over which xs was written, and what follows xs
@@ -140,12 +140,17 @@ module _ (s xs rs a b : List ℕ) (r : RunGood s xs rs (length a) (length b)) wh
 
 -- what a refused run and a run that is not refused answer
 pub run-refused :
-    (s xs rs a b : List ℕ) (r : DR.Refusal) → Refused (runFault s xs rs (length a) (length b)) r
-    → (r .number ≡ 0 → ⊥) → RunSays s xs rs a a b b (record { number = r .number; place = r .place; value = 0 })
-run-refused s xs rs a b r h k =
+    (s xs rs a b : List ℕ) (r : DR.Refusal) (q : DA.Answer) → Refused (runFault s xs rs (length a) (length b)) r
+    → (r .number ≡ 0 → ⊥) → (q .number ≡ r .number) × (q .place ≡ r .place) × (q .value ≡ 0)
+    → RunSays s xs rs a a b b q
+run-refused s xs rs a b r q h k e =
     let f = runFault s xs rs (length a) (length b) in
-    let e : passed f ≡ false = refused-fails f r h k in
-    record { answer = answered-refused f _ r h k; values = rw e; outputs = rw e }
+    let no : passed f ≡ false = refused-fails f r h k in
+    record {
+      answer = record { number = e .0 ∙ h .number; place = e .1 ∙ h .place; value = rw no (e .2) };
+      values = rw no;
+      outputs = rw no;
+    }
 
 pub run-done :
     (s xs rs a a′ b b′ : List ℕ) (v : ℕ) → passed (runFault s xs rs (length a) (length b)) ≡ true

@@ -5,7 +5,7 @@ ghost use mathlib.Core.List.{_++_};
 ghost use Prim.Native.Nat.{_+_, _*_, _≤_, _<_};
 ghost use lib.ListN.{length, take, drop};
 ghost use Rattle.tables.specs.Refusals.{passed, badBit};
-ghost use Rattle.tables.specs.Tables.{kindOf, gate, two, gatesFrom, wordsFrom, tableOf, tableFault};
+ghost use Rattle.tables.specs.Tables.{kindOf, gatesFrom, wordsFrom, tableOf, tableFault};
 ghost use Rattle.tables.specs.Runs.{drawn, runFrom, readAll, randoms};
 ghost use Rattle.tables.specs.Says.{Refused, over, runFault, RunSays};
 ghost use Rattle.running.specs.Running.{GateReady, GateSays, RunReady, OutputsReady, supplyFault, roomFault};
@@ -46,32 +46,24 @@ pub struct Drawn {
     pub next: usize,
 }
 
+// The truth tables of NOT, XOR and AND: bit 4·kind + 2·a + b is what a gate of this kind makes of a and b.
+const TRUTH: u32 = 0x863;
+
 // What a gate drives, from its operands' values.
 pub fn gate_value(kind: u8, a: u8, b: u8, random: &[u8], at: usize) -> Drawn
     requires { ⌜ GateReady kind a b (now random) at ⌝ }
     ensures { λ r. ⌜ GateSays kind a b (now (random .entry)) at r ⌝ }
 {
-    if kind == 1 {
+    if kind == 3 {
         return Drawn {
-            value: (a + b) % 2,
-            next: at,
+            value: tables::tape_bit(random, at),
+            next: at + 1,
         };
     }
-    if kind == 2 {
-        return Drawn {
-            value: a * b,
-            next: at,
-        };
-    }
-    if kind == 0 {
-        return Drawn {
-            value: 1 - a,
-            next: at,
-        };
-    }
+    let row = 4 * kind + 2 * a + b;
     Drawn {
-        value: tables::tape_bit(random, at),
-        next: at + 1,
+        value: ((TRUTH >> row) % 2) as u8,
+        next: at,
     }
 }
 
@@ -219,6 +211,17 @@ fn run_fault(
     room_fault(table, values, outputs)
 }
 
+// The answer of a refused call.
+fn refused(found: tables::Refusal) -> tables::Answer
+    ensures { λ r. ⌜ (r .number ≡ found .number) × (r .place ≡ found .place) × (r .value ≡ 0) ⌝ }
+{
+    tables::Answer {
+        number: found.number,
+        place: found.place,
+        value: 0,
+    }
+}
+
 // Runs a table: one value for each wire, and the values of the output wires.
 pub fn run_table(
     table: &[u8],
@@ -241,11 +244,7 @@ pub fn run_table(
 {
     let found = run_fault(table, inputs, random, values.len(), outputs.len());
     if found.number != 0 {
-        return tables::Answer {
-            number: found.number,
-            place: found.place,
-            value: 0,
-        };
+        return refused(found);
     }
     let gates = tables::field(table, 2);
     copy_bits(inputs, values);

@@ -1,16 +1,15 @@
 // What a plain table and an order come to: refusals 1 to 8, the sizes of the masked table, and the forecast's line.
 ghost use mathlib.Core.Path.{_≡_};
-ghost use Prim.Native.Nat.{_+_, _*_, _/_, _≤_, _<_, _-_};
+ghost use Prim.Native.Nat.{_+_, _≤_};
 ghost use lib.ListN.{length};
-ghost use Rattle.tables.specs.Tables.{kindOf, wires, tableOf, randomFault, two};
-ghost use Rattle.masks.specs.Shares.{tri, pairs};
+ghost use Rattle.tables.specs.Tables.{kindOf, tableOf, randomFault};
+ghost use Rattle.masks.specs.Shares.{tri};
 ghost use Rattle.masks.specs.Wires.{cost, draws};
 ghost use Rattle.tables.specs.Refusals.{Fault, orElse};
 ghost use Rattle.tables.specs.Says.{Refused};
 ghost use Rattle.masks.specs.Says.{orderFault, ForecastSays};
 ghost use Rattle.sizing.specs.Plans.{HasGates, TotalsSay, Maskable, PlanSays, PlanFits, planBytes, FiguresSay};
 ghost use mathlib.Core.List.{[], _∷_, _++_};
-ghost use Rattle.masks.specs.Gadgets.{first};
 ghost use Rattle.masks.specs.Lines.{decimal, Spelled, Puts, lineOf, refusedWord, forecastLine, sizesLine, LineSays};
 
 // The sizes of a plain table that 1 to 8 accept at an order, and its masked table's wires and tape bits.
@@ -231,7 +230,7 @@ pub fn plan_table(table: &[u8], order: u8) -> Planned
 }
 
 // How many bytes the masked table of a plan has.
-fn plan_bytes(p: Plan) -> usize
+pub fn plan_bytes(p: Plan) -> usize
     requires { ⌜ PlanFits p ⌝ }
     ensures { λ r. ⌜ r ≡ planBytes p ⌝ }
 {

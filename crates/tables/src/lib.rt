@@ -1,6 +1,6 @@
 // The gate-table format: what the calls answer, two-byte fields, and bits.
 ghost use mathlib.Core.Path.{_≡_};
-ghost use Prim.Native.Nat.{_+_, _*_, _<_};
+ghost use Prim.Native.Nat.{_+_, _<_};
 ghost use lib.ListN.{length, getD};
 ghost use Rattle.tables.specs.Tables.{word, two};
 ghost use Rattle.tables.specs.Says.{putAt, FirstBad};
@@ -12,6 +12,7 @@ pub struct Refusal {
 }
 
 // What a call answers: a refusal's number and place, or 0, 0 and the call's value. Value: wires, bytes, bits or the free share.
+#[repr(C)]
 pub struct Answer {
     pub number: u8,
     pub place: u32,

@@ -1,14 +1,14 @@
 // Writing the new wires of one masked gate: their kinds and their operands.
 ghost use mathlib.Core.Path.{_≡_};
-ghost use Prim.Native.Nat.{_+_, _*_, _/_, _≤_, _<_, ℕ, suc, _-_};
+ghost use Prim.Native.Nat.{_+_, _*_, _≤_, _<_, ℕ, suc, _-_};
 ghost use lib.ListN.{length, replicate};
-ghost use Rattle.tables.specs.Tables.{kindOf, wires, two, kindBytes, pairBytes, XOR, AND};
-ghost use Rattle.masks.specs.Shares.{tri, pairs, pairAt, row};
+ghost use Rattle.tables.specs.Tables.{kindOf, two, kindBytes, pairBytes, XOR, AND};
+ghost use Rattle.masks.specs.Shares.{tri, pairAt};
 ghost use Rattle.masks.specs.Wires.{cost, driverOf, share, pairWire, newWires};
 ghost use Rattle.writing.specs.Layout.{listed, LowShares, OperandRoom, PairRoom, ReadsShares, operandBytes, pairsOf, allPairs, sumBytes, times, highWires, lowWires, rowBytes, allRows, pairKinds, rowKinds};
 ghost use Rattle.tables.specs.Says.{putAt};
 ghost use mathlib.Core.List.{[], _++_, map};
-ghost use Rattle.masks.specs.Gadgets.{first, fifth, allFive, iswGates, isw};
+ghost use Rattle.masks.specs.Gadgets.{first, allFive, iswGates, isw};
 
 // Where the shares of a plain wire are: share 1 on wire first, share s on wire base + (s − 2)·step.
 pub struct Places {

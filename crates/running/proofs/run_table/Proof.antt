@@ -51,8 +51,11 @@ values-are c =
 run-fault-requires : tie.Need-run-fault-requires
 run-fault-requires c κs = search needs
 
+refused-requires : tie.Need-refused-requires
+refused-requires c κs = tt
+
 returns : tie.Need-returns
-returns c = run-refused _ _ _ _ _ _ (c .before .before .run-fault .ensures) (c .if1 .taken)
+returns c = run-refused _ _ _ _ _ _ _ (c .before .before .before .run-fault .ensures) (c .before .if1 .taken) (c .refused .ensures)
 
 field-requires : tie.Need-field-requires
 field-requires c κs = omega (arith, accepted-long _ (good c .accepted))
@@ -119,6 +122,7 @@ run-table-spec =
     tie.close
     (tie.spec
     run-fault-requires
+    refused-requires
     returns
     field-requires
     copy-bits-requires

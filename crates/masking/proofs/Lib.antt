@@ -1,0 +1,7 @@
+-- Laws that the proofs of masking cite.
+pub mod Located
+pub mod Shareable
+pub mod Placing
+pub mod Stretches
+pub mod Assembled
+pub mod Masked

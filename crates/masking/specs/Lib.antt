@@ -1,0 +1,2 @@
+-- What the steps of masking need and promise.
+pub mod Masking

@@ -1,0 +1,63 @@
+// The calls for C and Rust programs, under the names of include/masks.h. Each is the proved call with the same promise.
+ghost use Rattle.tables.specs.Says.{CheckSays, RunSays};
+ghost use Rattle.masks.specs.Says.{ForecastSays, MaskSays, EncodeSays, DecodeSays, MarksSay};
+
+#[no_mangle]
+pub extern "C" fn masks_check(table: &[u8]) -> tables::Answer
+    ensures { λ r. ⌜ CheckSays (now (table .entry)) r ⌝ }
+{
+    checking::check_table(table)
+}
+
+#[no_mangle]
+pub extern "C" fn masks_forecast(table: &[u8], order: u8) -> masks::Sizes
+    ensures { λ r. ⌜ ForecastSays (now (table .entry)) order r ⌝ }
+{
+    sizing::forecast_sizes(table, order)
+}
+
+#[no_mangle]
+pub extern "C" fn masks_mask(table: &[u8], order: u8, out: &mut [u8]) -> tables::Answer
+    ensures { λ r. ⌜ MaskSays (now (table .entry)) order (now (out .entry)) (now (out .exit)) r ⌝ }
+{
+    masking::mask_table(table, order, out)
+}
+
+#[no_mangle]
+pub extern "C" fn masks_encode(
+    order: u8,
+    secrets: &[u8],
+    tape: &[u8],
+    out: &mut [u8],
+) -> tables::Answer
+    ensures { λ r. ⌜ EncodeSays order (now (secrets .entry)) (now (tape .entry)) (now (out .entry)) (now (out .exit)) r ⌝ }
+{
+    encoding::encode_secrets(order, secrets, tape, out)
+}
+
+#[no_mangle]
+pub extern "C" fn masks_decode(order: u8, shares: &[u8], out: &mut [u8]) -> tables::Answer
+    ensures { λ r. ⌜ DecodeSays order (now (shares .entry)) (now (out .entry)) (now (out .exit)) r ⌝ }
+{
+    encoding::decode_shares(order, shares, out)
+}
+
+#[no_mangle]
+pub extern "C" fn masks_run(
+    table: &[u8],
+    inputs: &[u8],
+    random: &[u8],
+    values: &mut [u8],
+    outputs: &mut [u8],
+) -> tables::Answer
+    ensures { λ r. ⌜ RunSays (now (table .entry)) (now (inputs .entry)) (now (random .entry)) (now (values .entry)) (now (values .exit)) (now (outputs .entry)) (now (outputs .exit)) r ⌝ }
+{
+    running::run_table(table, inputs, random, values, outputs)
+}
+
+#[no_mangle]
+pub extern "C" fn masks_marks_of(table: &[u8], order: u8, wire: u32) -> masks::Marks
+    ensures { λ r. ⌜ MarksSay (now (table .entry)) order wire r ⌝ }
+{
+    marking::wire_marks(table, order, wire)
+}

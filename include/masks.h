@@ -1,0 +1,88 @@
+/* Fantzori: masked gate tables. Link with libmasks_c.a (x86-64 Linux).
+ *
+ * A slice is passed as a pointer and a length in elements. Bits are one byte each, 0 or 1. A length may be 0; the pointer is then
+ * not read. Buffers that a call writes must overlap neither each other nor any buffer that it reads.
+ *
+ * Every call answers a number: 0 is success, any other is the refusal below, with a place counted from 0. A refused call has
+ * written nothing and its values are 0.
+ *
+ *    1  fewer than six bytes, or a length other than 6 + 5G + 2O                                place 0
+ *    2  no input, no output, or more than 65,535 wires                                          place 0
+ *    3  a gate's kind is above 3                                                                the gate
+ *    4  an operand is not an earlier wire, or an unused one is not 0                            the gate
+ *    5  an output is no wire                                                                    the output's position
+ *    6  the order is not 1 to 15                                                                place 0
+ *    7  a random gate in a table to be masked                                                   the gate
+ *    8  more than 65,535 masked wires, masked outputs, or share bits to encode or decode        place 0
+ *    9  a lent buffer is shorter than what the call writes into it                              place 0
+ *   10  a wrong count of secrets, inputs, tape bits, random bits or shares                      place 0
+ *   11  a bit is a byte above 1            its position in the call's bits joined: first secret (or inputs, or shares), second
+ *                                          secret, tape or random bits
+ *   12  more probes than the order                                                              place 0
+ *   13  a probe or wire that the masked table does not have                                     the probe's position
+ *
+ * The checks are made in the order 1 (six bytes), 2, 1 (length), the gates one by one (3 before 4), 5, 6, 7, 8, 10, 11, 12, 13, 9.
+ */
+#ifndef MASKS_H
+#define MASKS_H
+
+#include <stddef.h>
+#include <stdint.h>
+
+#ifdef __cplusplus
+extern "C" {
+#endif
+
+struct masks_answer {
+    uint8_t number;
+    uint32_t place;
+    uint32_t value;
+};
+
+struct masks_sizes {
+    uint8_t number;
+    uint32_t place;
+    uint32_t shares; /* n = 2t + 1 */
+    uint32_t wires;  /* of the masked table */
+    uint32_t tape;   /* bits: the encoder's and the random gates' */
+    uint32_t bytes;  /* of the masked table */
+};
+
+struct masks_marks {
+    uint8_t number;
+    uint32_t place;
+    uint8_t first;  /* share numbers, ascending */
+    uint8_t second; /* 0 where there is only one */
+};
+
+/* Checks a gate table. Value: its wires. Refusals 1 to 5. Stack: under 1 KiB. */
+struct masks_answer masks_check(const uint8_t *table, size_t table_len);
+
+/* The sizes of the table that masking writes. Refusals 1 to 8. Stack: under 1 KiB. */
+struct masks_sizes masks_forecast(const uint8_t *table, size_t table_len, uint8_t order);
+
+/* Masks a plain table at an order. Value: the bytes written to out. Refusals 1 to 9. Stack: under 400 KiB. */
+struct masks_answer masks_mask(const uint8_t *table, size_t table_len, uint8_t order, uint8_t *out, size_t out_len);
+
+/* Encodes secret bits into 2t + 1 share bits each, with 2t tape bits each. Value: the bits written to out. Refusals 6, 8, 10,
+ * 11, 9. Stack: under 1 KiB. */
+struct masks_answer masks_encode(uint8_t order, const uint8_t *secrets, size_t secrets_len, const uint8_t *tape,
+                                 size_t tape_len, uint8_t *out, size_t out_len);
+
+/* Decodes share bits, 2t + 1 to a bit. Value: the bits written to out. Refusals 6, 8, 10, 11, 9. Stack: under 1 KiB. */
+struct masks_answer masks_decode(uint8_t order, const uint8_t *shares, size_t shares_len, uint8_t *out, size_t out_len);
+
+/* Runs any gate table on its inputs and one bit for each random gate. Writes a value for each wire and each output. Value: the
+ * wires. Refusals 1 to 5, 10, 11, 9. Stack: under 1 KiB. */
+struct masks_answer masks_run(const uint8_t *table, size_t table_len, const uint8_t *inputs, size_t inputs_len,
+                              const uint8_t *random, size_t random_len, uint8_t *values, size_t values_len,
+                              uint8_t *outputs, size_t outputs_len);
+
+/* The share numbers that a wire of the masked table carries. Refusals 1 to 8, 13. Stack: under 1 KiB. */
+struct masks_marks masks_marks_of(const uint8_t *table, size_t table_len, uint8_t order, uint32_t wire);
+
+#ifdef __cplusplus
+}
+#endif
+
+#endif
