@@ -4,4 +4,3 @@ pub mod Flipping
 pub mod Seeing
 pub mod Faults
 pub mod Working
-pub mod Mapping
