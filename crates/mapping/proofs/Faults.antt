@@ -3,7 +3,7 @@
 use mathlib.Core.Path.{_≡_, refl, sym, ap, ap₂, subst, _∙_}
 use mathlib.Core.Bool.{Bool, true, false, _&&_, _||_, not}
 use mathlib.Core.List.{List, [], _∷_, _++_}
-use Prim.Native.Nat.{ℕ, zero, suc, _+_, _≤_, _<_}
+use Prim.Native.Nat.{ℕ, zero, suc, _+_, _*_, _≤_, _<_}
 use native.Mathlib.Nat.{zero-add}
 use native.Mathlib.Omega.{arith}
 use lib.Dec.{eqb, ltb}
@@ -30,12 +30,13 @@ use Rattle.tables.proofs.Answers.{
   clean-bits,
 }
 use Rattle.running.proofs.RunFault.{or-else-assoc}
+use Rattle.masks.specs.Shares.{sharesOf}
 use Rattle.masks.specs.Gadgets.{isw}
 use Rattle.masks.specs.Wires.{maskedTable, tapeLong}
 use Rattle.masks.specs.Says.{plainFault}
 use Rattle.sizing.specs.declared.Plan as DP
 use Rattle.sizing.specs.Plans.{PlanRefused, PlanReady}
-use Rattle.sizing.proofs.Planning.{plain-none}
+use Rattle.sizing.proofs.Planning.{plain-none, plan-fits}
 use Rattle.maps.specs.Says.{badProbe, mapFault}
 use Rattle.mapping.specs.Seeing.{Probes}
 use Rattle.mapping.specs.Faults.{
@@ -149,6 +150,21 @@ module _ (p : DP.Plan) (a b c : ℕ) where
       pub room-enough : p .wires ≤ c → roomFault p a b c ≡ none
       unfolding roomFault
       room-enough h = rw (le-ltb a (p .tape) k, le-ltb b (p .wires) l, le-ltb c (p .wires) h)
+
+-- 10 and 11, then 12 and 13, then 9
+pub call-chain :
+    (o : ℕ) (p : DP.Plan) (xs ys ts ps : List ℕ) (a b c : ℕ)
+    → callFault o p xs ys ts ps a b c
+    ≡ orElse (supplyFault p xs ys ts) (orElse (probesFault o (p .wires) ps) (roomFault p a b c))
+unfolding callFault
+call-chain o p xs ys ts ps a b c = refl
+
+-- the inputs and the tape bits of a plan are few
+pub plan-small : {s : List ℕ} {o : ℕ} {p : DP.Plan} → PlanReady s o p → (p .inputs ≤ 65535) × (p .tape ≤ 65535)
+plan-small {s} {o} {p} R =
+    let fits = plan-fits R in
+    let e : p .shares * p .inputs ≡ sharesOf o * p .inputs = rw (R .shares) in
+    (omega arith, omega arith)
 
 bits-front : (xs ys : List ℕ) → Bits (xs ++ ys) → Bits xs
 bits-front xs ys h = subst (λ (l : List ℕ). Bits l) (take-append-seam xs ys) (bits-take (length xs) (xs ++ ys) h)

@@ -3,3 +3,4 @@ pub mod Walking
 pub mod Flipping
 pub mod Seeing
 pub mod Faults
+pub mod Working

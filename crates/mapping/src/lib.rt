@@ -1,5 +1,5 @@
 ghost use mathlib.Core.Path.{_≡_};
-ghost use Prim.Native.Nat.{ℕ, _+_, _*_, _≤_, _<_};
+ghost use Prim.Native.Nat.{ℕ, _+_, _-_, _*_, _≤_, _<_};
 ghost use lib.ListN.{length, getD, take, drop};
 ghost use mathlib.Core.List.{List};
 ghost use Rattle.tables.specs.Tables.{kindOf, tableOf};
@@ -8,16 +8,17 @@ ghost use Rattle.tables.specs.Refusals.{pick, fault, badBit};
 ghost use Rattle.tables.specs.Runs.{xor};
 ghost use Rattle.tables.specs.Says.{over, putAt, Refused};
 ghost use Rattle.tables.proofs.Lists.{Bits};
-ghost use Rattle.masks.specs.Shares.{upFrom};
+ghost use Rattle.masks.specs.Shares.{upFrom, tri};
 ghost use Rattle.masks.specs.Gadgets.{isw};
 ghost use Rattle.masks.specs.Wires.{marks, origins};
-ghost use Rattle.sizing.specs.Plans.{PlanReady};
+ghost use Rattle.sizing.specs.Plans.{PlanReady, PlanFits, planBytes};
 ghost use Rattle.marking.specs.Origins.{orderOf};
 ghost use Rattle.maps.specs.Maps.{flipped, inputFlips, carried, freeFrom, freeShare};
 ghost use Rattle.mapping.specs.Faults.{supplyFault, probesFault, roomFault, callFault, MapPlanSays};
+ghost use Rattle.mapping.specs.Working.{BeginReady, BegunSays, WorkReady, WorkSays};
 ghost use Rattle.mapping.specs.Seeing.{Seen, Probes, MarkReady};
 ghost use Rattle.mapping.specs.Flipping.{FlipReady};
-ghost use Rattle.maps.specs.Walk.{inRow, gateDiffers, afterGate};
+ghost use Rattle.maps.specs.Walk.{offset, inRow, gateDiffers, afterGate};
 ghost use Rattle.mapping.specs.Walking.{
   gateOf,
   ProductReady,
@@ -334,4 +335,138 @@ fn room_fault(p: sizing::Plan, mapped: usize, one: usize, other: usize) -> table
         return refused(9, 0);
     }
     refused(0, 0)
+}
+
+// The refusals that follow those of the plan: 10 to 13, then 9.
+fn call_fault(
+    p: sizing::Plan,
+    order: u8,
+    first: &[u8],
+    second: &[u8],
+    tape: &[u8],
+    probes: &[u32],
+    mapped: usize,
+    one: usize,
+    other: usize,
+) -> tables::Refusal
+    requires { ⌜ (p .inputs ≤ 65535) × (p .tape ≤ 65535) ⌝ }
+    ensures { λ r. ⌜ Refused
+        (callFault order p (now (first .entry)) (now (second .entry)) (now (tape .entry)) (now (probes .entry)) mapped one other)
+        r ⌝ }
+{
+    let found = supply_fault(p, first, second, tape);
+    if found.number != 0 {
+        return found;
+    }
+    let found = probes_fault(order, p.wires, probes);
+    if found.number != 0 {
+        return found;
+    }
+    room_fault(p, mapped, one, other)
+}
+
+// Whether mapping is refused: the first refusal, or the sizes.
+fn map_fault(
+    table: &[u8],
+    order: u8,
+    first: &[u8],
+    second: &[u8],
+    tape: &[u8],
+    probes: &[u32],
+    mapped: usize,
+    one: usize,
+    other: usize,
+) -> sizing::Planned
+    ensures { λ r. ⌜ MapPlanSays (now (table .entry)) order
+        (now (first .entry))
+        (now (second .entry))
+        (now (tape .entry))
+        (now (probes .entry))
+        mapped
+        one
+        other
+        r ⌝ }
+{
+    let planned = sizing::plan_table(table, order);
+    match planned {
+        sizing::Planned::Refused(r) => sizing::Planned::Refused(r),
+        sizing::Planned::Ready(p) => {
+            let found = call_fault(p, order, first, second, tape, probes, mapped, one, other);
+            if found.number != 0 {
+                return sizing::Planned::Refused(found);
+            }
+            sizing::Planned::Ready(p)
+        }
+    }
+}
+
+// How many pairs of n shares come before those whose lower share is d, counted from 0.
+fn row_start(n: usize, d: usize) -> usize
+    requires { ⌜ (d ≤ n) × (n ≤ 31) ⌝ }
+    ensures { λ r. ⌜ r ≡ offset n d ⌝ }
+{
+    (2 * (n * d) - d * d - d) / 2
+}
+
+// Begins both runs: the encoding of the first secret with the tape, the front of the mapped tape, and with it the encoding of
+// the second secret.
+fn begin_runs(
+    order: usize,
+    k: usize,
+    first: &[u8],
+    second: &[u8],
+    tape: &[u8],
+    mapped: &mut [u8],
+    one: &mut [u8],
+    other: &mut [u8],
+)
+    requires { ⌜ BeginReady order (now first) (now second) (now tape) (now mapped) (now one) (now other) ⌝ }
+    ensures { λ _. ⌜ BegunSays order k (now (first .entry)) (now (second .entry)) (now (tape .entry))
+        (now (mapped .entry))
+        (now (mapped .exit))
+        (now (one .entry))
+        (now (one .exit))
+        (now (other .entry))
+        (now (other .exit)) ⌝ }
+{
+    let bits = tape.len();
+    encoding::encode_all(order, first, tape, one);
+    flip_inputs(order, k, first, second, tape, mapped);
+    encoding::encode_all(order, second, &mapped[..bits], other);
+}
+
+// Walks over the masked table of a plan, where k is the free share.
+fn walk_plan(
+    masked: &[u8],
+    p: sizing::Plan,
+    k: usize,
+    random: &[u8],
+    mapped: &mut [u8],
+    one: &mut [u8],
+    other: &mut [u8],
+)
+    requires { ⌜ WalkReady (now masked) (now random) (now mapped) (now one) (now other)
+        (p .shares * p .inputs)
+        (p .wires - p .shares * p .inputs)
+        × PlanFits p
+        × (1 ≤ k)
+        × (k ≤ p .shares) ⌝ }
+    ensures { λ _. ⌜ WalkSays (now (masked .entry)) (now (random .entry))
+        (p .shares * p .inputs)
+        (offset (p .shares) (k - 1))
+        (offset (p .shares) k)
+        (tri (p .shares))
+        (now (mapped .entry))
+        (now (mapped .exit))
+        (now (one .entry))
+        (now (one .exit))
+        (now (other .entry))
+        (now (other .exit)) ⌝ }
+{
+    let n = p.shares;
+    let inputs = n * p.inputs;
+    let from = row_start(n, k - 1);
+    let to = row_start(n, k);
+    let pairs = sizing::pair_count(n);
+    walk(masked, inputs, p.wires - inputs, from, to, pairs, random, mapped, one, other);
 }

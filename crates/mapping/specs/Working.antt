@@ -1,0 +1,51 @@
+-- What the work of mapping takes and leaves, once nothing is refused (document 01, "Marks and the mapped tape"): both runs are
+-- begun with the encodings, the front of the mapped tape is put, and the walk does the rest.
+-- Assumes nothing.
+use mathlib.Core.Path.{_≡_}
+use mathlib.Core.List.{List}
+use Prim.Native.Nat.{ℕ, _*_, _≤_}
+use lib.ListN.{length}
+use Rattle.tables.specs.Tables.{tableOf}
+use Rattle.tables.specs.Says.{over}
+use Rattle.tables.proofs.Lists.{Bits}
+use Rattle.masks.specs.Shares.{sharesOf}
+use Rattle.masks.specs.Gadgets.{isw}
+use Rattle.masks.specs.Codes.{encode, maskedRun}
+use Rattle.sizing.specs.declared.Plan as DP
+use Rattle.sizing.specs.Plans.{PlanReady}
+use Rattle.marking.specs.Origins.{orderOf}
+use Rattle.maps.specs.Maps.{flipped, inputFlips, mappedAt}
+use Rattle.mapping.specs.Flipping.{FlipReady}
+
+-- both encodings and the front of the mapped tape have room
+pub record BeginReady (o : ℕ) (xs ys ts m a b : List ℕ) : Type 0 where
+  pub flip : FlipReady o xs ys ts m
+  pub one : sharesOf o * length xs ≤ length a
+  pub other : sharesOf o * length xs ≤ length b
+
+-- the front of the mapped tape, and both encodings, the second with that front
+pub record BegunSays (o k : ℕ) (xs ys ts m m′ a a′ b b′ : List ℕ) : Type 0 where
+  pub mapped : m′ ≡ over (flipped ts (inputFlips o k xs ys)) m
+  pub one : a′ ≡ over (encode o xs ts) a
+  pub other : b′ ≡ over (encode o ys (flipped ts (inputFlips o k xs ys))) b
+
+-- a plan, a share number k, both secrets, a tape, and room for the mapped tape and both runs
+pub record WorkReady (s : List ℕ) (p : DP.Plan) (k : ℕ) (xs ys ts m a b : List ℕ) : Type 0 where
+  pub plan : PlanReady s (orderOf p) p
+  pub from-1 : 1 ≤ k
+  pub to-n : k ≤ p .shares
+  pub first : length xs ≡ p .inputs
+  pub second : length ys ≡ p .inputs
+  pub tape : length ts ≡ p .tape
+  pub first-bits : Bits xs
+  pub second-bits : Bits ys
+  pub tape-bits : Bits ts
+  pub mapped : p .tape ≤ length m
+  pub one : p .wires ≤ length a
+  pub other : p .wires ≤ length b
+
+-- the mapped tape and both runs
+pub record WorkSays (s : List ℕ) (o k : ℕ) (xs ys ts m m′ a a′ b b′ : List ℕ) : Type 0 where
+  pub mapped : m′ ≡ over (mappedAt isw o (tableOf s) k xs ys ts) m
+  pub one : a′ ≡ over (maskedRun isw o (tableOf s) xs ts) a
+  pub other : b′ ≡ over (maskedRun isw o (tableOf s) ys (mappedAt isw o (tableOf s) k xs ys ts)) b
