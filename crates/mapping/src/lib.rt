@@ -468,5 +468,16 @@ fn walk_plan(
     let from = row_start(n, k - 1);
     let to = row_start(n, k);
     let pairs = sizing::pair_count(n);
-    walk(masked, inputs, p.wires - inputs, from, to, pairs, random, mapped, one, other);
+    walk(
+        masked,
+        inputs,
+        p.wires - inputs,
+        from,
+        to,
+        pairs,
+        random,
+        mapped,
+        one,
+        other,
+    );
 }
