@@ -355,15 +355,10 @@ fn call_fault(
         (callFault order p (now (first .entry)) (now (second .entry)) (now (tape .entry)) (now (probes .entry)) mapped one other)
         r ⌝ }
 {
-    let found = supply_fault(p, first, second, tape);
-    if found.number != 0 {
-        return found;
-    }
-    let found = probes_fault(order, p.wires, probes);
-    if found.number != 0 {
-        return found;
-    }
-    room_fault(p, mapped, one, other)
+    let supplied = supply_fault(p, first, second, tape);
+    let probed = probes_fault(order, p.wires, probes);
+    let room = room_fault(p, mapped, one, other);
+    sizing::first_of(supplied, sizing::first_of(probed, room))
 }
 
 // Whether mapping is refused: the first refusal, or the sizes.

@@ -127,7 +127,7 @@ fn order_fault(order: u8) -> tables::Refusal
 }
 
 // Of two checks in their order, the first that refuses.
-fn first_of(a: tables::Refusal, b: tables::Refusal) -> tables::Refusal
+pub fn first_of(a: tables::Refusal, b: tables::Refusal) -> tables::Refusal
     ensures { λ r. ⌜ ((f g : Fault) → Refused f a → Refused g b → Refused (orElse f g) r) ⌝ }
 {
     if a.number != 0 {
