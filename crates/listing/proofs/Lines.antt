@@ -276,16 +276,16 @@ unfolding listed
 list-done {s} {b} {out} {r} h good P = list-put s b out r h (rw good P)
 
 -- what is written lies within the lent bytes
-pub list-fits : {s b b′ : List ℕ} {r : ℕ} → ListSays s b b′ r → length b′ ≡ length b → r ≤ length b
+pub list-fits : {s b b′ : List ℕ} {r : ℕ} → ListSays s b b′ r → length b′ ≡ length b → r ≤ length b′
 list-fits {s} {b} {b′} {r} L same = go (ltb (length b) listRoom) refl
   where
-    go : (t : Bool) → ltb (length b) listRoom ≡ t → r ≤ length b
+    go : (t : Bool) → ltb (length b) listRoom ≡ t → r ≤ length b′
     go true e = let none : r ≡ 0 = rw e at (L .length-is) in omega arith
     go false e =
         let all : r ≡ length (listed s) = rw e at (L .length-is) in
         let put : b′ ≡ over (listed s) b = rw e at (L .bytes) in
-        let long : length b ≡ length (over (listed s) b) = sym same ∙ ap length put in
-        omega (arith, long, length-append (listed s) (drop (length (listed s)) b), length-drop (length (listed s)) b)
+        let long : length b′ ≡ length (over (listed s) b) = ap length put in
+        omega (arith, long, same, length-append (listed s) (drop (length (listed s)) b), length-drop (length (listed s)) b)
 
 pub table-passed :
     (s : List ℕ) {f : DR.Refusal} → Refused (tableFault s) f → f .number ≡ 0 → passed (tableFault s) ≡ true

@@ -45,16 +45,17 @@ input-part s {b} {b′} {r} h M =
     input-mask s h (subst (λ (t : List ℕ). MaskSays t (getD s 0 0) b b′ r) all M)
 
 -- what is written lies within the lent bytes
-pub input-fits : {s b b′ : List ℕ} {r : DA.Answer} → InputSays s b b′ r → r .value ≤ length b
+pub input-fits :
+    {s b b′ : List ℕ} {r : DA.Answer} → InputSays s b b′ r → length b′ ≡ length b → r .value ≤ length b′
 unfolding inputFault maskFault
-input-fits {s} {b} {b′} {r} I = go (passed (inputFault s (length b))) refl
+input-fits {s} {b} {b′} {r} I same = go (passed (inputFault s (length b))) refl
   where
-    go : (t : Bool) → passed (inputFault s (length b)) ≡ t → r .value ≤ length b
+    go : (t : Bool) → passed (inputFault s (length b)) ≡ t → r .value ≤ length b′
     go true e =
         let value : r .value ≡ length (inputBytes s) = rw e at (I .answer .value) in
         let room = refusedIf (ltb (length b) (length (inputBytes s))) 9 in
         let masks = both-passed (refusedIf (ltb 458747 (length s)) 9) (maskFault (drop 1 s) (getD s 0 0) (length b)) e .1 in
         let last = both-passed (plainFault (drop 1 s) (getD s 0 0)) room masks .1 in
         let short = not-refused (ltb (length b) (length (inputBytes s))) 9 refl last in
-        omega (arith, value, ltb-false (length b) (length (inputBytes s)) short)
+        omega (arith, value, same, ltb-false (length b) (length (inputBytes s)) short)
     go false e = let value : r .value ≡ 0 = rw e at (I .answer .value) in omega arith
