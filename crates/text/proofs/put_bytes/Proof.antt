@@ -1,12 +1,12 @@
--- `masks::put_bytes` meets its contract: so many bytes are put.
+-- `text::put_bytes` meets its contract: so many bytes are put.
 -- Assumes nothing.
 use borrow.Author.Needs.{needs}
 use Prim.Native.Nat.{_-_}
 use native.Mathlib.Omega.{arith}
 use lib.ListN.{length}
-use Rattle.sizing.proofs.Writing.{Putting, putting-start, putting-long, putting-turn, putting-end}
-use Rattle.sizing.proofs.put_bytes.Statement.{statement}
-use Rattle.sizing.proofs.put_bytes.Tie as tie
+use Rattle.text.proofs.Writing.{Putting, putting-start, putting-long, putting-turn, putting-end}
+use Rattle.text.proofs.put_bytes.Statement.{statement}
+use Rattle.text.proofs.put_bytes.Tie as tie
 
 abbrev Inv-loop : tie.InvT-loop
 Inv-loop out₀ at src i₀ out i = Putting at src out₀ out i

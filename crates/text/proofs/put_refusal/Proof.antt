@@ -1,9 +1,9 @@
--- `masks::put_refusal` meets its contract: the word and two numbers.
+-- `text::put_refusal` meets its contract: the word and two numbers.
 -- Assumes nothing.
 use borrow.Author.Needs.{needs}
-use Rattle.sizing.proofs.Writing.{puts-refusal}
-use Rattle.sizing.proofs.put_refusal.Statement.{statement}
-use Rattle.sizing.proofs.put_refusal.Tie as tie
+use Rattle.text.proofs.Writing.{puts-refusal}
+use Rattle.text.proofs.put_refusal.Statement.{statement}
+use Rattle.text.proofs.put_refusal.Tie as tie
 
 slice-aggregate-put-bytes : tie.Need-slice-aggregate-put-bytes
 slice-aggregate-put-bytes c = search needs

@@ -1,10 +1,10 @@
--- `masks::spell` meets its contract: the digits of the rest are left, for the places up to i.
+-- `text::spell` meets its contract: the digits of the rest are left, for the places up to i.
 -- Assumes nothing.
 use borrow.Author.Needs.{needs}
 use mathlib.Core.Path.{sym, _∙_}
-use Rattle.sizing.proofs.Writing.{Spelling, spelling-start, spelling-place, spelling-turn, spelling-end}
-use Rattle.sizing.proofs.spell.Statement.{statement}
-use Rattle.sizing.proofs.spell.Tie as tie
+use Rattle.text.proofs.Writing.{Spelling, spelling-start, spelling-place, spelling-turn, spelling-end}
+use Rattle.text.proofs.spell.Statement.{statement}
+use Rattle.text.proofs.spell.Tie as tie
 
 abbrev Inv-loop : tie.InvT-loop
 Inv-loop digits₀ v rest₀ i₀ digits rest i = Spelling v digits rest i

@@ -1,4 +1,4 @@
--- Writing the forecast line: digits from the lowest, bytes one by one, and pieces one after the other.
+-- Putting text: digits from the lowest, bytes one by one, pieces one after the other, and how long they are.
 -- Assumes nothing.
 use mathlib.Core.Path.{_≡_, refl, sym, ap, _∙_, subst}
 use mathlib.Core.Bool.{Bool, true, false}
@@ -7,13 +7,13 @@ use Prim.Native.Nat.{ℕ, zero, suc, _+_, _-_, _*_, _/_, _%_, _^_, _≤_, _<_}
 use native.Mathlib.Nat.{pow-succ', add-assoc}
 use native.Mathlib.Numerals.{add-one}
 use native.Mathlib.Omega.{arith}
-use borrow.Author.Tests.{lt-ltb, le-ltb}
+use borrow.Author.Tests.{lt-ltb, le-ltb, ltb-false}
 use lib.Dec.{ltb}
 use lib.ListN.{length, getD, take, drop, set, length-append, length-set, length-drop}
 use lib.Seq.{drop-cons, drop-set-lt, getD-set-same, take-suc, take-all, take-length, drop-length, length-take-le}
 use Rattle.tables.specs.Says.{putAt, over}
 use Rattle.tables.proofs.Put.{put-length, put-zero, put-nil, put-set, put-append}
-use Rattle.masks.specs.Lines.{digits, decimal, refusedWord, lineOf, Spelled, Puts}
+use Rattle.text.specs.Text.{digits, decimal, refusedWord, lineOf, refusalLine, Spelled, Puts}
 
 pub digits-long : (c v : ℕ) → length (digits c v) ≤ c
 unfolding digits
@@ -23,6 +23,21 @@ digits-long (suc c) v = go (ltb v 10) refl (digits-long c (v / 10))
     go : (t : Bool) → ltb v 10 ≡ t → length (digits c (v / 10)) ≤ c → length (digits (suc c) v) ≤ suc c
     go true e h = rw (e, digits) (omega arith)
     go false e h = rw (e, digits) (omega (arith, h, length-append (digits c (v / 10)) ((48 + v % 10) ∷ [])))
+
+-- a number below a power of ten has no more digits than that power
+pub digits-few : (c k v : ℕ) → v < 10 ^ suc k → length (digits c v) ≤ suc k
+unfolding digits
+digits-few zero k v h = omega arith
+digits-few (suc c) zero v h = go (ltb v 10) refl
+  where
+    go : (t : Bool) → ltb v 10 ≡ t → length (digits (suc c) v) ≤ 1
+    go true e = rw (e, digits) (omega arith)
+    go false e = absurd (omega (arith, h, ltb-false v 10 e))
+digits-few (suc c) (suc k) v h = go (ltb v 10) refl (digits-few c k (v / 10) (omega (arith, h, pow-succ' 10 (suc k))))
+  where
+    go : (t : Bool) → ltb v 10 ≡ t → length (digits c (v / 10)) ≤ suc k → length (digits (suc c) v) ≤ suc (suc k)
+    go true e i = rw (e, digits) (omega arith)
+    go false e i = rw (e, digits) (omega (arith, i, length-append (digits c (v / 10)) ((48 + v % 10) ∷ [])))
 
 pub digits-more : (c v : ℕ) → 9 < v → digits (suc c) v ≡ digits c (v / 10) ++ ((48 + v % 10) ∷ [])
 unfolding digits
@@ -182,19 +197,28 @@ puts-two x y h room P Q = puts-line (decimal x) (decimal y) [] (omega arith) (P 
 pub puts-refusal :
     {k m r : ℕ} {b c d e : List ℕ} (x y : ℕ) → 64 ≤ length b
     → Puts 0 (refusedWord ++ (32 ∷ [])) b c k → PutsNumber k x 32 c d m → PutsNumber m y 10 d e r
-    → Puts 0 (lineOf refusedWord (decimal x ∷ decimal y ∷ [])) b e r
+    → Puts 0 (refusalLine x y) b e r
 puts-refusal {k = k} x y room P Q R =
     let start : k ≡ 8 = P .next in
     puts-line refusedWord (decimal x) (decimal y ∷ []) (omega arith) P
     (puts-two x y (omega arith) (omega (arith, puts-long (omega arith) P)) Q R)
 
-pub puts-figures :
-    {k m r q : ℕ} {b c d e f : List ℕ} (x y z w : ℕ) → 64 ≤ length b
-    → PutsNumber 0 x 32 b c k → PutsNumber k y 32 c d m → PutsNumber m z 32 d e r → PutsNumber r w 10 e f q
-    → Puts 0 (lineOf (decimal x) (decimal y ∷ decimal z ∷ decimal w ∷ [])) b f q
-puts-figures {c = c} {d = d} x y z w room P Q R S =
-    let second : 64 ≤ length c = omega (arith, puts-long (omega arith) (P .0)) in
-    let third : 64 ≤ length d = omega (arith, puts-long (omega arith) (Q .0)) in
-    puts-line (decimal x) (decimal y) (decimal z ∷ decimal w ∷ []) (omega arith) (P .0)
-    (puts-line (decimal y) (decimal z) (decimal w ∷ []) (omega arith) (Q .0)
-    (puts-two z w (omega arith) third R S))
+-- how long a line is
+pub line-more : (w x : List ℕ) (xs : List (List ℕ)) → length (lineOf w (x ∷ xs)) ≡ length w + 1 + length (lineOf x xs)
+unfolding lineOf
+line-more w x xs = omega (arith, length-append w (32 ∷ lineOf x xs))
+
+pub line-last : (w : List ℕ) → length (lineOf w []) ≡ length w + 1
+unfolding lineOf
+line-last w = omega (arith, length-append w (10 ∷ []))
+
+pub refusal-long : (n p : ℕ) → length (refusalLine n p) ≤ 30
+refusal-long n p =
+    omega (
+      arith,
+      line-more refusedWord (decimal n) (decimal p ∷ []),
+      line-more (decimal n) (decimal p) [],
+      line-last (decimal p),
+      digits-long 10 n,
+      digits-long 10 p,
+    )

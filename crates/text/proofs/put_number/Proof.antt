@@ -1,9 +1,9 @@
--- `masks::put_number` meets its contract: the digits, then the byte that ends them.
+-- `text::put_number` meets its contract: the digits, then the byte that ends them.
 -- Assumes nothing.
-use Rattle.sizing.proofs.Writing.{puts-number}
+use Rattle.text.proofs.Writing.{puts-number}
 use borrow.Author.Needs.{needs}
-use Rattle.sizing.proofs.put_number.Statement.{statement}
-use Rattle.sizing.proofs.put_number.Tie as tie
+use Rattle.text.proofs.put_number.Statement.{statement}
+use Rattle.text.proofs.put_number.Tie as tie
 
 slice-aggregate-spell : tie.Need-slice-aggregate-spell
 slice-aggregate-spell c = search needs

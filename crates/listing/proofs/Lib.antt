@@ -1,0 +1,3 @@
+-- Laws that the proofs of listing cite.
+pub mod Pieces
+pub mod Lines
