@@ -1,11 +1,12 @@
 -- Checking a table, step by step: what each test that the code makes says of the definition's chain of refusals.
 -- Assumes nothing.
-use mathlib.Core.Path.{_≡_, refl, ap, _∙_}
+use mathlib.Core.Path.{_≡_, refl, ap, _∙_, subst}
 use mathlib.Core.Bool.{Bool, true, false, _&&_, _||_}
 use mathlib.Core.List.{List}
-use Prim.Native.Nat.{ℕ, zero, suc, _+_, _*_, _≤_, _<_}
+use Prim.Native.Nat.{ℕ, zero, suc, _+_, _*_, _/_, _≤_, _<_}
 use native.Mathlib.Nat.{add-zero, add-suc}
 use native.Mathlib.Omega.{arith}
+use lib.Bits.{bitOr}
 use lib.Dec.{eqb, ltb}
 use lib.ListN.{length, getD, drop}
 use borrow.Author.Tests.{lt-ltb, le-ltb, eq-eqb, ne-eqb}
@@ -37,6 +38,7 @@ use Rattle.tables.specs.Says.{Refused, leftLimit, rightLimit, SizesSay}
 use Rattle.tables.proofs.Tests.{first-passed, first-refused}
 use Rattle.tables.proofs.Answers.{refused-passed, refused-fails}
 use Rattle.tables.proofs.Accept.{sizes-good}
+use Rattle.tables.proofs.Bad.{or-covers}
 use Rattle.tables.proofs.Loops.{
   gatesAt,
   gateAt,
@@ -129,6 +131,38 @@ number-good k l r w h d e i =
       lt-ltb r (rightLimit (kindOf k) w) e,
     )
 
+-- a gate's flaws: an operand that is not before w, one that is unused and not 0, a kind above 3
+pub unused-not : (k l r : ℕ) → k ≡ 0 → r ≡ 0 → (w : ℕ) → l < w → r < w → (l < leftLimit (kindOf k) w) × (r < rightLimit (kindOf k) w)
+unused-not k l r e z w h j = rw e (h, omega arith)
+
+pub unused-random :
+    (k l r : ℕ) → k ≡ 3 → bitOr l r ≡ 0 → (w : ℕ) → l < w → r < w
+    → (l < leftLimit (kindOf k) w) × (r < rightLimit (kindOf k) w)
+unused-random k l r e z w h j =
+    let both = or-covers l r 0 (omega (arith, z)) in
+    rw e (omega (arith, both .0), omega (arith, both .1))
+
+pub unused-none :
+    (k l r : ℕ) → (k ≡ 0 → ⊥) → (k ≡ 3 → ⊥) → (w : ℕ) → l < w → r < w
+    → (l < leftLimit (kindOf k) w) × (r < rightLimit (kindOf k) w)
+unused-none k l r e f w h j =
+    let limit = left-used k w f in (
+      subst (λ (x : ℕ). l < x) limit h,
+      subst (λ (x : ℕ). r < x) (limit ∙ right-as-left k w e) j,
+    )
+
+pub flaws-none :
+    (k l r w a b c d : ℕ) → bitOr (bitOr (bitOr a b) c) d ≡ 0 → (a ≡ 0 → l < w) → (b ≡ 0 → r < w)
+    → (c ≡ 0 → (w : ℕ) → l < w → r < w → (l < leftLimit (kindOf k) w) × (r < rightLimit (kindOf k) w))
+    → d ≡ k / 4 → (i : ℕ) → gateFault i w (gate (kindOf k) l r) ≡ none
+flaws-none k l r w a b c d z left right unused kind i =
+    let last = or-covers (bitOr (bitOr a b) c) d 0 (omega (arith, z)) in
+    let third = or-covers (bitOr a b) c 0 (last .0) in
+    let first = or-covers a b 0 (third .0) in
+    let limits =
+    unused (omega (arith, third .1)) w (left (omega (arith, first .0))) (right (omega (arith, first .1))) in
+    number-good k l r w (omega (arith, kind, last .1)) (limits .0) (limits .1) i
+
 numbered-some : (n i : ℕ) → (n ≡ 0 → ⊥) → numbered n i ≡ fault n i
 numbered-some n i h = rw (ne-eqb n 0 h)
 
@@ -176,6 +210,36 @@ pub gates-good-end :
     → gatesFault 0 w (gatesFrom n (drop 6 s) (drop (6 + n) s)) ≡ none
 unfolding gatesFault
 gates-good-end {s} {w} {n} {g} good e = good .others ∙ rw (e, gates-at-end s n)
+
+-- the `or` of what is wrong with the gates before g is flaws: where it is 0, they are good; v is the wire of gate g
+pub record Flawless (s : List ℕ) (w n flaws v g : ℕ) : Type 0 where
+  pub within : g ≤ n
+  pub wire : v ≡ w + g
+  pub good : flaws ≡ 0 → GatesGood s w n g
+
+pub flawless-start : (s : List ℕ) (w n : ℕ) → Flawless s w n 0 w 0
+flawless-start s w n = record { within = omega arith; wire = omega arith; good = λ _. gates-good-start s w n }
+
+pub flawless-step :
+    {s : List ℕ} {w n flaws v g l r : ℕ} (here : ℕ) → Flawless s w n flaws v g → g < n
+    → l ≡ word s (6 + n + 4 * g) → r ≡ word s (8 + n + 4 * g)
+    → (here ≡ 0 → (i : ℕ) → gateFault i v (gate (kindOf (getD s (6 + g) 0)) l r) ≡ none)
+    → Flawless s w n (bitOr flaws here) (suc v) (suc g)
+flawless-step {s} {w} {n} {flaws} {v} {g} {l} {r} here F h left right says = record {
+  within = omega arith;
+  wire = omega (arith, F .wire);
+  good = λ z.
+      let both = or-covers flaws here 0 (omega (arith, z)) in
+      let fine = says (omega (arith, both .1)) in
+      let wired : (i : ℕ) → gateFault i (w + g) (gate (kindOf (getD s (6 + g) 0)) l r) ≡ none =
+      λ i. subst (λ (x : ℕ). gateFault i x (gate (kindOf (getD s (6 + g) 0)) l r) ≡ none) (F .wire) (fine i) in
+      gates-good-step 0 (F .good (omega (arith, both .0))) (λ e. omega arith) left right wired refl;
+}
+
+pub flawless-end :
+    {s : List ℕ} {w n flaws v g : ℕ} → Flawless s w n flaws v g → n ≤ g → flaws ≡ 0
+    → gatesFault 0 w (gatesFrom n (drop 6 s) (drop (6 + n) s)) ≡ none
+flawless-end F h z = gates-good-end (F .good z) (omega (arith, F .within))
 
 -- the outputs before o are wires: the others answer
 pub record OutputsGood (s : List ℕ) (start n w o : ℕ) : Type 0 where

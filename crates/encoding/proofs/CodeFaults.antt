@@ -7,34 +7,23 @@ use Prim.Native.Nat.{ℕ, suc, _+_, _*_, _/_, _%_, _≤_, _<_}
 use native.Mathlib.Nat.{zero-add, mul-le-mul}
 use native.Mathlib.Numerals.{add-one}
 use native.Mathlib.Omega.{arith}
-use borrow.Author.Tests.{leb-true, ltb-false, eqb-true, not-false, lt-ltb, le-ltb, le-leb, lt-leb, eq-eqb, ne-eqb}
+use borrow.Author.Tests.{leb-true, ltb-false, eqb-true, not-false, lt-ltb, le-ltb, eq-eqb, ne-eqb}
 use lib.Dec.{leb, ltb, eqb}
 use lib.ListN.{length}
 use Rattle.tables.specs.declared.Refusal as DR
 use Rattle.tables.specs.Refusals.{fault, none, passed, orElse, refusedIf, badBit}
 use Rattle.tables.specs.Says.{FirstBad, Refused}
 use Rattle.tables.proofs.Lists.{Bits}
-use Rattle.tables.proofs.Tests.{and-true, both-passed, first-refused, not-refused}
+use Rattle.tables.proofs.Tests.{both-passed, first-refused, not-refused}
 use Rattle.tables.proofs.Accept.{pick-passed}
+use Rattle.tables.proofs.Answers.{refused-passed, refused-fails}
 use Rattle.tables.proofs.Bad.{bad-append, bad-bits}
 use Rattle.masks.specs.Shares.{sharesOf}
 use Rattle.masks.specs.Says.{orderOk, orderFault, encodeFault, decodeFault}
-use Rattle.encoding.proofs.Answers.{refused-passed, refused-failed}
-
-pub order-low : (o : ℕ) → o < 1 → orderFault o ≡ fault 6 0
-order-low o h = rw (lt-leb 1 o h)
-
-pub order-high : (o : ℕ) → 15 < o → orderFault o ≡ fault 6 0
-order-high o h = rw (le-leb 1 o (omega arith), lt-leb o 15 h)
-
-pub order-none : (o : ℕ) → 1 ≤ o → o ≤ 15 → orderFault o ≡ none
-order-none o h k = rw (le-leb 1 o h, le-leb o 15 k)
+use Rattle.masks.proofs.Orders.{order-range}
 
 pub order-good : (o : ℕ) {r : DR.Refusal} → Refused (orderFault o) r → r .number ≡ 0 → orderOk o ≡ true
-order-good o R h = not-false (orderOk o) (not-refused (not (orderOk o)) 6 refl (refused-passed R h))
-
-pub order-in : (o : ℕ) → orderOk o ≡ true → (1 ≤ o) × (o ≤ 15)
-order-in o h = let a = and-true (leb 1 o) (leb o 15) h in (leb-true 1 o (a .0), leb-true o 15 (a .1))
+order-good o R h = not-false (orderOk o) (not-refused (not (orderOk o)) 6 refl (refused-passed _ _ R h))
 
 -- n shares of each of so many secrets are computed without overflow
 pub shares-fit : (o l : ℕ) → o ≤ 15 → l ≤ 65535 → (2 * o + 1) * l ≤ 2031585
@@ -51,7 +40,7 @@ module _ (o : ℕ) (xs ts : List ℕ) (room : ℕ) where
   pub encode-order :
       {r : DR.Refusal} → Refused (orderFault o) r → (r .number ≡ 0 → ⊥) → Refused (encodeFault o xs ts room) r
   unfolding encodeFault
-  encode-order R h = rw (first-refused (orderFault o) _ (refused-failed R h)) R
+  encode-order R h = rw (first-refused (orderFault o) _ (refused-fails _ _ R h)) R
 
   pub encode-many : orderOk o ≡ true → 65535 < sharesOf o * length xs → encodeFault o xs ts room ≡ fault 8 0
   unfolding encodeFault
@@ -140,7 +129,7 @@ encode-passed o xs ts room h =
     let count : long ≡ true = not-false long (not-refused (not long) 10 refl (d .0)) in
     let fits : ltb room shares ≡ false = not-refused (ltb room shares) 9 refl (e .1) in
     record {
-      order = order-in o ok;
+      order = order-range o ok;
       few = ltb-false 65535 shares few;
       long = eqb-true (length ts) (2 * o * length xs) count;
       secrets = bad-bits 0 xs (bits .0);
@@ -153,7 +142,7 @@ module _ (o : ℕ) (bs : List ℕ) (room : ℕ) where
   pub decode-order :
       {r : DR.Refusal} → Refused (orderFault o) r → (r .number ≡ 0 → ⊥) → Refused (decodeFault o bs room) r
   unfolding decodeFault
-  decode-order R h = rw (first-refused (orderFault o) _ (refused-failed R h)) R
+  decode-order R h = rw (first-refused (orderFault o) _ (refused-fails _ _ R h)) R
 
   pub decode-many : orderOk o ≡ true → 65535 < length bs → decodeFault o bs room ≡ fault 8 0
   unfolding decodeFault
@@ -219,7 +208,7 @@ decode-passed o bs room h =
     let all : whole ≡ true = not-false whole (not-refused (not whole) 10 refl (d .0)) in
     let fits : ltb room count ≡ false = not-refused (ltb room count) 9 refl (e .1) in
     record {
-      order = order-in o ok;
+      order = order-range o ok;
       few = ltb-false 65535 (length bs) few;
       bits = bad-bits 0 bs (e .0);
       fits = ltb-false room count fits;

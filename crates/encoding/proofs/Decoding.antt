@@ -15,7 +15,7 @@ use Rattle.tables.proofs.Lists.{Bits}
 use Rattle.tables.proofs.Put.{put-nil, put-zero}
 use Rattle.masks.specs.Codes.{xorAll, decodeFrom, decode}
 use Rattle.masks.specs.Says.{decodeFault, DecodeSays}
-use Rattle.encoding.proofs.Answers.{answered-refused, left-refused, answered-none, left-none}
+use Rattle.tables.proofs.Answers.{answered-refused, left-refused, answered-none, left-none}
 use Rattle.encoding.proofs.CodeFaults.{DecodePassed}
 use Rattle.encoding.proofs.Encoding.{bit-xor, part, part-next, part-end, put-cons}
 
@@ -96,7 +96,7 @@ pub decode-refuses :
     {o : ℕ} {bs b : List ℕ} {r : DR.Refusal} → Refused (decodeFault o bs (length b)) r → (r .number ≡ 0 → ⊥)
     → DecodeSays o bs b b (record { number = r .number; place = r .place; value = 0 })
 decode-refuses {o} {bs} {b} R h =
-    record { answer = answered-refused R h; bits = left-refused R (decode o bs) b h }
+    record { answer = answered-refused _ _ _ R h; bits = left-refused _ _ R h (decode o bs) b }
 
 pub decode-succeeds :
     {o : ℕ} {bs b b′ : List ℕ} → DecodePassed o bs (length b)

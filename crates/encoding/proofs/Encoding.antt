@@ -18,7 +18,7 @@ use Rattle.tables.proofs.Put.{put-length, put-zero, put-nil, put-set, put-appen
 use Rattle.masks.specs.Shares.{sharesOf}
 use Rattle.masks.specs.Codes.{xorAll, encode}
 use Rattle.masks.specs.Says.{encodeFault, EncodeSays}
-use Rattle.encoding.proofs.Answers.{answered-refused, left-refused, answered-none, left-none}
+use Rattle.tables.proofs.Answers.{answered-refused, left-refused, answered-none, left-none}
 use Rattle.encoding.proofs.CodeFaults.{EncodePassed}
 use Rattle.masks.proofs.Codes.{group, group-length, encode-cons}
 
@@ -177,7 +177,7 @@ pub encode-refuses :
     {o : ℕ} {xs ts b : List ℕ} {r : DR.Refusal} → Refused (encodeFault o xs ts (length b)) r → (r .number ≡ 0 → ⊥)
     → EncodeSays o xs ts b b (record { number = r .number; place = r .place; value = 0 })
 encode-refuses {o} {xs} {ts} {b} R h =
-    record { answer = answered-refused R h; shares = left-refused R (encode o xs ts) b h }
+    record { answer = answered-refused _ _ _ R h; shares = left-refused _ _ R h (encode o xs ts) b }
 
 pub encode-succeeds :
     {o : ℕ} {xs ts b b′ : List ℕ} → EncodePassed o xs ts (length b) → b′ ≡ over (encode o xs ts) b

@@ -8,7 +8,7 @@ ghost use Rattle.tables.specs.Says.{over, putAt, Refused};
 ghost use Rattle.tables.proofs.Lists.{Bits};
 ghost use Rattle.masks.specs.Codes.{xorAll, encode, decodeFrom};
 ghost use Rattle.masks.specs.Shares.{sharesOf};
-ghost use Rattle.masks.specs.Says.{orderFault, encodeFault, EncodeSays, decodeFault, DecodeSays};
+ghost use Rattle.masks.specs.Says.{encodeFault, EncodeSays, decodeFault, DecodeSays};
 
 // A number and a place as a value.
 fn fault_at(number: u8, place: usize) -> tables::Refusal
@@ -21,24 +21,11 @@ fn fault_at(number: u8, place: usize) -> tables::Refusal
     }
 }
 
-// The refusal of an order that is not 1 to 15.
-fn order_fault(order: u8) -> tables::Refusal
-    ensures { λ r. ⌜ Refused (orderFault order) r ⌝ }
-{
-    if order < 1 {
-        return fault_at(6, 0);
-    }
-    if order > 15 {
-        return fault_at(6, 0);
-    }
-    fault_at(0, 0)
-}
-
 // The refusal of encoding for a buffer of the given length: 6, 8, 10, 11, 9 in that order.
 fn encode_fault(order: u8, secrets: &[u8], tape: &[u8], room: usize) -> tables::Refusal
     ensures { λ r. ⌜ Refused (encodeFault order (now (secrets .entry)) (now (tape .entry)) room) r ⌝ }
 {
-    let found = order_fault(order);
+    let found = masks::order_fault(order);
     if found.number != 0 {
         return found;
     }
@@ -120,11 +107,7 @@ pub fn encode_secrets(order: u8, secrets: &[u8], tape: &[u8], out: &mut [u8]) ->
 {
     let fault = encode_fault(order, secrets, tape, out.len());
     if fault.number != 0 {
-        return tables::Answer {
-            number: fault.number,
-            place: fault.place,
-            value: 0,
-        };
+        return tables::refused(fault);
     }
     let t = order as usize;
     encode_all(t, secrets, tape, out);
@@ -139,7 +122,7 @@ pub fn encode_secrets(order: u8, secrets: &[u8], tape: &[u8], out: &mut [u8]) ->
 fn decode_fault(order: u8, shares: &[u8], room: usize) -> tables::Refusal
     ensures { λ r. ⌜ Refused (decodeFault order (now (shares .entry)) room) r ⌝ }
 {
-    let found = order_fault(order);
+    let found = masks::order_fault(order);
     if found.number != 0 {
         return found;
     }
@@ -195,11 +178,7 @@ pub fn decode_shares(order: u8, shares: &[u8], out: &mut [u8]) -> tables::Answer
 {
     let fault = decode_fault(order, shares, out.len());
     if fault.number != 0 {
-        return tables::Answer {
-            number: fault.number,
-            place: fault.place,
-            value: 0,
-        };
+        return tables::refused(fault);
     }
     let n = 2 * order as usize + 1;
     let count = shares.len() / n;

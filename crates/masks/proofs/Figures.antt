@@ -1,5 +1,5 @@
--- Figures of a gate by its kind's byte, their bounds at 31 shares at most, and the loops over a table's kinds: the search for
--- a random gate and the totals, each by what is left.
+-- Figures of a gate by its kind's byte, their bounds at 31 shares at most, their totals by how many gates there are of each
+-- kind, and the search for a random gate by what is left.
 -- Assumes nothing.
 use mathlib.Core.Path.{_≡_, refl, sym, ap, _∙_}
 use mathlib.Core.Bool.{false}
@@ -10,7 +10,22 @@ use native.Mathlib.Numerals.{add-one}
 use native.Mathlib.Omega.{arith}
 use lib.ListN.{length, getD}
 use Rattle.tables.specs.Refusals.{Fault, none, fault}
-use Rattle.tables.specs.Tables.{Kind, NOT, XOR, AND, RANDOM, UNKNOWN, kindOf, Gate, word, tableOf, isRandom, randomFault}
+use Rattle.tables.specs.Tables.{
+  Kind,
+  NOT,
+  XOR,
+  AND,
+  RANDOM,
+  UNKNOWN,
+  kindOf,
+  Gate,
+  word,
+  tableOf,
+  isRandom,
+  randomFault,
+  ofKind,
+  countKind,
+}
 use Rattle.tables.proofs.Loops.{gatesAt, gates-at-table, gates-at-step, gates-at-end}
 use Rattle.masks.specs.Shares.{tri}
 use Rattle.masks.specs.Wires.{cost, draws, totalOf}
@@ -88,50 +103,27 @@ module _ {s : List ℕ} {g i : ℕ} (S : Searching s g i) where
   unfolding randomFault
   search-end h = let e : i ≡ g = omega (arith, S .within) in S .left ∙ rw (e, gates-at-end s g)
 
--- the totals of a table's gates at n shares, the first i of g gates added to w wires and d random bits
-pub record Adding (s : List ℕ) (n g i w d : ℕ) : Type 0 where
-  pub within : i ≤ g
-  pub wires : w + totalOf (λ k. cost k n) (gatesAt s g i) ≡ totalOf (λ k. cost k n) (tableOf s .gates)
-  pub draws : d + totalOf (λ k. draws k n) (gatesAt s g i) ≡ totalOf (λ k. draws k n) (tableOf s .gates)
-  pub few-wires : w ≤ 3286 * i
-  pub few-draws : d ≤ 465 * i
+-- the total of a figure that only NOT, XOR and AND have, from how many gates there are of each
+pub total-by-kind :
+    (f : Kind → ℕ) → f RANDOM ≡ 0 → ((k : ℕ) → f (UNKNOWN k) ≡ 0) → (gs : List Gate)
+    → totalOf f gs ≡ countKind 0 gs * f NOT + countKind 1 gs * f XOR + countKind 2 gs * f AND
+unfolding totalOf countKind
+total-by-kind f r u [] = omega arith
+total-by-kind f r u (g ∷ gs) = omega (arith, one (g .kind), total-by-kind f r u gs)
+  where
+    one : (k : Kind) → f k ≡ ofKind 0 k * f NOT + ofKind 1 k * f XOR + ofKind 2 k * f AND
+    one NOT = omega arith
+    one XOR = omega arith
+    one AND = omega arith
+    one RANDOM = omega (arith, r)
+    one (UNKNOWN k) = omega (arith, u k)
 
-pub adding-start : (s : List ℕ) (n g : ℕ) → g ≡ word s 2 → Adding s n g 0 0 0
-adding-start s n g e =
-    record {
-      within = omega arith;
-      wires = rw (e, gates-at-table s) (omega arith);
-      draws = rw (e, gates-at-table s) (omega arith);
-      few-wires = omega arith;
-      few-draws = omega arith;
-    }
+pub few-costs :
+    {c g v n : ℕ} (k : Kind) → c ≤ g → g ≤ 65535 → v ≡ cost k n → n ≤ 31 → c * v ≤ 65535 * 3286
+few-costs {n = n} k a b e h =
+    mul-le-mul {n₂ = 65535} {m₂ = 3286} (omega arith) (omega (arith, e, cost-small k n h))
 
-total-step :
-    (f : Kind → ℕ) (s : List ℕ) (g i v : ℕ) → i < g → v ≡ f (kindOf (getD s (6 + i) 0))
-    → totalOf f (gatesAt s g i) ≡ v + totalOf f (gatesAt s g (suc i))
-unfolding totalOf
-total-step f s g i v h e = rw (gates-at-step s g i h, e)
-
-module _ {s : List ℕ} {n g i w d : ℕ} (A : Adding s n g i w d) where
-  pub adding-turn :
-      i < g → n ≤ 31 → (u v : ℕ) → u ≡ cost (kindOf (getD s (6 + i) 0)) n → v ≡ draws (kindOf (getD s (6 + i) 0)) n
-      → Adding s n g (i + 1) (w + u) (d + v)
-  adding-turn h small u v a b =
-      let k = kindOf (getD s (6 + i) 0) in
-      rw add-one
-      (record {
-        within = h;
-        wires = omega (arith, A .wires, total-step (λ k. cost k n) s g i u h a);
-        draws = omega (arith, A .draws, total-step (λ k. draws k n) s g i v h b);
-        few-wires = omega (arith, A .few-wires, cost-small k n small);
-        few-draws = omega (arith, A .few-draws, draws-small k n small);
-      })
-
-  pub adding-end :
-      g ≤ i
-      → (w ≡ totalOf (λ k. cost k n) (tableOf s .gates)) × (d ≡ totalOf (λ k. draws k n) (tableOf s .gates))
-  unfolding totalOf
-  adding-end h =
-      let e : i ≡ g = omega (arith, A .within) in
-      let none : (f : Kind → ℕ) → totalOf f (gatesAt s g i) ≡ 0 = λ f. rw (e, gates-at-end s g) in
-      (omega (arith, A .wires, none (λ k. cost k n)), omega (arith, A .draws, none (λ k. draws k n)))
+pub few-draws :
+    {c g v n : ℕ} (k : Kind) → c ≤ g → g ≤ 65535 → v ≡ draws k n → n ≤ 31 → c * v ≤ 65535 * 465
+few-draws {n = n} k a b e h =
+    mul-le-mul {n₂ = 65535} {m₂ = 465} (omega arith) (omega (arith, e, draws-small k n h))

@@ -9,5 +9,6 @@ pub mod Figures
 pub mod Placed
 pub mod Passed
 pub mod Codes
+pub mod Orders
 pub mod And
 pub mod Shares

@@ -1,4 +1,4 @@
--- A gate's value by its kind's byte and the truth tables, and counting the random gates of a table.
+-- A gate's value by its kind's byte and the truth tables.
 -- Assumes nothing.
 use mathlib.Core.Path.{_≡_, refl, subst, _∙_}
 use mathlib.Core.List.{List}
@@ -7,10 +7,9 @@ use native.Mathlib.Nat.{add-zero}
 use native.Mathlib.Omega.{arith}
 use lib.ListN.{length, getD, drop}
 use Rattle.running.specs.declared.Drawn as DD
-use Rattle.tables.specs.Tables.{kindOf, Gate, gatesFrom}
-use Rattle.tables.specs.Runs.{driven, drawn, randoms}
+use Rattle.tables.specs.Tables.{kindOf}
+use Rattle.tables.specs.Runs.{driven, drawn}
 use Rattle.running.specs.Running.{GateReady, GateSays}
-use Rattle.tables.proofs.Loops.{gatesAt, gates-at-start, gates-at-step, gates-at-end}
 
 -- what holds of the four pairs of bits holds of two bits
 pub both-bits :
@@ -64,30 +63,3 @@ module _ {k a b : ℕ} {rs : List ℕ} {c : ℕ} {r : DD.Drawn} (ready : GateRea
         value = λ l m u p q. v ∙ truth-driven k a b (ready .known) h (ready .left) (ready .right) l m _ u p q;
         next = rw (drawn-none k h, add-zero) n;
       }
-
--- counting the random gates of n: m of those before gate i are random
-pub record Counting (s : List ℕ) (n m i : ℕ) : Type 0 where
-  pub within : i ≤ n
-  pub few : m ≤ i
-  pub whole : m + randoms (gatesAt s n i) ≡ randoms (gatesFrom n (drop 6 s) (drop (6 + n) s))
-
-pub counting-start : (s : List ℕ) (n : ℕ) → Counting s n 0 0
-counting-start s n = record { within = omega arith; few = omega arith; whole = rw gates-at-start (omega arith) }
-
-pub counting-turn :
-    (s : List ℕ) (n m i d : ℕ) → Counting s n m i → i < n → d ≡ drawn (kindOf (getD s (6 + i) 0)) → d ≤ 1
-    → Counting s n (m + d) (suc i)
-unfolding randoms
-counting-turn s n m i d p h e k =
-    let w : m + (drawn (kindOf (getD s (6 + i) 0)) + randoms (gatesAt s n (suc i)))
-    ≡ randoms (gatesFrom n (drop 6 s) (drop (6 + n) s)) = rw (gates-at-step s n i h) at (p .whole) in
-    record { within = omega arith; few = omega (arith, p .few); whole = omega (arith, w, e) }
-
-pub counting-end :
-    (s : List ℕ) (n m i : ℕ) → Counting s n m i → n ≤ i
-    → (m ≡ randoms (gatesFrom n (drop 6 s) (drop (6 + n) s))) × (m ≤ n)
-unfolding randoms
-counting-end s n m i p h =
-    let e : i ≡ n = omega (arith, p .within) in
-    let none-left : randoms (gatesAt s n i) ≡ 0 = rw (e, gates-at-end s n) in
-    (omega (arith, p .whole), omega (arith, p .few))

@@ -12,7 +12,7 @@ use lib.Seq.{take-append-seam, drop-append-seam}
 use borrow.Author.Tests.{ltb-false, eqb-true, eq-eqb, ne-eqb, lt-ltb, le-ltb, not-false}
 use Rattle.tables.specs.declared.Refusal as DR
 use Rattle.tables.specs.Refusals.{pick, Fault, fault, none, passed, orElse, refusedIf, badBit}
-use Rattle.tables.specs.Tables.{Table, wires, word, gatesFrom, tableOf, tableFault}
+use Rattle.tables.specs.Tables.{Table, wires, word, gatesFrom, tableOf, tableFault, countKind}
 use Rattle.tables.specs.Runs.{randoms}
 use Rattle.tables.specs.Says.{Refused, FirstBad, runFault}
 use Rattle.running.specs.Running.{supplyFault, roomFault}
@@ -20,6 +20,7 @@ use Rattle.tables.proofs.Tests.{and-true, or-false, both-passed, first-passed, 
 use Rattle.tables.proofs.Lists.{Bits, bits-take, bits-drop}
 use Rattle.tables.proofs.Accept.{accepted, inputs-of, gates-of-length, outputs-of-length, wires-of}
 use Rattle.tables.proofs.Bad.{bad-append, bad-bits}
+use Rattle.tables.proofs.Counts.{count-randoms}
 use Rattle.tables.proofs.Answers.{
   refused-passed,
   refused-fails,
@@ -81,14 +82,14 @@ module _ (s xs rs : List ℕ) where
       {n g m : ℕ}
       (i : n ≡ word s 0)
       (e : g ≡ word s 2)
-      (c : m ≡ randoms (gatesFrom g (drop 6 s) (drop (6 + g) s)))
+      (c : m ≡ countKind 3 (gatesFrom g (drop 6 s) (drop (6 + g) s)))
       (h : length xs ≡ n) where
     inputs-right : length xs ≡ tableOf s .inputs
     inputs-right = h ∙ i ∙ sym (inputs-of s)
 
     counted : m ≡ randoms (tableOf s .gates)
     unfolding tableOf
-    counted = rw e at c
+    counted = rw e at (c ∙ count-randoms _)
 
     pub random-refused : (length rs ≡ m → ⊥) → supplyFault s xs rs ≡ fault 10 0
     unfolding supplyFault

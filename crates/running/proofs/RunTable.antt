@@ -7,7 +7,6 @@ use Prim.Native.Nat.{ℕ, zero, suc, _+_, _-_, _*_, _≤_, _<_}
 use native.Mathlib.Omega.{arith}
 use lib.ListN.{length, getD, take, drop, length-append, length-drop, List·getD-append}
 use lib.Seq.{take-append-seam, drop-drop, drop-append-add, getD-drop}
-use Rattle.tables.specs.declared.Answer as DA
 use Rattle.tables.specs.declared.Refusal as DR
 use Rattle.tables.specs.Refusals.{pick, Fault, fault, none, passed}
 use Rattle.tables.specs.Tables.{Table, wires, word, wordsFrom, tableOf, tableFault}
@@ -26,7 +25,7 @@ use Rattle.tables.proofs.Accept.{
   outputs-passed,
 }
 use Rattle.tables.proofs.Loops.{word-drop}
-use Rattle.tables.proofs.Answers.{refused-fails, answered-passed}
+use Rattle.tables.proofs.Answers.{answered-refused, left-refused, answered-passed}
 use Rattle.running.proofs.RunFault.{accepted-long, clean-run, RunGood}
 
 -- the front of a buffer over which xs was written, and what follows xs
@@ -140,16 +139,14 @@ module _ (s xs rs a b : List ℕ) (r : RunGood s xs rs (length a) (length b)) wh
 
 -- what a refused run and a run that is not refused answer
 pub run-refused :
-    (s xs rs a b : List ℕ) (r : DR.Refusal) (q : DA.Answer) → Refused (runFault s xs rs (length a) (length b)) r
-    → (r .number ≡ 0 → ⊥) → (q .number ≡ r .number) × (q .place ≡ r .place) × (q .value ≡ 0)
-    → RunSays s xs rs a a b b q
-run-refused s xs rs a b r q h k e =
+    (s xs rs a b : List ℕ) (r : DR.Refusal) → Refused (runFault s xs rs (length a) (length b)) r
+    → (r .number ≡ 0 → ⊥) → RunSays s xs rs a a b b (record { number = r .number; place = r .place; value = 0 })
+run-refused s xs rs a b r h k =
     let f = runFault s xs rs (length a) (length b) in
-    let no : passed f ≡ false = refused-fails f r h k in
     record {
-      answer = record { number = e .0 ∙ h .number; place = e .1 ∙ h .place; value = rw no (e .2) };
-      values = rw no;
-      outputs = rw no;
+      answer = answered-refused f _ r h k;
+      values = left-refused f r h k (run (tableOf s) xs rs) a;
+      outputs = left-refused f r h k (outputsOf (tableOf s) (run (tableOf s) xs rs)) b;
     }
 
 pub run-done :

@@ -5,40 +5,10 @@ ghost use mathlib.Core.List.{_++_};
 ghost use Prim.Native.Nat.{_+_, _*_, _≤_, _<_};
 ghost use lib.ListN.{length, take, drop};
 ghost use Rattle.tables.specs.Refusals.{passed, badBit};
-ghost use Rattle.tables.specs.Tables.{kindOf, gatesFrom, wordsFrom, tableOf, tableFault};
-ghost use Rattle.tables.specs.Runs.{drawn, runFrom, readAll, randoms};
+ghost use Rattle.tables.specs.Tables.{wordsFrom, tableOf, tableFault};
+ghost use Rattle.tables.specs.Runs.{runFrom, readAll};
 ghost use Rattle.tables.specs.Says.{Refused, over, runFault, RunSays};
 ghost use Rattle.running.specs.Running.{GateReady, GateSays, RunReady, OutputsReady, supplyFault, roomFault};
-
-// How many random bits a gate takes.
-fn drawn_bits(kind: u8) -> usize
-    ensures { λ r. ⌜ (r ≡ drawn (kindOf kind)) × (r ≤ 1) ⌝ }
-{
-    if kind == 3 {
-        return 1;
-    }
-    0
-}
-
-// How many random gates a table has.
-fn random_count(table: &[u8], gates: usize) -> usize
-    requires { ⌜ 6 + 5 * gates ≤ length (now table) ⌝ }
-    ensures { λ r.
-        ⌜
-        (r
-        ≡ randoms
-        (gatesFrom gates (drop 6 (now (table .entry))) (drop (6 + gates) (now (table .entry)))))
-        × (r ≤ gates)
-        ⌝ }
-{
-    let mut count: usize = 0;
-    let mut g: usize = 0;
-    while g < gates {
-        count += drawn_bits(table[6 + g]);
-        g += 1;
-    }
-    count
-}
 
 // A gate's value and the number of the next random bit.
 pub struct Drawn {
@@ -158,7 +128,7 @@ fn supply_fault(table: &[u8], inputs: &[u8], random: &[u8]) -> tables::Refusal
             place: 0,
         };
     }
-    if random.len() != random_count(table, tables::field(table, 2)) {
+    if random.len() != tables::count_kind(table, tables::field(table, 2), 3) {
         return tables::Refusal {
             number: 10,
             place: 0,
@@ -211,17 +181,6 @@ fn run_fault(
     room_fault(table, values, outputs)
 }
 
-// The answer of a refused call.
-fn refused(found: tables::Refusal) -> tables::Answer
-    ensures { λ r. ⌜ (r .number ≡ found .number) × (r .place ≡ found .place) × (r .value ≡ 0) ⌝ }
-{
-    tables::Answer {
-        number: found.number,
-        place: found.place,
-        value: 0,
-    }
-}
-
 // Runs a table: one value for each wire, and the values of the output wires.
 pub fn run_table(
     table: &[u8],
@@ -244,7 +203,7 @@ pub fn run_table(
 {
     let found = run_fault(table, inputs, random, values.len(), outputs.len());
     if found.number != 0 {
-        return refused(found);
+        return tables::refused(found);
     }
     let gates = tables::field(table, 2);
     copy_bits(inputs, values);

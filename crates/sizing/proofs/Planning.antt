@@ -6,14 +6,32 @@ use mathlib.Core.List.{List, [], _∷_}
 use Prim.Native.Nat.{ℕ, suc, _+_, _*_, _≤_, _<_}
 use native.Mathlib.Nat.{mul-le-mul}
 use native.Mathlib.Omega.{arith}
-use borrow.Author.Tests.{lt-ltb, le-ltb, le-leb, lt-leb, leb-true, eq-eqb, ne-eqb, not-false}
-use lib.Dec.{ltb, leb, eqb}
-use lib.ListN.{length}
+use borrow.Author.Tests.{lt-ltb, le-ltb, eq-eqb, ne-eqb, not-false}
+use lib.Dec.{ltb, eqb}
+use lib.ListN.{length, drop}
 use Rattle.tables.specs.declared.Refusal as DR
 use Rattle.tables.specs.Refusals.{Fault, fault, none, passed, orElse, refusedIf}
-use Rattle.tables.specs.Tables.{Kind, NOT, XOR, AND, RANDOM, UNKNOWN, Gate, Table, wires, word, tableOf, tableBytes, tableFault, randomFault}
+use Rattle.tables.specs.Tables.{
+  Kind,
+  NOT,
+  XOR,
+  AND,
+  RANDOM,
+  UNKNOWN,
+  Gate,
+  Table,
+  wires,
+  word,
+  gatesFrom,
+  tableOf,
+  tableBytes,
+  tableFault,
+  randomFault,
+  countKind,
+}
 use Rattle.tables.specs.Says.{Refused}
-use Rattle.tables.proofs.Tests.{and-true, both-passed, not-refused}
+use Rattle.tables.proofs.Tests.{both-passed, not-refused}
+use Rattle.tables.proofs.Counts.{count-plain}
 use Rattle.tables.proofs.Format.{table-long}
 use Rattle.tables.proofs.Accept.{inputs-of, gates-of-length, outputs-of-length, wires-of, accepted}
 use Rattle.sizing.specs.declared.Totals as DT
@@ -25,10 +43,11 @@ use Rattle.masks.specs.Wires.{cost, draws, totalOf, maskedTable, tapeLong}
 use Rattle.masks.specs.Says.{orderOk, orderFault, tooMany, plainFault, ForecastSays}
 use Rattle.sizing.specs.Plans.{HasGates, Maskable, TotalsSay, PlanRefused, PlanReady, PlanFits, planBytes, FiguresSay}
 use Rattle.masks.proofs.Passed.{refused-as, plain-passed}
+use Rattle.masks.proofs.Orders as orders
 use Rattle.masks.proofs.Lawful.{isw-lawful}
 use Rattle.masks.proofs.Placed.{masked-outputs}
 use Rattle.masks.proofs.Costs.{masked-wires, masked-tape}
-use Rattle.masks.proofs.Figures.{cost-small, draws-small, total-small}
+use Rattle.masks.proofs.Figures.{cost-small, draws-small, total-small, total-by-kind}
 
 -- a refusal by its number
 pub refuses : {f : Fault} {r : DR.Refusal} → Refused f r → (r .number ≡ 0 → ⊥) → passed f ≡ false
@@ -53,25 +72,8 @@ or-else-assoc f g h = go (passed f) refl
     go true e = rw e
     go false e = rw (e, e)
 
-pub order-ok : (o : ℕ) → 1 ≤ o → o ≤ 15 → orderOk o ≡ true
-order-ok o a b = rw (le-leb 1 o a, le-leb o 15 b)
-
-pub order-zero : (o : ℕ) → o < 1 → orderOk o ≡ false
-order-zero o h = rw (lt-leb 1 o h)
-
-pub order-high : (o : ℕ) → 15 < o → orderOk o ≡ false
-order-high o h = rw (le-leb 1 o (omega arith), lt-leb o 15 h)
-
 pub order-range : (o : ℕ) → orderOk o ≡ true → (1 ≤ o) × (o ≤ 15)
-order-range o h =
-    let b = and-true (leb 1 o) (leb o 15) h in
-    (leb-true 1 o (b .0), leb-true o 15 (b .1))
-
-pub order-refused : (o : ℕ) → orderOk o ≡ false → Refused (orderFault o) (record { number = 6; place = 0 })
-order-refused o h = refused-as _ _ (rw h)
-
-pub order-passed : (o : ℕ) → orderOk o ≡ true → Refused (orderFault o) (record { number = 0; place = 0 })
-order-passed o h = refused-as _ _ (rw h)
+order-range = orders.order-range
 
 module _ (s : List ℕ) (o : ℕ) where
   pub by-table : passed (tableFault s) ≡ false → plainFault s o ≡ tableFault s
@@ -142,6 +144,33 @@ module _ (s : List ℕ) (h : passed (tableFault s) ≡ true) where
 
   pub has-gates : (g : ℕ) → g ≡ word s 2 → HasGates s g
   has-gates g e = record { stated = e; long = omega (arith, bytes-long); few = omega (arith, few-wires) }
+
+-- the gates by how many there are of each kind
+module _ {s : List ℕ} {g : ℕ} (H : HasGates s g) where
+  gates-stated : gatesFrom g (drop 6 s) (drop (6 + g) s) ≡ tableOf s .gates
+  unfolding tableOf
+  gates-stated = rw (H .stated)
+
+  pub none-random :
+      (c : ℕ) → c ≡ countKind 3 (gatesFrom g (drop 6 s) (drop (6 + g) s)) → c ≡ 0
+      → randomFault 0 (tableOf s .gates) ≡ none
+  none-random c e z = count-plain 0 (tableOf s .gates) (rw gates-stated at (sym e ∙ z))
+
+  pub totals-say :
+      (n : ℕ) {nots xors ands of-not of-xor of-and draw : ℕ}
+      → nots ≡ countKind 0 (gatesFrom g (drop 6 s) (drop (6 + g) s))
+      → xors ≡ countKind 1 (gatesFrom g (drop 6 s) (drop (6 + g) s))
+      → ands ≡ countKind 2 (gatesFrom g (drop 6 s) (drop (6 + g) s))
+      → of-not ≡ cost NOT n → of-xor ≡ cost XOR n → of-and ≡ cost AND n → draw ≡ draws AND n
+      → TotalsSay s n (record { wires = nots * of-not + xors * of-xor + ands * of-and; draws = ands * draw })
+  totals-say n a b c d e f h = record {
+    wires =
+        rw (a, b, c, d, e, f, gates-stated)
+        (sym (total-by-kind (λ k. cost k n) refl (λ k. refl) (tableOf s .gates)));
+    draws =
+        rw (c, h, gates-stated)
+        (omega (arith, total-by-kind (λ k. draws k n) refl (λ k. refl) (tableOf s .gates)));
+  }
 
 module _ {s : List ℕ} {o : ℕ} (M : Maskable s o) where
   pub few-shares : sharesOf o ≤ 31

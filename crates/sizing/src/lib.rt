@@ -72,6 +72,12 @@ fn random_fault(table: &[u8], gates: usize) -> tables::Refusal
     requires { ⌜ HasGates (now table) gates ⌝ }
     ensures { λ r. ⌜ Refused (randomFault 0 (tableOf (now (table .entry)) .gates)) r ⌝ }
 {
+    if tables::count_kind(table, gates, 3) == 0 {
+        return tables::Refusal {
+            number: 0,
+            place: 0,
+        };
+    }
     let mut i = 0;
     while i < gates {
         if table[6 + i] == 3 {
@@ -93,37 +99,12 @@ fn gate_totals(table: &[u8], gates: usize, n: usize) -> Totals
     requires { ⌜ HasGates (now table) gates × (n ≤ 31) ⌝ }
     ensures { λ r. ⌜ TotalsSay (now (table .entry)) n r ⌝ }
 {
-    let mut wires = 0;
-    let mut draws = 0;
-    let mut i = 0;
-    while i < gates {
-        let kind = table[6 + i];
-        wires += gate_cost(kind, n);
-        draws += gate_draws(kind, n);
-        i += 1;
-    }
-    Totals { wires, draws }
-}
-
-// Refusal 6, or none.
-fn order_fault(order: u8) -> tables::Refusal
-    ensures { λ r. ⌜ Refused (orderFault order) r ⌝ }
-{
-    if order < 1 {
-        return tables::Refusal {
-            number: 6,
-            place: 0,
-        };
-    }
-    if order > 15 {
-        return tables::Refusal {
-            number: 6,
-            place: 0,
-        };
-    }
-    tables::Refusal {
-        number: 0,
-        place: 0,
+    let nots = tables::count_kind(table, gates, 0);
+    let xors = tables::count_kind(table, gates, 1);
+    let ands = tables::count_kind(table, gates, 2);
+    Totals {
+        wires: nots * gate_cost(0, n) + xors * gate_cost(1, n) + ands * gate_cost(2, n),
+        draws: ands * gate_draws(2, n),
     }
 }
 
@@ -182,7 +163,7 @@ pub fn plan_table(table: &[u8], order: u8) -> Planned
     }
     let gates = tables::field(table, 2);
     let random = random_fault(table, gates);
-    let first = first_of(order_fault(order), random);
+    let first = first_of(masks::order_fault(order), random);
     if first.number != 0 {
         return Planned::Refused(first);
     }

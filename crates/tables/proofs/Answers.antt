@@ -24,7 +24,7 @@ use Rattle.tables.specs.Tables.{
   isRandom,
   randomFault,
 }
-use Rattle.tables.specs.Says.{Refused, Answered}
+use Rattle.tables.specs.Says.{Refused, Answered, over, left}
 use Rattle.tables.proofs.Tests.{both-passed, first-passed}
 
 -- a refusal that gives the fault's number and place
@@ -33,6 +33,9 @@ refused-is f r e = record {
   number = sym (ap (λ (g : Fault). g .number) e);
   place = sym (ap (λ (g : Fault). g .place) e);
 }
+
+pub refused-same : {f g : Fault} {r : DR.Refusal} → f ≡ g → Refused g r → Refused f r
+refused-same e h = rw e h
 
 pub refused-passed : (f : Fault) (r : DR.Refusal) → Refused f r → r .number ≡ 0 → passed f ≡ true
 refused-passed f r h e = eq-eqb (f .number) 0 (sym (h .number) ∙ e)
@@ -120,7 +123,18 @@ answered-refused f v r h e = record {
   value = rw (refused-fails f r h e);
 }
 
+pub answered-none : {f : Fault} {v : ℕ} → f ≡ none → Answered f v (record { number = 0; place = 0; value = v })
+answered-none e = rw e (record { number = refl; place = refl; value = refl })
+
 pub answered-passed :
     (f : Fault) (v : ℕ) → Clean f → passed f ≡ true
     → Answered f v (record { number = 0; place = 0; value = v })
-answered-passed f v c h = rw (c h) (record { number = refl; place = refl; value = refl })
+answered-passed f v c h = answered-none (c h)
+
+-- what a lent buffer holds after a refusal and after a success
+pub left-refused :
+    (f : Fault) (r : DR.Refusal) → Refused f r → (r .number ≡ 0 → ⊥) → (xs b : List ℕ) → b ≡ left f xs b
+left-refused f r h e xs b = rw (refused-fails f r h e)
+
+pub left-none : {f : Fault} {b′ : List ℕ} (xs b : List ℕ) → f ≡ none → b′ ≡ over xs b → b′ ≡ left f xs b
+left-none xs b e w = rw e w

@@ -1,11 +1,12 @@
 -- The first byte above 1: of lists joined, of what a scan has left, and what it says where there is none.
 -- Assumes nothing.
-use mathlib.Core.Path.{_≡_, refl, _∙_}
+use mathlib.Core.Path.{_≡_, refl, _∙_, subst}
 use mathlib.Core.Bool.{Bool, true, false}
 use mathlib.Core.List.{List, [], _∷_, _++_}
 use Prim.Native.Nat.{ℕ, suc, _+_, _≤_, _<_}
 use native.Mathlib.Nat.{add-zero, add-suc, suc-add}
 use native.Mathlib.Omega.{arith}
+use lib.Bits.{bitAnd, bitOr, and-le-l, and-le-r, or-add-and}
 use lib.Dec.{leb}
 use lib.ListN.{length, getD, drop, drop-of-length-le}
 use lib.Seq.{drop-cons}
@@ -36,6 +37,14 @@ bad-bits i (b ∷ bs) h =
     let a = pick-passed (leb b 1) (badBit (suc i) bs) 11 i refl h in
     bits-cons b bs (leb-true b 1 (a .0)) (bad-bits (suc i) bs (a .1))
 
+-- no bit of a number is lost by `or`
+pub or-covers : (a b m : ℕ) → bitOr a b ≤ m → (a ≤ m) × (b ≤ m)
+or-covers a b m h =
+    let whole = or-add-and a b in
+    let at-most-a = and-le-l a b in
+    let at-most-b = and-le-r a b in
+    (omega arith, omega arith)
+
 -- the bytes before r are bits
 abbrev pub GoodTo : List ℕ → ℕ → Type 0
 GoodTo bs r = (r ≤ length bs) × ((i : ℕ) → badBit i bs ≡ badBit (i + r) (drop r bs))
@@ -63,3 +72,24 @@ good-end bs r g h = record {
   within = g .0;
   bad = λ i. g .1 i ∙ rw (drop-of-length-le bs {i = r} h, le-ltb r (length bs) h) refl;
 }
+
+-- the `or` of the bytes before r is all: where it is a bit, so are they
+pub record Ored (bs : List ℕ) (all r : ℕ) : Type 0 where
+  pub good : all ≤ 1 → GoodTo bs r
+
+pub ored-start : (bs : List ℕ) → Ored bs 0 0
+ored-start bs = record { good = λ _. good-start bs }
+
+pub ored-step :
+    (bs : List ℕ) (all r : ℕ) → Ored bs all r → r < length bs → Ored bs (bitOr all (getD bs r 0)) (suc r)
+ored-step bs all r o h = record {
+  good = λ k.
+      let both = or-covers all (getD bs r 0) 1 k in
+      good-step bs r (o .good (both .0)) h (both .1);
+}
+
+pub ored-end :
+    (bs : List ℕ) (all r : ℕ) → Ored bs all r → length bs ≤ r → all ≤ 1 → FirstBad bs (length bs)
+ored-end bs all r o h k =
+    let e : r ≡ length bs = omega (arith, o .good k .0) in
+    subst (λ (n : ℕ). FirstBad bs n) e (good-end bs r (o .good k) h)

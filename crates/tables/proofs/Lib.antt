@@ -7,4 +7,5 @@ pub mod Format
 pub mod Put
 pub mod Bad
 pub mod Loops
+pub mod Counts
 pub mod Answers

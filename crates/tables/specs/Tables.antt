@@ -156,3 +156,15 @@ isRandom (UNKNOWN k) = false
 unfoldable pub randomFault : ℕ → List Gate → Fault
 randomFault i [] = none
 randomFault i (g ∷ gs) = pick (isRandom (g .kind)) (fault 7 i) (randomFault (suc i) gs)
+
+-- how many gates are of the kind with byte b, 0 to 3
+abbrev pub ofKind : ℕ → Kind → ℕ
+ofKind b NOT = pick (eqb b 0) 1 0
+ofKind b XOR = pick (eqb b 1) 1 0
+ofKind b AND = pick (eqb b 2) 1 0
+ofKind b RANDOM = pick (eqb b 3) 1 0
+ofKind b (UNKNOWN k) = 0
+
+unfoldable pub countKind : ℕ → List Gate → ℕ
+countKind b [] = 0
+countKind b (g ∷ gs) = ofKind b (g .kind) + countKind b gs

@@ -1,4 +1,4 @@
--- `tables::check_table` meets its contract: where no check refuses, the sizes are there to read and add up to the wires.
+-- `checking::check_table` meets its contract: where no check refuses, the sizes are there to read and add up to the wires.
 -- Assumes nothing.
 use native.Mathlib.Omega.{arith}
 use Rattle.tables.proofs.Accept.{accepted, wires-of}
@@ -10,8 +10,13 @@ use Rattle.checking.proofs.check_table.Tie as tie
 table-fault-requires : tie.Need-table-fault-requires
 table-fault-requires c κs = tt
 
+refused-requires : tie.Need-refused-requires
+refused-requires c κs = tt
+
 returns : tie.Need-returns
-returns c = record { answer = answered-refused _ _ _ (c .before .before .table-fault .ensures) (c .if1 .taken) }
+returns c =
+    let fault = c .before .before .before .table-fault .ensures in
+    rw (c .refused .ensures) (record { answer = answered-refused _ _ _ fault (c .before .if1 .taken) })
 
 field-requires : tie.Need-field-requires
 field-requires c κs =
@@ -44,6 +49,7 @@ check-table-spec =
     tie.close
     (tie.spec
     table-fault-requires
+    refused-requires
     returns
     field-requires
     field-requires-2

@@ -1,4 +1,4 @@
--- `tables::gates_fault` meets its contract. The loop's invariant: the gates before g are good.
+-- `checking::gates_fault` meets its contract: no gate is faulty, or the loop finds the first. Its invariant: the gates before g are good.
 -- Assumes nothing.
 use Prim.Native.Nat.{_-_}
 use native.Mathlib.Numerals.{add-one}
@@ -19,6 +19,12 @@ Inv-gates table inputs gates g₀ g = GatesGood table inputs gates g
 
 abbrev μ-gates : tie.MeasureT-gates
 μ-gates table inputs gates g₀ g = gates - g
+
+gates-good-requires : tie.Need-gates-good-requires Inv-gates μ-gates
+gates-good-requires c κs = c .before .pre
+
+returns : tie.Need-returns Inv-gates μ-gates
+returns c = refused-is _ _ (c .before .gates-good .ensures (c .if1 .taken))
 
 gates-holds : tie.Need-gates-holds Inv-gates μ-gates
 gates-holds c = gates-good-start _ _ _
@@ -71,23 +77,23 @@ gates-less c = omega arith
 gates-again : tie.Need-gates-again Inv-gates μ-gates
 gates-again c = rw add-one (gates-good-step (c .before .gate-number .result)
     (c .before .before .before .before .before .before .gates .inv)
-    (c .before .before .before .before .before .if1 .left)
+    (c .before .before .before .before .before .if2 .left)
     (c .before .before .before .before .field .ensures .0)
     (c .before .before .before .field2 .ensures .0)
     (c .before .gate-number .ensures)
-    (c .if2 .left))
-
-returns : tie.Need-returns Inv-gates μ-gates
-returns c = refused-is _ _ (gates-good-end (c .before .gates .inv) (c .if1 .taken))
+    (c .if3 .left))
 
 returns-2 : tie.Need-returns-2 Inv-gates μ-gates
-returns-2 c = refused-is _ _ (gates-good-found (c .before .gate-number .result)
+returns-2 c = refused-is _ _ (gates-good-end (c .before .gates .inv) (c .if2 .taken))
+
+returns-3 : tie.Need-returns-3 Inv-gates μ-gates
+returns-3 c = refused-is _ _ (gates-good-found (c .before .gate-number .result)
     (c .before .before .before .before .before .before .gates .inv)
-    (c .before .before .before .before .before .if1 .left)
+    (c .before .before .before .before .before .if2 .left)
     (c .before .before .before .before .field .ensures .0)
     (c .before .before .before .field2 .ensures .0)
     (c .before .gate-number .ensures)
-    (c .if2 .taken))
+    (c .if3 .taken))
 
 pub gates-fault-spec : {M : Type 1} → statement M
 gates-fault-spec =
@@ -95,6 +101,8 @@ gates-fault-spec =
     (tie.spec
     Inv-gates
     μ-gates
+    gates-good-requires
+    returns
     gates-holds
     add-field
     mul-field
@@ -112,5 +120,5 @@ gates-fault-spec =
     add-g
     gates-less
     gates-again
-    returns
-    returns-2)
+    returns-2
+    returns-3)

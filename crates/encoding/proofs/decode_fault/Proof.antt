@@ -1,10 +1,10 @@
--- `masks::decode_fault` meets its contract: each test that refuses is one law of the chain of refusals.
+-- `encoding::decode_fault` meets its contract: each test that refuses is one law of the chain of refusals.
 -- Assumes nothing.
 use mathlib.Core.Path.{_≡_}
 use mathlib.Core.Bool.{true}
 use native.Mathlib.Omega.{arith}
 use Rattle.masks.specs.Says.{orderOk}
-use Rattle.encoding.proofs.Answers.{refused}
+use Rattle.tables.proofs.Answers.{refused-same}
 use Rattle.encoding.proofs.CodeFaults.{
   order-good,
   decode-order,
@@ -42,7 +42,7 @@ fault-at-requires c κs = omega arith
 
 returns-2 : tie.Need-returns-2
 returns-2 c =
-    refused (decode-many _ _ _ (ordered (c .before .before)) (c .before .if2 .taken)) (c .fault-at .ensures)
+    refused-same (decode-many _ _ _ (ordered (c .before .before)) (c .before .if2 .taken)) (c .fault-at .ensures)
 
 mul-n : tie.Need-mul-n
 mul-n c = omega arith
@@ -59,7 +59,7 @@ fault-at-requires-2 c κs = omega arith
 returns-3 : tie.Need-returns-3
 returns-3 c =
     let ok = ordered (c .before .before .before) in
-    refused (decode-count _ _ _ ok (c .before .before .if2 .left) (c .before .if3 .taken)) (c .fault-at2 .ensures)
+    refused-same (decode-count _ _ _ ok (c .before .before .if2 .left) (c .before .if3 .taken)) (c .fault-at2 .ensures)
 
 first-bad-requires : tie.Need-first-bad-requires
 first-bad-requires c κs = tt
@@ -71,7 +71,7 @@ returns-4 : tie.Need-returns-4
 returns-4 c =
     let K = whole (c .before .before .before) in
     let bits = c .before .before .first-bad .ensures in
-    refused (decode-bad _ K bits (c .before .if4 .taken)) (c .fault-at3 .ensures)
+    refused-same (decode-bad _ K bits (c .before .if4 .taken)) (c .fault-at3 .ensures)
 
 div-if5 : tie.Need-div-if5
 div-if5 c = omega arith
@@ -83,7 +83,7 @@ returns-5 : tie.Need-returns-5
 returns-5 c =
     let bits = c .before .before .before .first-bad .ensures in
     let K = whole (c .before .before .before .before) in
-    refused (decode-short _ K bits (c .before .before .if4 .left) (c .before .if5 .taken)) (c .fault-at4 .ensures)
+    refused-same (decode-short _ K bits (c .before .before .if4 .left) (c .before .if5 .taken)) (c .fault-at4 .ensures)
 
 fault-at-requires-5 : tie.Need-fault-at-requires-5
 fault-at-requires-5 c κs = omega arith
@@ -92,7 +92,7 @@ returns-6 : tie.Need-returns-6
 returns-6 c =
     let bits = c .before .before .before .first-bad .ensures in
     let K = whole (c .before .before .before .before) in
-    refused (decode-none _ K bits (c .before .before .if4 .left) (c .before .if5 .left)) (c .fault-at5 .ensures)
+    refused-same (decode-none _ K bits (c .before .before .if4 .left) (c .before .if5 .left)) (c .fault-at5 .ensures)
 
 pub decode-fault-spec : {M : Type 1} → statement M
 decode-fault-spec =

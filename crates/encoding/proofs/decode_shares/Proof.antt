@@ -1,11 +1,11 @@
--- `masks::decode_shares` meets its contract: a refusal changes nothing, and what is not refused is fit to be decoded.
+-- `encoding::decode_shares` meets its contract: a refusal changes nothing, and what is not refused is fit to be decoded.
 -- Assumes nothing.
 use Prim.Native.Nat.{_+_, _*_}
 use native.Mathlib.Nat.{mul-div-le, div-le-self}
 use native.Mathlib.Numerals.{add-one}
 use native.Mathlib.Omega.{arith}
 use lib.ListN.{length}
-use Rattle.encoding.proofs.Answers.{refused-passed}
+use Rattle.tables.proofs.Answers.{refused-passed}
 use Rattle.encoding.proofs.CodeFaults.{DecodePassed, decode-passed}
 use Rattle.encoding.proofs.Decoding.{decode-refuses, decode-succeeds}
 use Rattle.encoding.proofs.decode_shares.Statement.{statement}
@@ -19,13 +19,18 @@ accepted :
 accepted c =
     let a = c .before .before .before .before .before .args in
     decode-passed (a .order) (a .shares .now) (length (a .out .now))
-    (refused-passed (c .before .before .decode-fault .ensures) (c .if1 .left))
+    (refused-passed _ _ (c .before .before .decode-fault .ensures) (c .if1 .left))
 
 decode-fault-requires : tie.Need-decode-fault-requires
 decode-fault-requires c κs = tt
 
+refused-requires : tie.Need-refused-requires
+refused-requires c κs = tt
+
 returns : tie.Need-returns
-returns c = decode-refuses (c .before .before .decode-fault .ensures) (c .if1 .taken)
+returns c =
+    rw (c .refused .ensures)
+    (decode-refuses (c .before .before .before .decode-fault .ensures) (c .before .if1 .taken))
 
 mul-n : tie.Need-mul-n
 mul-n c = omega arith
@@ -62,6 +67,7 @@ decode-shares-spec =
     tie.close
     (tie.spec
     decode-fault-requires
+    refused-requires
     returns
     mul-n
     add-n

@@ -1,14 +1,14 @@
--- `masks::encode_fault` meets its contract: each test that refuses is one law of the chain of refusals.
+-- `encoding::encode_fault` meets its contract: each test that refuses is one law of the chain of refusals.
 -- Assumes nothing.
 use mathlib.Core.Path.{_≡_}
 use mathlib.Core.Bool.{true}
 use native.Mathlib.Omega.{arith}
 use lib.ListN.{length}
 use Rattle.masks.specs.Says.{orderOk}
-use Rattle.encoding.proofs.Answers.{refused}
+use Rattle.tables.proofs.Answers.{refused-same}
+use Rattle.masks.proofs.Orders.{order-range}
 use Rattle.encoding.proofs.CodeFaults.{
   order-good,
-  order-in,
   shares-fit,
   encode-order,
   encode-many,
@@ -47,7 +47,7 @@ fault-at-requires c κs = omega arith
 
 returns-2 : tie.Need-returns-2
 returns-2 c =
-    refused (encode-many _ _ _ _ (ordered (c .before .before)) (omega arith)) (c .fault-at .ensures)
+    refused-same (encode-many _ _ _ _ (ordered (c .before .before)) (omega arith)) (c .fault-at .ensures)
 
 mul-bits : tie.Need-mul-bits
 mul-bits c = omega arith
@@ -58,7 +58,7 @@ add-shares c = omega arith
 mul-shares : tie.Need-mul-shares
 mul-shares c =
     let a = c .before .before .before .before .before .before .args in
-    let low = order-in (a .order) (ordered (c .before)) .1 in
+    let low = order-range (a .order) (ordered (c .before)) .1 in
     omega (arith, shares-fit (a .order) (length (a .secrets .now)) low (c .if2 .left))
 
 fault-at-requires-2 : tie.Need-fault-at-requires-2
@@ -66,7 +66,7 @@ fault-at-requires-2 c κs = omega arith
 
 returns-3 : tie.Need-returns-3
 returns-3 c =
-    refused (encode-many _ _ _ _ (ordered (c .before .before .before)) (omega arith)) (c .fault-at2 .ensures)
+    refused-same (encode-many _ _ _ _ (ordered (c .before .before .before)) (omega arith)) (c .fault-at2 .ensures)
 
 mul-if4 : tie.Need-mul-if4
 mul-if4 c = omega arith
@@ -77,7 +77,7 @@ fault-at-requires-3 c κs = omega arith
 returns-4 : tie.Need-returns-4
 returns-4 c =
     let ok = ordered (c .before .before .before .before) in
-    refused (encode-count _ _ _ _ ok (omega arith) (c .before .if4 .taken)) (c .fault-at3 .ensures)
+    refused-same (encode-count _ _ _ _ ok (omega arith) (c .before .if4 .taken)) (c .fault-at3 .ensures)
 
 first-bad-requires : tie.Need-first-bad-requires
 first-bad-requires c κs = tt
@@ -89,7 +89,7 @@ returns-5 : tie.Need-returns-5
 returns-5 c =
     let secrets = c .before .before .first-bad .ensures in
     let K = counted (c .before .before .before) in
-    refused (encode-bad-secret _ K secrets (c .before .if5 .taken)) (c .fault-at4 .ensures)
+    refused-same (encode-bad-secret _ K secrets (c .before .if5 .taken)) (c .fault-at4 .ensures)
 
 first-bad-requires-2 : tie.Need-first-bad-requires-2
 first-bad-requires-2 c κs = tt
@@ -106,7 +106,7 @@ returns-6 c =
     let tape = c .before .before .first-bad2 .ensures in
     let K = counted (c .before .before .before .before .before) in
     let good = c .before .before .before .if5 .left in
-    refused
+    refused-same
     (encode-bad-tape _ K secrets good tape (c .before .if6 .taken))
     (c .fault-at5 .ensures)
 
@@ -119,7 +119,7 @@ returns-7 c =
     let tape = c .before .before .before .first-bad2 .ensures in
     let K = counted (c .before .before .before .before .before .before) in
     let good = c .before .before .before .before .if5 .left in
-    refused
+    refused-same
     (encode-short _ K secrets good tape (c .before .before .if6 .left) (omega arith))
     (c .fault-at6 .ensures)
 
@@ -132,7 +132,7 @@ returns-8 c =
     let tape = c .before .before .before .first-bad2 .ensures in
     let K = counted (c .before .before .before .before .before .before) in
     let good = c .before .before .before .before .if5 .left in
-    refused
+    refused-same
     (encode-none _ K secrets good tape (c .before .before .if6 .left) (omega arith))
     (c .fault-at7 .ensures)
 

@@ -1,8 +1,8 @@
--- `masks::encode_secrets` meets its contract: a refusal changes nothing, and what is not refused is fit to be encoded.
+-- `encoding::encode_secrets` meets its contract: a refusal changes nothing, and what is not refused is fit to be encoded.
 -- Assumes nothing.
 use native.Mathlib.Omega.{arith}
 use lib.ListN.{length}
-use Rattle.encoding.proofs.Answers.{refused-passed}
+use Rattle.tables.proofs.Answers.{refused-passed}
 use Rattle.encoding.proofs.CodeFaults.{EncodePassed, encode-passed}
 use Rattle.encoding.proofs.Encoding.{encode-refuses, encode-succeeds}
 use Rattle.encoding.proofs.encode_secrets.Statement.{statement}
@@ -16,13 +16,18 @@ accepted :
 accepted c =
     let a = c .before .before .before .before .before .before .args in
     encode-passed (a .order) (a .secrets .now) (a .tape .now) (length (a .out .now))
-    (refused-passed (c .before .before .encode-fault .ensures) (c .if1 .left))
+    (refused-passed _ _ (c .before .before .encode-fault .ensures) (c .if1 .left))
 
 encode-fault-requires : tie.Need-encode-fault-requires
 encode-fault-requires c κs = tt
 
+refused-requires : tie.Need-refused-requires
+refused-requires c κs = tt
+
 returns : tie.Need-returns
-returns c = encode-refuses (c .before .before .encode-fault .ensures) (c .if1 .taken)
+returns c =
+    rw (c .refused .ensures)
+    (encode-refuses (c .before .before .before .encode-fault .ensures) (c .before .if1 .taken))
 
 encode-all-requires : tie.Need-encode-all-requires
 encode-all-requires c κs =
@@ -58,6 +63,7 @@ encode-secrets-spec =
     tie.close
     (tie.spec
     encode-fault-requires
+    refused-requires
     returns
     encode-all-requires
     mul-t7

@@ -1,4 +1,4 @@
--- `tables::run_table` meets its contract: a run that no check refuses copies the inputs, runs the gates and reads the outputs.
+-- `running::run_table` meets its contract: a run that no check refuses copies the inputs, runs the gates and reads the outputs.
 -- Assumes nothing.
 use mathlib.Core.Path.{_≡_, _∙_}
 use Prim.Native.Nat.{_≤_, _<_}
@@ -55,7 +55,9 @@ refused-requires : tie.Need-refused-requires
 refused-requires c κs = tt
 
 returns : tie.Need-returns
-returns c = run-refused _ _ _ _ _ _ _ (c .before .before .before .run-fault .ensures) (c .before .if1 .taken) (c .refused .ensures)
+returns c =
+    let fault = c .before .before .before .run-fault .ensures in
+    rw (c .refused .ensures) (run-refused _ _ _ _ _ _ fault (c .before .if1 .taken))
 
 field-requires : tie.Need-field-requires
 field-requires c κs = omega (arith, accepted-long _ (good c .accepted))

@@ -1,83 +1,106 @@
--- `masks::gate_totals` meets its contract: the totals so far and those of the gates left make the table's.
+-- `sizing::gate_totals` meets its contract: the totals by how many gates there are of each kind.
 -- Assumes nothing.
-use Prim.Native.Nat.{_+_, _-_}
 use native.Mathlib.Omega.{arith}
-use lib.ListN.{getD}
-use Rattle.tables.specs.Tables.{kindOf}
-use Rattle.masks.proofs.Figures.{cost-small, draws-small, Adding, adding-start, adding-turn, adding-end}
 use borrow.Author.Needs.{needs}
+use Rattle.tables.specs.Tables.{NOT, XOR, AND}
+use Rattle.masks.proofs.Figures.{few-costs, few-draws}
+use Rattle.sizing.proofs.Planning.{totals-say}
 use Rattle.sizing.proofs.gate_totals.Statement.{statement}
 use Rattle.sizing.proofs.gate_totals.Tie as tie
 
-abbrev Inv-loop : tie.InvT-loop
-Inv-loop table gates n wires₀ draws₀ i₀ wires draws i = Adding table n gates i wires draws
+count-kind-requires : tie.Need-count-kind-requires
+count-kind-requires c κs =
+    let p = c .before .pre .0 in
+    (p .long, p .few, omega arith)
 
-abbrev μ-loop : tie.MeasureT-loop
-μ-loop table gates n wires₀ draws₀ i₀ wires draws i = gates - i
+count-kind-requires-2 : tie.Need-count-kind-requires-2
+count-kind-requires-2 c κs =
+    let p = c .before .before .pre .0 in
+    (p .long, p .few, omega arith)
 
-loop-holds : tie.Need-loop-holds Inv-loop μ-loop
-loop-holds c =
-    let a = c .before .args in
-    adding-start (a .table .now) (a .n) (a .gates) (c .before .pre .0 .stated)
+count-kind-requires-3 : tie.Need-count-kind-requires-3
+count-kind-requires-3 c κs =
+    let p = c .before .before .before .pre .0 in
+    (p .long, p .few, omega arith)
 
-add-kind : tie.Need-add-kind Inv-loop μ-loop
-add-kind c = search needs
+gate-cost-requires : tie.Need-gate-cost-requires
+gate-cost-requires c κs = c .before .before .before .before .pre .1
 
-shared-slice-read-kind : tie.Need-shared-slice-read-kind Inv-loop μ-loop
-shared-slice-read-kind c = search needs
+mul-t8 : tie.Need-mul-t8
+mul-t8 c =
+    let p = c .before .before .before .before .before in
+    let nots = few-costs NOT (c .before .before .before .count-kind .ensures .1) (p .pre .0 .few) (c .gate-cost .ensures) (p .pre .1) in
+    record { fits = omega (arith, nots) }
 
-gate-cost-requires : tie.Need-gate-cost-requires Inv-loop μ-loop
-gate-cost-requires c κs = search needs
+gate-cost-requires-2 : tie.Need-gate-cost-requires-2
+gate-cost-requires-2 c κs = c .before .before .before .before .before .pre .1
 
-add-wires : tie.Need-add-wires Inv-loop μ-loop
-add-wires c =
-    let b = c .before .before .before in
-    let a = b .before .before .args in
-    let k = kindOf (getD (a .table .now) (6 + b .loop .i) 0) in
-    record { fits = omega (arith, c .gate-cost .ensures, cost-small k (a .n) (b .before .before .pre .1)) }
+mul-t10 : tie.Need-mul-t10
+mul-t10 c =
+    let p = c .before .before .before .before .before .before in
+    let xors = few-costs XOR (c .before .before .before .count-kind2 .ensures .1) (p .pre .0 .few) (c .gate-cost2 .ensures) (p .pre .1) in
+    record { fits = omega (arith, xors) }
 
-gate-draws-requires : tie.Need-gate-draws-requires Inv-loop μ-loop
-gate-draws-requires c κs = search needs
+add-t11 : tie.Need-add-t11
+add-t11 c =
+    let p = c .before .before .before .before .before .before in
+    let nots = few-costs NOT (c .before .before .before .before .count-kind .ensures .1) (p .pre .0 .few) (c .before .gate-cost .ensures) (p .pre .1) in
+    let xors = few-costs XOR (c .before .before .before .count-kind2 .ensures .1) (p .pre .0 .few) (c .gate-cost2 .ensures) (p .pre .1) in
+    record { fits = omega (arith, nots, xors) }
 
-add-draws : tie.Need-add-draws Inv-loop μ-loop
-add-draws c =
-    let b = c .before .before .before .before in
-    let a = b .before .before .args in
-    let k = kindOf (getD (a .table .now) (6 + b .loop .i) 0) in
-    record { fits = omega (arith, c .gate-draws .ensures, draws-small k (a .n) (b .before .before .pre .1)) }
+gate-cost-requires-3 : tie.Need-gate-cost-requires-3
+gate-cost-requires-3 c κs = c .before .before .before .before .before .before .pre .1
 
-add-i : tie.Need-add-i Inv-loop μ-loop
-add-i c = search needs
+mul-t13 : tie.Need-mul-t13
+mul-t13 c =
+    let p = c .before .before .before .before .before .before .before in
+    let ands = few-costs AND (c .before .before .before .count-kind3 .ensures .1) (p .pre .0 .few) (c .gate-cost3 .ensures) (p .pre .1) in
+    record { fits = omega (arith, ands) }
 
-loop-less : tie.Need-loop-less Inv-loop μ-loop
-loop-less c = search needs
+add-t14 : tie.Need-add-t14
+add-t14 c =
+    let p = c .before .before .before .before .before .before .before in
+    let nots = few-costs NOT (c .before .before .before .before .before .count-kind .ensures .1) (p .pre .0 .few) (c .before .before .gate-cost .ensures) (p .pre .1) in
+    let xors = few-costs XOR (c .before .before .before .before .count-kind2 .ensures .1) (p .pre .0 .few) (c .before .gate-cost2 .ensures) (p .pre .1) in
+    let ands = few-costs AND (c .before .before .before .count-kind3 .ensures .1) (p .pre .0 .few) (c .gate-cost3 .ensures) (p .pre .1) in
+    record { fits = omega (arith, nots, xors, ands) }
 
-loop-again : tie.Need-loop-again Inv-loop μ-loop
-loop-again c =
-    let b = c .before .before .before .before in
-    adding-turn (b .loop .inv) (c .before .before .before .loop-test .taken) (b .before .before .pre .1) _ _
-    (c .before .gate-cost .ensures)
-    (c .gate-draws .ensures)
+gate-draws-requires : tie.Need-gate-draws-requires
+gate-draws-requires c κs = c .before .before .before .before .before .before .before .pre .1
 
-returns : tie.Need-returns Inv-loop μ-loop
+mul-t16 : tie.Need-mul-t16
+mul-t16 c =
+    let p = c .before .before .before .before .before .before .before .before in
+    let few = few-draws AND (c .before .before .before .before .count-kind3 .ensures .1) (p .pre .0 .few) (c .gate-draws .ensures) (p .pre .1) in
+    record { fits = omega (arith, few) }
+
+returns : tie.Need-returns
 returns c =
-    let e = adding-end (c .before .loop .inv) (c .loop-test .left) in
-    record { wires = e .0; draws = e .1 }
+    let p = c .before .before .before .before .before .before .before .before in
+    totals-say (p .pre .0) (p .args .n)
+    (c .before .before .before .before .before .before .count-kind .ensures .0)
+    (c .before .before .before .before .before .count-kind2 .ensures .0)
+    (c .before .before .before .before .count-kind3 .ensures .0)
+    (c .before .before .before .gate-cost .ensures)
+    (c .before .before .gate-cost2 .ensures)
+    (c .before .gate-cost3 .ensures)
+    (c .gate-draws .ensures)
 
 pub gate-totals-spec : {M : Type 1} → statement M
 gate-totals-spec =
     tie.close
     (tie.spec
-    Inv-loop
-    μ-loop
-    loop-holds
-    add-kind
-    shared-slice-read-kind
+    count-kind-requires
+    count-kind-requires-2
+    count-kind-requires-3
     gate-cost-requires
-    add-wires
+    mul-t8
+    gate-cost-requires-2
+    mul-t10
+    add-t11
+    gate-cost-requires-3
+    mul-t13
+    add-t14
     gate-draws-requires
-    add-draws
-    add-i
-    loop-less
-    loop-again
+    mul-t16
     returns)

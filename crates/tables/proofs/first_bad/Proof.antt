@@ -1,4 +1,4 @@
--- `tables::first_bad` meets its contract. The loop's invariant: no byte before i is above 1.
+-- `tables::first_bad` meets its contract: there is none, or the loop finds it. The loop's invariant: no byte before i is above 1.
 -- Assumes nothing.
 use Prim.Native.Nat.{_-_}
 use native.Mathlib.Numerals.{add-one}
@@ -15,14 +15,20 @@ Inv-loop bits i₀ i = GoodTo bits i
 abbrev μ-loop : tie.MeasureT-loop
 μ-loop bits i₀ i = length bits - i
 
+all-bits-requires : tie.Need-all-bits-requires Inv-loop μ-loop
+all-bits-requires c κs = tt
+
+returns : tie.Need-returns Inv-loop μ-loop
+returns c = c .before .all-bits .ensures (c .if1 .taken)
+
 loop-holds : tie.Need-loop-holds Inv-loop μ-loop
 loop-holds c = good-start _
 
-shared-slice-read-if1 : tie.Need-shared-slice-read-if1 Inv-loop μ-loop
-shared-slice-read-if1 c = search needs
+shared-slice-read-if2 : tie.Need-shared-slice-read-if2 Inv-loop μ-loop
+shared-slice-read-if2 c = search needs
 
-returns : tie.Need-returns Inv-loop μ-loop
-returns c =
+returns-2 : tie.Need-returns-2 Inv-loop μ-loop
+returns-2 c =
     good-found _ _ (c .before .before .before .loop .inv) (c .before .before .loop-test .taken) (omega arith)
 
 add-i : tie.Need-add-i Inv-loop μ-loop
@@ -36,8 +42,8 @@ loop-again c =
     rw add-one
     (good-step _ _ (c .before .before .before .loop .inv) (c .before .before .loop-test .taken) (omega arith))
 
-returns-2 : tie.Need-returns-2 Inv-loop μ-loop
-returns-2 c = good-end _ _ (c .before .loop .inv) (c .loop-test .left)
+returns-3 : tie.Need-returns-3 Inv-loop μ-loop
+returns-3 c = good-end _ _ (c .before .loop .inv) (c .loop-test .left)
 
 pub first-bad-spec : {M : Type 1} → statement M
 first-bad-spec =
@@ -45,10 +51,12 @@ first-bad-spec =
     (tie.spec
     Inv-loop
     μ-loop
-    loop-holds
-    shared-slice-read-if1
+    all-bits-requires
     returns
+    loop-holds
+    shared-slice-read-if2
+    returns-2
     add-i
     loop-less
     loop-again
-    returns-2)
+    returns-3)
