@@ -3,14 +3,14 @@
 use std::time::{Duration, Instant};
 
 /// A batch takes at least so long, so that reading the clock costs nothing.
-const BATCH: Duration = Duration::from_micros(60);
+const BATCH: Duration = Duration::from_micros(50);
 /// How long one comparison may take, and the least and the most rounds in it.
-const BUDGET: Duration = Duration::from_millis(450);
+const BUDGET: Duration = Duration::from_millis(100);
 const LEAST_ROUNDS: usize = 31;
 const MOST_ROUNDS: usize = 2_001;
 
 /// The medians of two ways to do the same work, in nanoseconds a call.
-#[derive(Clone, Copy)]
+#[derive(Clone, Copy, PartialEq)]
 pub struct Times {
     pub ours: f64,
     pub theirs: f64,

@@ -115,7 +115,7 @@ impl Masking {
     }
 
     /// The row of a call on it.
-    pub fn row(&self, call: &'static str, times: Times) -> Row {
+    pub fn row(&self, call: &str, times: Times) -> Row {
         Row::new(call, Some(self.order), self.wires(), times)
     }
 }

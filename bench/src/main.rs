@@ -1,6 +1,9 @@
 //! Measures every call of the archive libmasks_c.a against the separate implementation of tests/:
 //! the same inputs, both built for release, in one run.
 //!
+//!     bench measure FILE     measures, and writes the rows to a file
+//!     bench report FILE..    prints the table of rows measured in one layout or several
+//!
 //! Both are called through the same trait on slices, with buffers that are lent once and used
 //! again; neither is inlined into the loop that measures it. Before anything is measured, both
 //! must answer and write the same.
@@ -8,10 +11,13 @@
 mod clock;
 #[path = "../../tests/src/ffi.rs"]
 mod ffi;
+mod layout;
 mod load;
 mod report;
 
 use std::hint::black_box;
+use std::process::ExitCode;
+use std::{env, fs};
 
 use compare::examples::and_chain;
 use compare::masks::{Masks, Model, Outcome};
@@ -21,22 +27,54 @@ use compare::rng::Rng;
 use clock::{Times, race};
 use ffi::Archive;
 use load::{Mapping, Masking, Running, any_table, plain_table};
-use report::{Report, Row};
+use report::{MAP_AGAINST_RUNS, Row};
 
 const SEED: u64 = 1;
 const ORDERS: [u8; 4] = [1, 2, 7, 15];
 const SIZES: [usize; 3] = [1_000, 8_000, 65_000];
 const MOST_WIRES: usize = 65_535;
 
-fn main() {
-    let mut rng = Rng::new(SEED);
-    let mut report = Report::start();
-    let maskings = ORDERS.map(|order| SIZES.map(|size| masking(&mut rng, order, size)));
-    let mut on_maskings = |call, time: &dyn Fn(&Masking) -> Times| {
-        for at_order in &maskings {
-            report.growing(at_order.each_ref().map(|masking| masking.row(call, time(masking))));
+fn main() -> ExitCode {
+    layout::keep();
+    let arguments: Vec<String> = env::args().skip(1).collect();
+    let result = match &arguments[..] {
+        [word, file] if word == "measure" => measure_all(file),
+        [word, files @ ..] if word == "report" => report(files),
+        _ => Err("usage: bench measure FILE\n       bench report FILE..".into()),
+    };
+    match result {
+        Ok(()) => ExitCode::SUCCESS,
+        Err(text) => {
+            eprintln!("{text}");
+            ExitCode::FAILURE
         }
-        report.gap();
+    }
+}
+
+fn measure_all(file: &str) -> Result<(), String> {
+    let mut rng = Rng::new(SEED);
+    let mut rows = sized(&mut rng);
+    rows.extend(largest(&mut rng));
+    let lines: String = rows.iter().map(|row| format!("{row}\n")).collect();
+    fs::write(file, lines).map_err(|error| format!("{file}: {error}"))
+}
+
+fn report(files: &[String]) -> Result<(), String> {
+    let read = |file: &String| {
+        let text = fs::read_to_string(file).map_err(|error| format!("{file}: {error}"))?;
+        text.lines().map(str::parse).collect()
+    };
+    let layouts: Vec<Vec<Row>> = files.iter().map(read).collect::<Result<_, String>>()?;
+    report::print(&report::combined(&layouts)?, layouts.len());
+    Ok(())
+}
+
+/// Each call at each order and size.
+fn sized(rng: &mut Rng) -> Vec<Row> {
+    let maskings = ORDERS.map(|order| SIZES.map(|size| masking(rng, order, size)));
+    let mut rows = Vec::new();
+    let mut on_maskings = |call, time: &dyn Fn(&Masking) -> Times| {
+        rows.extend(maskings.iter().flatten().map(|masking| masking.row(call, time(masking))));
     };
     on_maskings("check", &|masking| check(&masking.masked.table));
     on_maskings("forecast", &forecast);
@@ -44,21 +82,14 @@ fn main() {
     on_maskings("run", &|masking| run(&masking.masked));
     if cfg!(feature = "map") {
         on_maskings("map", &map);
-        for masking in maskings.iter().flatten() {
-            report.against_runs(masking.row("map / 2 runs", map_and_two_runs(masking)));
+        on_maskings(MAP_AGAINST_RUNS, &map_and_two_runs);
+    }
+    for call in [encode, decode] {
+        for order in ORDERS {
+            rows.extend(SIZES.map(|size| call(rng, order, size)));
         }
-        report.gap();
     }
-    for order in ORDERS {
-        report.growing(SIZES.map(|size| encode(&mut rng, order, size)));
-    }
-    report.gap();
-    for order in ORDERS {
-        report.growing(SIZES.map(|size| decode(&mut rng, order, size)));
-    }
-    report.gap();
-    largest(&mut rng, &mut report);
-    report.end();
+    rows
 }
 
 fn masking(rng: &mut Rng, order: u8, most_wires: usize) -> Masking {
@@ -67,18 +98,19 @@ fn masking(rng: &mut Rng, order: u8, most_wires: usize) -> Masking {
 }
 
 /// The largest tables.
-fn largest(rng: &mut Rng, report: &mut Report) {
+fn largest(rng: &mut Rng) -> Vec<Row> {
     let mixed = any_table(rng, MOST_WIRES, &[NOT, XOR, AND, RANDOM]);
     let ands = any_table(rng, MOST_WIRES, &[AND]);
-    for (check_name, run_name, table) in
-        [("check, mixed", "run, mixed", mixed), ("check, ANDs", "run, ANDs", ands)]
-    {
+    let mut rows = Vec::new();
+    for (name, table) in [("mixed", mixed), ("ANDs", ands)] {
         let running = Running::new(rng, table);
-        report.row(Row::new(check_name, None, running.wires, check(&running.table)));
-        report.row(Row::new(run_name, None, running.wires, run(&running)));
+        let (wires, table) = (running.wires, &running.table);
+        rows.push(Row::new(&format!("check, {name}"), None, wires, check(table)));
+        rows.push(Row::new(&format!("run, {name}"), None, wires, run(&running)));
     }
     let masking = Masking::new(rng, and_chain(2_730), 1);
-    report.row(masking.row("mask, ANDs", mask(&masking)));
+    rows.push(masking.row("mask, ANDs", mask(&masking)));
+    rows
 }
 
 /// Measures a call that writes into so many buffers of given lengths, once both have answered and

@@ -1,4 +1,7 @@
-//! The printed table: a row as soon as it is measured, and what stands out at the end.
+//! Measured rows, kept in a file for each layout, and the table printed of them.
+
+use std::fmt;
+use std::str::FromStr;
 
 use crate::clock::Times;
 
@@ -6,27 +9,28 @@ const ABOUT: &str = "\
 Microseconds a call, the median of many: this library's, then those of the separate implementation
 in Rust. A ratio above 1.00 is marked. Wires are those of the masked table, in encode and decode the
 share bits. Growth is the time for each wire at the largest size against the smallest. An AND takes
-24, 75, 750 and 3,286 wires at order 1, 2, 7 and 15: at 15 the smallest table has none.
-";
+24, 75, 750 and 3,286 wires at order 1, 2, 7 and 15: at 15 the smallest table has none.";
 
+/// The call of a row that compares the library's map with two of its runs.
+pub const MAP_AGAINST_RUNS: &str = "map / 2 runs";
 /// A map may cost so many times two runs of the masked table.
 const MAP_GOAL: f64 = 3.0;
 
-/// One call at one size.
-#[derive(Clone, Copy)]
+/// One call at one size; no order for a call that takes none.
+#[derive(Clone, PartialEq)]
 pub struct Row {
-    call: &'static str,
-    order: Option<u8>,
-    wires: usize,
-    times: Times,
+    pub call: String,
+    pub order: Option<u8>,
+    pub wires: usize,
+    pub times: Times,
 }
 
 impl Row {
-    pub fn new(call: &'static str, order: Option<u8>, wires: usize, times: Times) -> Self {
-        Row { call, order, wires, times }
+    pub fn new(call: &str, order: Option<u8>, wires: usize, times: Times) -> Self {
+        Row { call: call.into(), order, wires, times }
     }
 
-    /// The ratio as printed: above 1 only if two digits show it.
+    /// The ratio as printed, with two digits.
     fn ratio(&self) -> f64 {
         (100.0 * self.times.ours / self.times.theirs).round() / 100.0
     }
@@ -35,79 +39,124 @@ impl Row {
         self.times.ours / self.wires as f64
     }
 
-    fn text(&self, growth: &str, mark: &str) -> String {
+    /// Whether both are the same call at the same order, at whatever size.
+    fn same_call(&self, other: &Row) -> bool {
+        self.call == other.call && self.order == other.order
+    }
+
+    /// One of the largest tables, which stand together.
+    fn is_largest(&self) -> bool {
+        self.call.contains(',')
+    }
+
+    /// The ratio that a row should not exceed.
+    fn goal(&self) -> f64 {
+        if self.call == MAP_AGAINST_RUNS { MAP_GOAL } else { 1.0 }
+    }
+}
+
+/// A row in a file: its parts, with tabs between them.
+impl fmt::Display for Row {
+    fn fmt(&self, f: &mut fmt::Formatter<'_>) -> fmt::Result {
         let Row { call, wires, times: Times { ours, theirs }, .. } = self;
-        let order = self.order.map_or("-".into(), |order| order.to_string());
-        let (ours, theirs, ratio) = (ours / 1e3, theirs / 1e3, self.ratio());
-        let row = format!(
-            "{call:<13} {order:>5} {wires:>6} {ours:>9.2} {theirs:>9.2} {ratio:>6.2} {growth:>7} {mark}"
-        );
-        row.trim_end().to_string()
+        write!(f, "{call}\t{}\t{wires}\t{ours}\t{theirs}", self.order.unwrap_or(0))
     }
 }
 
-/// What was printed so far.
-pub struct Report {
-    ratios: usize,
-    above: usize,
-    /// Of the archive's maps against two runs, the largest ratio.
-    map_against_runs: Option<f64>,
-    largest_growth: f64,
+fn number<T: FromStr>(text: &str) -> Result<T, String> {
+    text.parse().map_err(|_| format!("no number: {text}"))
 }
 
-impl Report {
-    pub fn start() -> Self {
-        println!("{ABOUT}");
-        println!(
-            "{:<13} {:>5} {:>6} {:>9} {:>9} {:>6} {:>7}",
-            "call", "order", "wires", "ours", "Rust", "ratio", "growth"
-        );
-        Report { ratios: 0, above: 0, map_against_runs: None, largest_growth: 0.0 }
-    }
+impl FromStr for Row {
+    type Err = String;
 
-    pub fn row(&mut self, row: Row) {
-        self.with_growth(row, "");
+    fn from_str(line: &str) -> Result<Self, String> {
+        let parts: Vec<&str> = line.split('\t').collect();
+        let [call, order, wires, ours, theirs] = parts[..] else {
+            return Err(format!("no row: {line}"));
+        };
+        let order: u8 = number(order)?;
+        let times = Times { ours: number(ours)?, theirs: number(theirs)? };
+        Ok(Row::new(call, (order > 0).then_some(order), number(wires)?, times))
     }
+}
 
-    /// The same call from the smallest to the largest size.
-    pub fn growing(&mut self, rows: [Row; 3]) {
-        let [small, middle, large] = rows;
-        let growth = large.a_wire() / small.a_wire();
-        self.largest_growth = self.largest_growth.max(growth);
-        self.with_growth(small, "");
-        self.with_growth(middle, "");
-        self.with_growth(large, &format!("{growth:.2}"));
-    }
-
-    fn with_growth(&mut self, row: Row, growth: &str) {
-        self.ratios += 1;
-        let is_above = row.ratio() > 1.0;
-        println!("{}", row.text(growth, if is_above { "<-- above 1.00" } else { "" }));
-        if is_above {
-            self.above += 1;
+/// The same rows measured in several layouts, as one: the medians.
+pub fn combined(layouts: &[Vec<Row>]) -> Result<Vec<Row>, String> {
+    let Some((first, others)) = layouts.split_first() else {
+        return Err("nothing was measured".into());
+    };
+    let mut rows = first.clone();
+    for (at, row) in rows.iter_mut().enumerate() {
+        let mut times = vec![row.times];
+        for other in others {
+            let same =
+                other.get(at).filter(|other| row.same_call(other) && row.wires == other.wires);
+            times.push(same.ok_or("the layouts have different rows")?.times);
         }
+        row.times = Times {
+            ours: median(times.iter().map(|times| times.ours).collect()),
+            theirs: median(times.iter().map(|times| times.theirs).collect()),
+        };
     }
+    Ok(rows)
+}
 
-    /// The archive's map against two of its runs of the masked table, in the second column.
-    pub fn against_runs(&mut self, row: Row) {
-        let ratio = row.ratio();
-        self.map_against_runs = Some(self.map_against_runs.map_or(ratio, |most| most.max(ratio)));
-        println!("{}", row.text("", if ratio > MAP_GOAL { "<-- above 3" } else { "" }));
+fn median(mut times: Vec<f64>) -> f64 {
+    times.sort_unstable_by(f64::total_cmp);
+    let middle = times.len() / 2;
+    if times.len().is_multiple_of(2) {
+        (times[middle - 1] + times[middle]) / 2.0
+    } else {
+        times[middle]
     }
+}
 
-    /// An empty line between calls.
-    pub fn gap(&mut self) {
-        println!();
-    }
-
-    pub fn end(self) {
-        println!();
-        println!("{} of {} ratios are above 1.00.", self.above, self.ratios);
-        println!("The largest growth is {:.2}.", self.largest_growth);
-        if let Some(ratio) = self.map_against_runs {
-            println!(
-                "A map costs at most {ratio:.2} times two runs of the masked table (goal: 3)."
-            );
+/// Prints the table and what stands out in it.
+pub fn print(rows: &[Row], layouts: usize) {
+    println!("{ABOUT}");
+    println!("Each is the median over {layouts} places in memory that the code was linked to.\n");
+    println!("call          order  wires      ours      Rust  ratio  growth");
+    let (mut above, mut largest_growth, mut map_ratio) = (0, 0_f64, None);
+    for (at, row) in rows.iter().enumerate() {
+        let before = at.checked_sub(1).map(|before| &rows[before]);
+        if before.is_some_and(|b| b.call != row.call && !(b.is_largest() && row.is_largest())) {
+            println!();
         }
+        let growth = growth(rows, at);
+        largest_growth = largest_growth.max(growth.unwrap_or(0.0));
+        if row.call == MAP_AGAINST_RUNS {
+            map_ratio = Some(map_ratio.map_or(row.ratio(), |most: f64| most.max(row.ratio())));
+        } else if row.ratio() > 1.0 {
+            above += 1;
+        }
+        println!("{}", text(row, growth));
     }
+    let ratios = rows.iter().filter(|row| row.call != MAP_AGAINST_RUNS).count();
+    println!(
+        "\n{above} of {ratios} ratios are above 1.00. The largest growth is {largest_growth:.2}."
+    );
+    if let Some(ratio) = map_ratio {
+        println!("A map costs at most {ratio:.2} times two runs of the masked table (goal: 3).");
+    }
+}
+
+/// The growth of a call, at its largest size, from its smallest, which comes two rows before.
+fn growth(rows: &[Row], at: usize) -> Option<f64> {
+    let (small, large) = (&rows[at.checked_sub(2)?], &rows[at]);
+    let grows = small.same_call(large) && large.call != MAP_AGAINST_RUNS;
+    grows.then(|| large.a_wire() / small.a_wire())
+}
+
+fn text(row: &Row, growth: Option<f64>) -> String {
+    let Row { call, wires, times: Times { ours, theirs }, .. } = row;
+    let order = row.order.map_or("-".into(), |order| order.to_string());
+    let (ours, theirs, ratio) = (ours / 1e3, theirs / 1e3, row.ratio());
+    let growth = growth.map_or(String::new(), |growth| format!("{growth:.2}"));
+    let mark =
+        if ratio > row.goal() { format!("<-- above {:.2}", row.goal()) } else { String::new() };
+    let text = format!(
+        "{call:<13} {order:>5} {wires:>6} {ours:>9.2} {theirs:>9.2} {ratio:>6.2} {growth:>7} {mark}"
+    );
+    text.trim_end().to_string()
 }
