@@ -11,3 +11,4 @@ pub mod masks;
 pub mod model;
 pub mod properties;
 pub mod rng;
+pub mod samples;

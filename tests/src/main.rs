@@ -4,8 +4,12 @@
 //!     compare fuzz SECONDS [--seed N]   generated cases for so long, from the clock's seed or N
 //!     compare case CALL SEED            one generated case again, shown in full
 //!     compare line FILE                 the line that the forecast program prints for an input
+//!     compare programs                  tests the programs in target/bin and ./fantzori
+//!     compare examples                  writes the tables under examples/ again
 
+mod commands;
 mod ffi;
+mod programs;
 
 use std::process::ExitCode;
 use std::time::{Duration, Instant, SystemTime};
@@ -27,7 +31,9 @@ const USAGE: &str = "\
 usage: compare [--seed N]
        compare fuzz SECONDS [--seed N]
        compare case CALL SEED
-       compare line FILE";
+       compare line FILE
+       compare programs
+       compare examples";
 
 /// The calls that the archive has.
 fn calls() -> &'static [Call] {
@@ -46,6 +52,8 @@ fn main() -> ExitCode {
         }
         ["case", call, seed] => number(seed).and_then(|seed| repeat_case(call, seed)),
         ["line", file] => print_line(file),
+        ["programs"] => programs::test().and_then(|()| commands::test()),
+        ["examples"] => programs::write_examples(),
         _ => Err(USAGE.into()),
     };
     match result {
