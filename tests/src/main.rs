@@ -20,7 +20,7 @@ use compare::compare::{Tally, compare};
 use compare::masks::{Model, Outcome};
 use compare::properties::check_mapping;
 use compare::rng::Rng;
-use compare::{examples, exhaustive, generate, model};
+use compare::{examples, exhaustive, generate, model, sampled};
 
 use ffi::Archive;
 
@@ -93,6 +93,9 @@ fn compare_all(seed: u64) -> Result<(), String> {
         println!("{}: {}", call.name(), tallies[call as usize]);
     }
     compare_all_tapes()?;
+    if cfg!(feature = "map") {
+        compare_sampled_maps(seed)?;
+    }
     match calls().iter().find_map(|&call| tallies[call as usize].missing(call)) {
         Some(missing) => Err(format!("FAILED: {missing}")),
         None => Ok(()),
@@ -157,6 +160,26 @@ fn compare_all_tapes() -> Result<(), String> {
         runs += exhaustive::check_patterns(&Archive, &circuit, 2).map_err(told)?;
     }
     println!("all tapes of {} small circuits: {runs} runs, {maps} maps", circuits.len());
+    Ok(())
+}
+
+/// Drawn maps of the same circuits and of the examples at higher orders.
+fn compare_sampled_maps(seed: u64) -> Result<(), String> {
+    let mut rng = Rng::new(seed);
+    for (order, count) in sampled::ORDERS {
+        let circuits = sampled::circuits();
+        for circuit in &circuits {
+            for _ in 0..count {
+                let case = Case::Map(sampled::draw(&mut rng, circuit, order));
+                let outcome =
+                    compare_case(&case).map_err(|text| format!("FAILED: {case}\n{text}"))?;
+                if outcome.number != 0 {
+                    return Err(format!("FAILED: {case}\nrefused with {}", outcome.number));
+                }
+            }
+        }
+        println!("maps of {} circuits at order {order}: {count} each", circuits.len());
+    }
     Ok(())
 }
 

@@ -10,6 +10,7 @@ use crate::generate::generate;
 use crate::masks::Model;
 use crate::properties::check_mapping;
 use crate::rng::Rng;
+use crate::sampled;
 use crate::samples::{bits, samples};
 
 #[test]
@@ -104,6 +105,20 @@ fn all_tapes_of_small_circuits_hold_together() {
     }
     for circuit in circuits_for_order_2() {
         check_patterns(&Model, &circuit, 2).unwrap();
+    }
+}
+
+#[test]
+fn sampled_maps_hold() {
+    let mut rng = Rng::new(1);
+    for circuit in sampled::circuits() {
+        for order in [2, 3] {
+            let case = Case::Map(sampled::draw(&mut rng, &circuit, order));
+            let mut buffers = case.buffers();
+            let outcome = case.put_to(&Model, &mut buffers);
+            let Case::Map(map) = &case else { unreachable!("a map was drawn") };
+            assert_eq!(check_mapping(&Model, map, outcome.values[0], &buffers), Ok(()), "{case}");
+        }
     }
 }
 
