@@ -16,38 +16,40 @@ pub struct Times {
     pub theirs: f64,
 }
 
-/// Calls both in rounds, one batch each, and each comes first in every other round.
-pub fn race(mut ours: impl FnMut(), mut theirs: impl FnMut()) -> Times {
-    let calls = calls_a_batch(&mut ours).max(calls_a_batch(&mut theirs));
+/// Does both in rounds, one batch each, and each comes first in every other round. The work is so
+/// many calls.
+pub fn race(calls: usize, mut ours: impl FnMut(), mut theirs: impl FnMut()) -> Times {
+    let times = times_a_batch(&mut ours).max(times_a_batch(&mut theirs));
     let (mut our_times, mut their_times) = (Vec::new(), Vec::new());
     let start = Instant::now();
     while our_times.len() < LEAST_ROUNDS
         || (our_times.len() < MOST_ROUNDS && start.elapsed() < BUDGET)
     {
         if our_times.len().is_multiple_of(2) {
-            our_times.push(batch(calls, &mut ours));
-            their_times.push(batch(calls, &mut theirs));
+            our_times.push(batch(times, &mut ours));
+            their_times.push(batch(times, &mut theirs));
         } else {
-            their_times.push(batch(calls, &mut theirs));
-            our_times.push(batch(calls, &mut ours));
+            their_times.push(batch(times, &mut theirs));
+            our_times.push(batch(times, &mut ours));
         }
     }
-    let a_call = |times: Vec<Duration>| median(times).as_nanos() as f64 / f64::from(calls);
+    let in_a_batch = (times * calls) as f64;
+    let a_call = |durations| median(durations).as_nanos() as f64 / in_a_batch;
     Times { ours: a_call(our_times), theirs: a_call(their_times) }
 }
 
-/// How many calls fill a batch; finding that out also warms the work up.
-fn calls_a_batch(work: &mut impl FnMut()) -> u32 {
-    let mut calls = 1;
-    while batch(calls, work) < BATCH {
-        calls *= 2;
+/// How often the work fills a batch; finding that out also warms it up.
+fn times_a_batch(work: &mut impl FnMut()) -> usize {
+    let mut times = 1;
+    while batch(times, work) < BATCH {
+        times *= 2;
     }
-    calls
+    times
 }
 
-fn batch(calls: u32, work: &mut impl FnMut()) -> Duration {
+fn batch(times: usize, work: &mut impl FnMut()) -> Duration {
     let start = Instant::now();
-    for _ in 0..calls {
+    for _ in 0..times {
         work();
     }
     start.elapsed()

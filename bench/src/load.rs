@@ -4,9 +4,6 @@ use compare::circuit::{Circuit, Gate, random};
 use compare::model::{self, AND, NOT, RANDOM, XOR};
 use compare::rng::Rng;
 
-use crate::clock::Times;
-use crate::report::Row;
-
 /// The inputs and outputs of every generated table.
 const INPUTS: usize = 8;
 const OUTPUTS: usize = 8;
@@ -112,10 +109,5 @@ impl Masking {
     /// The number of masked wires.
     pub fn wires(&self) -> usize {
         self.masked.wires
-    }
-
-    /// The row of a call on it.
-    pub fn row(&self, call: &str, times: Times) -> Row {
-        Row::new(call, Some(self.order), self.wires(), times)
     }
 }

@@ -5,8 +5,9 @@
 //!     bench report FILE..    prints the table of rows measured in one layout or several
 //!
 //! Both are called through the same trait on slices, with buffers that are lent once and used
-//! again; neither is inlined into the loop that measures it. Before anything is measured, both
-//! must answer and write the same.
+//! again; neither is inlined into the loop that measures it. A size is measured on as many
+//! different inputs as make up the largest size together, in turn, so that the processor cannot
+//! learn a small one by heart. Before anything is measured, both must answer and write the same.
 
 mod clock;
 #[path = "../../tests/src/ffi.rs"]
@@ -16,6 +17,7 @@ mod load;
 mod report;
 
 use std::hint::black_box;
+use std::iter::repeat_with;
 use std::process::ExitCode;
 use std::{env, fs};
 
@@ -71,15 +73,21 @@ fn report(files: &[String]) -> Result<(), String> {
 
 /// Each call at each order and size.
 fn sized(rng: &mut Rng) -> Vec<Row> {
-    let maskings = ORDERS.map(|order| SIZES.map(|size| masking(rng, order, size)));
+    let maskings: Vec<Vec<Masking>> = ORDERS
+        .iter()
+        .flat_map(|&order| SIZES.map(|size| (order, size)))
+        .map(|(order, size)| inputs_of(size, || masking(rng, order, size)))
+        .collect();
     let mut rows = Vec::new();
-    let mut on_maskings = |call, time: &dyn Fn(&Masking) -> Times| {
-        rows.extend(maskings.iter().flatten().map(|masking| masking.row(call, time(masking))));
+    let mut on_maskings = |call, time: &dyn Fn(&[Masking]) -> Times| {
+        rows.extend(maskings.iter().map(|maskings| masking_row(call, maskings, time(maskings))));
     };
-    on_maskings("check", &|masking| check(&masking.masked.table));
+    on_maskings("check", &|maskings| {
+        check(&maskings.iter().map(|m| &m.masked).collect::<Vec<_>>())
+    });
     on_maskings("forecast", &forecast);
     on_maskings("mask", &mask);
-    on_maskings("run", &|masking| run(&masking.masked));
+    on_maskings("run", &|maskings| run(&maskings.iter().map(|m| &m.masked).collect::<Vec<_>>()));
     if cfg!(feature = "map") {
         on_maskings("map", &map);
         on_maskings(MAP_AGAINST_RUNS, &map_and_two_runs);
@@ -92,9 +100,20 @@ fn sized(rng: &mut Rng) -> Vec<Row> {
     rows
 }
 
+/// As many inputs of a size as make up the largest size together.
+fn inputs_of<T>(size: usize, input: impl FnMut() -> T) -> Vec<T> {
+    repeat_with(input).take(SIZES[2] / size).collect()
+}
+
 fn masking(rng: &mut Rng, order: u8, most_wires: usize) -> Masking {
     let plain = plain_table(rng, order, most_wires);
     Masking::new(rng, plain, order)
+}
+
+/// The row of a call on maskings at one order; its wires are those of the first, as all have
+/// about as many.
+fn masking_row(call: &str, maskings: &[Masking], times: Times) -> Row {
+    Row::new(call, Some(maskings[0].order), maskings[0].wires(), times)
 }
 
 /// The largest tables.
@@ -104,60 +123,65 @@ fn largest(rng: &mut Rng) -> Vec<Row> {
     let mut rows = Vec::new();
     for (name, table) in [("mixed", mixed), ("ANDs", ands)] {
         let running = Running::new(rng, table);
-        let (wires, table) = (running.wires, &running.table);
-        rows.push(Row::new(&format!("check, {name}"), None, wires, check(table)));
-        rows.push(Row::new(&format!("run, {name}"), None, wires, run(&running)));
+        rows.push(Row::new(&format!("check, {name}"), None, running.wires, check(&[&running])));
+        rows.push(Row::new(&format!("run, {name}"), None, running.wires, run(&[&running])));
     }
-    let masking = Masking::new(rng, and_chain(2_730), 1);
-    rows.push(masking.row("mask, ANDs", mask(&masking)));
+    let maskings = [Masking::new(rng, and_chain(2_730), 1)];
+    rows.push(masking_row("mask, ANDs", &maskings, mask(&maskings)));
     rows
 }
 
-/// Measures a call that writes into so many buffers of given lengths, once both have answered and
-/// written the same.
-fn measure<const N: usize>(
-    lengths: [usize; N],
-    ours: impl Fn(&mut [Vec<u8>; N]) -> Outcome,
-    theirs: impl Fn(&mut [Vec<u8>; N]) -> Outcome,
+/// Measures a call on several inputs in turn, once both have answered and written the same on
+/// each. The call writes into buffers of the lengths that an input asks for.
+fn measure<T, const N: usize>(
+    inputs: &[T],
+    lengths: impl Fn(&T) -> [usize; N],
+    call: impl Fn(&dyn Masks, &T, &mut [Vec<u8>; N]) -> Outcome,
 ) -> Times {
-    let lent = || lengths.map(|length| vec![2_u8; length]);
+    for input in inputs {
+        let lent = || lengths(input).map(|length| vec![2_u8; length]);
+        let (mut our_buffers, mut their_buffers) = (lent(), lent());
+        let ours = call(&Archive, input, &mut our_buffers);
+        let theirs = call(&Model, input, &mut their_buffers);
+        assert_eq!(ours.number, 0, "a sound call is refused");
+        assert!(ours == theirs && our_buffers == their_buffers, "the results differ");
+    }
+    let lent = || longest(inputs.iter().map(&lengths)).map(|length| vec![2_u8; length]);
     let (mut our_buffers, mut their_buffers) = (lent(), lent());
-    let (our_outcome, their_outcome) = (ours(&mut our_buffers), theirs(&mut their_buffers));
-    assert_eq!(our_outcome.number, 0, "a sound call is refused");
-    assert!(our_outcome == their_outcome && our_buffers == their_buffers, "the results differ");
-    race(
-        || {
-            black_box(ours(black_box(&mut our_buffers)));
-        },
-        || {
-            black_box(theirs(black_box(&mut their_buffers)));
-        },
+    let sweep = |masks: &dyn Masks, buffers: &mut [Vec<u8>; N]| {
+        for input in inputs {
+            black_box(call(masks, black_box(input), black_box(buffers)));
+        }
+    };
+    race(inputs.len(), || sweep(&Archive, &mut our_buffers), || sweep(&Model, &mut their_buffers))
+}
+
+/// The longest of each length.
+fn longest<const N: usize>(all: impl Iterator<Item = [usize; N]>) -> [usize; N] {
+    all.fold([0; N], |longest, lengths| std::array::from_fn(|at| longest[at].max(lengths[at])))
+}
+
+fn check(runnings: &[&Running]) -> Times {
+    measure(runnings, |_| [], |masks, running, []| masks.check(&running.table))
+}
+
+fn forecast(maskings: &[Masking]) -> Times {
+    measure(maskings, |_| [], |masks, masking, []| masks.forecast(&masking.plain, masking.order))
+}
+
+fn mask(maskings: &[Masking]) -> Times {
+    measure(
+        maskings,
+        |masking| [masking.sizes.bytes as usize],
+        |masks, masking, [out]| masks.mask(&masking.plain, masking.order, out),
     )
 }
 
-fn check(table: &[u8]) -> Times {
-    let call = |masks: &dyn Masks| masks.check(black_box(table));
-    measure([], |_| call(&Archive), |_| call(&Model))
-}
-
-fn forecast(masking: &Masking) -> Times {
-    let call =
-        |masks: &dyn Masks| masks.forecast(black_box(&masking.plain), black_box(masking.order));
-    measure([], |_| call(&Archive), |_| call(&Model))
-}
-
-fn mask(masking: &Masking) -> Times {
-    let call = |masks: &dyn Masks, out: &mut [u8]| {
-        masks.mask(black_box(&masking.plain), black_box(masking.order), out)
-    };
-    measure([masking.sizes.bytes as usize], |[out]| call(&Archive, out), |[out]| call(&Model, out))
-}
-
-fn run(running: &Running) -> Times {
+fn run(runnings: &[&Running]) -> Times {
     measure(
-        [running.wires, running.outputs],
-        |[values, outputs]| run_once(&Archive, running, values, outputs),
-        |[values, outputs]| run_once(&Model, running, values, outputs),
+        runnings,
+        |running| [running.wires, running.outputs],
+        |masks, running, [values, outputs]| run_once(masks, running, values, outputs),
     )
 }
 
@@ -168,42 +192,37 @@ fn run_once(
     outputs: &mut [u8],
 ) -> Outcome {
     let Running { table, inputs, random, .. } = running;
-    masks.run(black_box(table), black_box(inputs), black_box(random), values, outputs)
+    masks.run(table, inputs, random, values, outputs)
 }
 
 /// As many secrets as have at most so many shares.
 fn encode(rng: &mut Rng, order: u8, most_shares: usize) -> Row {
     let n = 2 * usize::from(order) + 1;
-    let secrets = rng.bits(most_shares / n);
-    let tape = rng.bits((n - 1) * secrets.len());
-    let shares = n * secrets.len();
-    let call = |masks: &dyn Masks, out: &mut [u8]| {
-        masks.encode(black_box(order), black_box(&secrets), black_box(&tape), out)
-    };
-    let times = measure([shares], |[out]| call(&Archive, out), |[out]| call(&Model, out));
-    Row::new("encode", Some(order), shares, times)
+    let count = most_shares / n;
+    let inputs = inputs_of(most_shares, || (rng.bits(count), rng.bits((n - 1) * count)));
+    let times = measure(
+        &inputs,
+        |_| [n * count],
+        |masks, (secrets, tape), [out]| masks.encode(order, secrets, tape, out),
+    );
+    Row::new("encode", Some(order), n * count, times)
 }
 
 /// As many shares as `encode` writes.
 fn decode(rng: &mut Rng, order: u8, most_shares: usize) -> Row {
     let n = 2 * usize::from(order) + 1;
-    let secrets = most_shares / n;
-    let shares = rng.bits(n * secrets);
-    let call =
-        |masks: &dyn Masks, out: &mut [u8]| masks.decode(black_box(order), black_box(&shares), out);
-    let times = measure([secrets], |[out]| call(&Archive, out), |[out]| call(&Model, out));
-    Row::new("decode", Some(order), shares.len(), times)
+    let count = most_shares / n;
+    let inputs = inputs_of(most_shares, || rng.bits(n * count));
+    let times =
+        measure(&inputs, |_| [count], |masks, shares, [out]| masks.decode(order, shares, out));
+    Row::new("decode", Some(order), n * count, times)
 }
 
-fn map(masking: &Masking) -> Times {
-    measure(
-        map_buffers(masking),
-        |buffers| map_once(&Archive, masking, buffers),
-        |buffers| map_once(&Model, masking, buffers),
-    )
+fn map(maskings: &[Masking]) -> Times {
+    measure(maskings, map_lengths, map_once)
 }
 
-fn map_buffers(masking: &Masking) -> [usize; 3] {
+fn map_lengths(masking: &Masking) -> [usize; 3] {
     [masking.sizes.tape as usize, masking.wires(), masking.wires()]
 }
 
@@ -212,33 +231,29 @@ fn map_once(
     masking: &Masking,
     [mapped, one, other]: &mut [Vec<u8>; 3],
 ) -> Outcome {
-    let Mapping { first, second, tape, probes } = &masking.mapping;
-    masks.map(
-        black_box(&masking.plain),
-        black_box(masking.order),
-        black_box(first),
-        black_box(second),
-        black_box(tape),
-        black_box(probes),
-        mapped,
-        one,
-        other,
-    )
+    let Masking { plain, order, mapping, .. } = masking;
+    let Mapping { first, second, tape, probes } = mapping;
+    masks.map(plain, *order, first, second, tape, probes, mapped, one, other)
 }
 
 /// The archive's map, against two of its runs of the masked table.
-fn map_and_two_runs(masking: &Masking) -> Times {
-    let running = &masking.masked;
-    let mut map_lent = map_buffers(masking).map(|length| vec![2; length]);
-    let (mut values, mut outputs) = (vec![2; running.wires], vec![2; running.outputs]);
+fn map_and_two_runs(maskings: &[Masking]) -> Times {
+    let mut map_lent = longest(maskings.iter().map(map_lengths)).map(|length| vec![2; length]);
+    let mut run_lent = [map_lent[1].clone(), vec![2; maskings[0].masked.outputs]];
     race(
+        maskings.len(),
         || {
-            black_box(map_once(&Archive, masking, black_box(&mut map_lent)));
+            for masking in maskings {
+                black_box(map_once(&Archive, black_box(masking), black_box(&mut map_lent)));
+            }
         },
         || {
-            for _ in 0..2 {
-                let (values, outputs) = (black_box(&mut values), black_box(&mut outputs));
-                black_box(run_once(&Archive, running, values, outputs));
+            for masking in maskings {
+                for _ in 0..2 {
+                    let (running, lent) = (black_box(&masking.masked), black_box(&mut run_lent));
+                    let [values, outputs] = lent;
+                    black_box(run_once(&Archive, running, values, outputs));
+                }
             }
         },
     )

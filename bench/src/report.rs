@@ -9,7 +9,7 @@ const ABOUT: &str = "\
 Microseconds a call, the median of many: this library's, then those of the separate implementation
 in Rust. A ratio above 1.00 is marked. Wires are those of the masked table, in encode and decode the
 share bits. Growth is the time for each wire at the largest size against the smallest. An AND takes
-24, 75, 750 and 3,286 wires at order 1, 2, 7 and 15: at 15 the smallest table has none.";
+24, 75, 750 and 3,286 wires at order 1, 2, 7 and 15: at 15 the smallest tables have none.";
 
 /// The call of a row that compares the library's map with two of its runs.
 pub const MAP_AGAINST_RUNS: &str = "map / 2 runs";
@@ -115,7 +115,9 @@ fn median(mut times: Vec<f64>) -> f64 {
 /// Prints the table and what stands out in it.
 pub fn print(rows: &[Row], layouts: usize) {
     println!("{ABOUT}");
-    println!("Each is the median over {layouts} places in memory that the code was linked to.\n");
+    println!(
+        "Each time is the median over {layouts} places in memory to which the code was linked.\n"
+    );
     println!("call          order  wires      ours      Rust  ratio  growth");
     let (mut above, mut largest_growth, mut map_ratio) = (0, 0_f64, None);
     for (at, row) in rows.iter().enumerate() {
