@@ -1,8 +1,9 @@
 //! Tests of the commands `./fantzori mask`, `forecast` and `show`, in a folder of their own.
 
-use std::path::{Path, PathBuf};
+use std::path::PathBuf;
 use std::process::Command;
-use std::{env, fs, process};
+use std::time::{Duration, Instant};
+use std::{env, fs, process, thread};
 
 use compare::circuit::{Circuit, and, not, random};
 use compare::examples::{and_chain, the_and};
@@ -20,7 +21,10 @@ pub fn test() -> Result<(), String> {
     refusals(&folder)?;
     bad_arguments(&folder)?;
     shows_and_forecasts(&folder)?;
-    println!("commands: mask, forecast and show, refusals, bad arguments, files in the way");
+    interrupt(&folder)?;
+    println!(
+        "commands: mask, forecast and show, refusals, bad arguments, files in the way, an interrupt"
+    );
     Ok(())
 }
 
@@ -139,6 +143,36 @@ fn shows_and_forecasts(folder: &Folder) -> Result<(), String> {
     Ok(())
 }
 
+/// A command that is ended while it reads its table leaves no temporary file and no OUT.
+fn interrupt(folder: &Folder) -> Result<(), String> {
+    let io = |error| folder.told(error);
+    let (pipe, scratch) = (folder.path("pipe"), folder.path("scratch"));
+    fs::create_dir(&scratch).map_err(io)?;
+    let made = Command::new("mkfifo").arg(&pipe).status().map_err(io)?;
+    let mut child = folder
+        .command(&["mask", "1", "pipe", "not there"])?
+        .env("TMPDIR", &scratch)
+        .spawn()
+        .map_err(io)?;
+    // Opened for both, so that opening does not wait, and nothing comes through it.
+    let writer = fs::File::options().read(true).write(true).open(&pipe).map_err(io)?;
+    let count = || fs::read_dir(&scratch).map(Iterator::count).map_err(io);
+    let start = Instant::now();
+    while count()? == 0 && start.elapsed() < Duration::from_secs(10) {
+        thread::sleep(Duration::from_millis(5));
+    }
+    let before = count()?;
+    let pid = child.id().to_string();
+    let ended = Command::new("kill").args(["-TERM", &pid]).status().map_err(io)?;
+    drop(writer);
+    let status = child.wait().map_err(io)?;
+    let sound = made.success() && ended.success() && before == 1;
+    if sound && status.code() == Some(143) && count()? == 0 {
+        return ensure_kept(folder);
+    }
+    Err(format!("FAILED: an interrupt: {status}, {before} temporary folders, {} left", count()?))
+}
+
 fn ensure(holds: bool, ran: &Ran, what: &str) -> Result<(), String> {
     if holds { Ok(()) } else { Err(format!("FAILED: {what}\n{ran:?}")) }
 }
@@ -207,14 +241,16 @@ impl Folder {
         entries.map(name).collect::<Result<_, _>>().map_err(|error| self.told(error))
     }
 
-    /// Runs ./fantzori from this folder.
+    /// ./fantzori, run from this folder.
+    fn command(&self, arguments: &[&str]) -> Result<Command, String> {
+        let root = fs::canonicalize(root()).map_err(|error| self.told(error))?;
+        let mut command = Command::new(root.join("fantzori"));
+        command.args(arguments).current_dir(&self.0);
+        Ok(command)
+    }
+
     fn run(&self, arguments: &[&str]) -> Result<Ran, String> {
-        let script = fs::canonicalize(root()).map_err(|error| self.told(error))?.join("fantzori");
-        let output = Command::new(Path::new(&script))
-            .args(arguments)
-            .current_dir(&self.0)
-            .output()
-            .map_err(|error| self.told(error))?;
+        let output = self.command(arguments)?.output().map_err(|error| self.told(error))?;
         Ok(Ran {
             arguments: arguments.iter().map(|argument| argument.to_string()).collect(),
             status: output.status.code(),
