@@ -4,3 +4,4 @@ pub mod Flipping
 pub mod Seeing
 pub mod Faults
 pub mod Working
+pub mod Mapping

@@ -18,6 +18,7 @@ ghost use Rattle.mapping.specs.Faults.{supplyFault, probesFault, roomFau
 ghost use Rattle.mapping.specs.Working.{BeginReady, BegunSays, WorkReady, WorkSays};
 ghost use Rattle.mapping.specs.Seeing.{Seen, Probes, MarkReady};
 ghost use Rattle.mapping.specs.Flipping.{FlipReady};
+ghost use Rattle.maps.specs.Says.{MapSays};
 ghost use Rattle.maps.specs.Walk.{offset, inRow, gateDiffers, afterGate};
 ghost use Rattle.mapping.specs.Walking.{
   gateOf,
@@ -480,4 +481,213 @@ fn walk_plan(
         one,
         other,
     );
+}
+
+// Maps with the masked table of a plan, written into a buffer that has room for it; k is the free share.
+fn map_with(
+    table: &[u8],
+    p: sizing::Plan,
+    k: usize,
+    first: &[u8],
+    second: &[u8],
+    tape: &[u8],
+    masked: &mut [u8],
+    mapped: &mut [u8],
+    one: &mut [u8],
+    other: &mut [u8],
+)
+    requires { ⌜ WorkReady (now table) p k (now first) (now second) (now tape) (now mapped) (now one) (now other)
+        × (planBytes p ≤ length (now masked)) ⌝ }
+    ensures { λ _. ⌜ WorkSays (now (table .entry)) (orderOf p) k
+        (now (first .entry))
+        (now (second .entry))
+        (now (tape .entry))
+        (now (mapped .entry))
+        (now (mapped .exit))
+        (now (one .entry))
+        (now (one .exit))
+        (now (other .entry))
+        (now (other .exit)) ⌝ }
+{
+    let order = p.shares / 2;
+    let place = 2 * order * p.inputs;
+    let bytes = sizing::plan_bytes(p);
+    masking::mask_into(table, p, masked);
+    begin_runs(order, k, first, second, &tape[..place], mapped, one, other);
+    walk_plan(
+        &masked[..bytes],
+        p,
+        k,
+        &tape[place..],
+        &mut mapped[place..],
+        one,
+        other,
+    );
+}
+
+// Maps where the masked table has few bytes.
+fn map_small(
+    table: &[u8],
+    p: sizing::Plan,
+    k: usize,
+    first: &[u8],
+    second: &[u8],
+    tape: &[u8],
+    mapped: &mut [u8],
+    one: &mut [u8],
+    other: &mut [u8],
+)
+    requires { ⌜ WorkReady (now table) p k (now first) (now second) (now tape) (now mapped) (now one) (now other)
+        × (planBytes p ≤ 8192) ⌝ }
+    ensures { λ _. ⌜ WorkSays (now (table .entry)) (orderOf p) k
+        (now (first .entry))
+        (now (second .entry))
+        (now (tape .entry))
+        (now (mapped .entry))
+        (now (mapped .exit))
+        (now (one .entry))
+        (now (one .exit))
+        (now (other .entry))
+        (now (other .exit)) ⌝ }
+{
+    let mut masked = [0u8; 8192];
+    map_with(
+        table,
+        p,
+        k,
+        first,
+        second,
+        tape,
+        &mut masked,
+        mapped,
+        one,
+        other,
+    );
+}
+
+// Maps where the masked table has any number of bytes.
+fn map_large(
+    table: &[u8],
+    p: sizing::Plan,
+    k: usize,
+    first: &[u8],
+    second: &[u8],
+    tape: &[u8],
+    mapped: &mut [u8],
+    one: &mut [u8],
+    other: &mut [u8],
+)
+    requires { ⌜ WorkReady (now table) p k (now first) (now second) (now tape) (now mapped) (now one) (now other) ⌝ }
+    ensures { λ _. ⌜ WorkSays (now (table .entry)) (orderOf p) k
+        (now (first .entry))
+        (now (second .entry))
+        (now (tape .entry))
+        (now (mapped .entry))
+        (now (mapped .exit))
+        (now (one .entry))
+        (now (one .exit))
+        (now (other .entry))
+        (now (other .exit)) ⌝ }
+{
+    let mut masked = [0u8; 458751];
+    map_with(
+        table,
+        p,
+        k,
+        first,
+        second,
+        tape,
+        &mut masked,
+        mapped,
+        one,
+        other,
+    );
+}
+
+// The mapped tape and both runs, where nothing is refused; k is the free share.
+fn map_work(
+    table: &[u8],
+    p: sizing::Plan,
+    k: usize,
+    first: &[u8],
+    second: &[u8],
+    tape: &[u8],
+    mapped: &mut [u8],
+    one: &mut [u8],
+    other: &mut [u8],
+)
+    requires { ⌜ WorkReady (now table) p k (now first) (now second) (now tape) (now mapped) (now one) (now other) ⌝ }
+    ensures { λ _. ⌜ WorkSays (now (table .entry)) (orderOf p) k
+        (now (first .entry))
+        (now (second .entry))
+        (now (tape .entry))
+        (now (mapped .entry))
+        (now (mapped .exit))
+        (now (one .entry))
+        (now (one .exit))
+        (now (other .entry))
+        (now (other .exit)) ⌝ }
+{
+    if sizing::plan_bytes(p) <= 8192 {
+        map_small(table, p, k, first, second, tape, mapped, one, other);
+        return;
+    }
+    map_large(table, p, k, first, second, tape, mapped, one, other);
+}
+
+// Maps a tape from the first secret to the second so that every probe keeps its value: the mapped tape, both runs' values, and
+// the free share as the answer's value.
+pub fn map_tape(
+    table: &[u8],
+    order: u8,
+    first: &[u8],
+    second: &[u8],
+    tape: &[u8],
+    probes: &[u32],
+    mapped: &mut [u8],
+    one: &mut [u8],
+    other: &mut [u8],
+) -> tables::Answer
+    ensures { λ r. ⌜ MapSays (now (table .entry)) order
+        (now (first .entry))
+        (now (second .entry))
+        (now (tape .entry))
+        (now (probes .entry))
+        (now (mapped .entry))
+        (now (mapped .exit))
+        (now (one .entry))
+        (now (one .exit))
+        (now (other .entry))
+        (now (other .exit))
+        r ⌝ }
+{
+    let planned = map_fault(
+        table,
+        order,
+        first,
+        second,
+        tape,
+        probes,
+        mapped.len(),
+        one.len(),
+        other.len(),
+    );
+    match planned {
+        sizing::Planned::Refused(f) => {
+            return tables::Answer {
+                number: f.number,
+                place: f.place,
+                value: 0,
+            };
+        }
+        sizing::Planned::Ready(p) => {
+            let k = free_share(table, p, probes);
+            map_work(table, p, k, first, second, tape, mapped, one, other);
+            return tables::Answer {
+                number: 0,
+                place: 0,
+                value: k as u32,
+            };
+        }
+    }
 }
