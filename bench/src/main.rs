@@ -170,6 +170,9 @@ fn largest(gauge: Gauge, rng: &mut Rng) -> Vec<Row> {
     {
         let maskings = [Masking::new(rng, plain, 1)];
         rows.push(masking_row(&format!("mask, {name}"), &maskings, mask(gauge, &maskings)));
+        if cfg!(feature = "map") {
+            rows.push(masking_row(&format!("map, {name}"), &maskings, map(gauge, &maskings)));
+        }
     }
     rows
 }
