@@ -1,5 +1,4 @@
 -- Laws of mapping's parts, by subject.
-pub mod Walking
 pub mod Flipping
 pub mod Seeing
 pub mod Faults

@@ -48,10 +48,13 @@ table-front b {s} {p} {l} R e w =
     let M = tableBytes (maskedTable isw (orderOf p) (tableOf s)) in
     rw w (take-at M (drop (length M) b) l (bytes-are R ∙ sym e))
 
--- every masked table has room in a large cleared buffer
-pub bytes-room :
-    {s : List ℕ} {o : ℕ} {p : DP.Plan} (l : ℕ) → 458751 ≤ l → PlanReady s o p → planBytes p ≤ length {A = ℕ} (replicate l 0)
-bytes-room l h R = let f = plan-fits R in omega (arith, f .wires, f .outputs, length-replicate {A = ℕ} l 0)
+-- a cleared buffer of l bytes has room for as many
+pub room-at : (b l : ℕ) → b ≤ l → b ≤ length {A = ℕ} (replicate l 0)
+room-at b l h = omega (arith, length-replicate {A = ℕ} l 0)
+
+-- every masked table has at most as many bytes as the largest buffer
+pub bytes-few : {s : List ℕ} {o : ℕ} {p : DP.Plan} → PlanReady s o p → planBytes p ≤ 458751
+bytes-few R = let f = plan-fits R in omega (arith, f .wires, f .outputs)
 
 module _ (a b c : List ℕ) {s : List ℕ} {o : ℕ} {xs ys ts ps : List ℕ} {p : DP.Plan}
     (R : MapReady s o xs ys ts ps (length a) (length b) (length c) p) where

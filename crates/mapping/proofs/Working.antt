@@ -44,7 +44,7 @@ use Rattle.maps.proofs.Inputs.{flipped-length, flipped-bits}
 use Rattle.maps.proofs.TwoRuns.{mapped-length}
 use Rattle.maps.proofs.Walked.{crossing-masked, walked-mapped}
 use Rattle.maps.proofs.Written.{written}
-use Rattle.mapping.specs.Walking.{WalkReady, walkedBits, WalkSays}
+use Rattle.walking.specs.Walking.{WalkReady, walkedBits, WalkSays}
 use Rattle.mapping.specs.Flipping.{FlipReady}
 use Rattle.mapping.specs.Working.{BeginReady, BegunSays, WorkReady, WorkSays}
 

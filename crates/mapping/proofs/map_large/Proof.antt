@@ -2,10 +2,9 @@
 -- Assumes nothing.
 use mathlib.Core.Path.{sym}
 use Prim.Native.Nat.{ℕ}
-use native.Mathlib.Omega.{arith}
 use lib.ListN.{length-replicate}
 use borrow.Author.Needs.{needs}
-use Rattle.mapping.proofs.Mapping.{bytes-room}
+use Rattle.mapping.proofs.Mapping.{room-at, bytes-few}
 use Rattle.mapping.proofs.map_large.Statement.{statement}
 use Rattle.mapping.proofs.map_large.Tie as tie
 
@@ -15,7 +14,7 @@ slice-aggregate-map-with c = sym (length-replicate {A = ℕ} 458751 0)
 map-with-requires : tie.Need-map-with-requires
 map-with-requires c κs =
     let W = c .before .before .before .before .before .before .before .before .before .before .before .pre in
-    (W, bytes-room 458751 (omega arith) (W .plan))
+    (W, room-at _ 458751 (bytes-few (W .plan)))
 
 same-length : tie.Need-same-length
 same-length c = search needs

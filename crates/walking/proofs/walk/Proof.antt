@@ -1,10 +1,10 @@
--- `mapping::walk` meets its contract. The invariant: the walk over the gates left gives the second run's bits that are left.
+-- `walking::walk` meets its contract. The invariant: the walk over the gates left gives the second run's bits that are left.
 -- Assumes nothing.
 use Prim.Native.Nat.{_-_}
 use native.Mathlib.Numerals as num
 use native.Mathlib.Omega.{arith}
 use Rattle.running.proofs.Running.{left-there, right-there, gate-ready}
-use Rattle.mapping.proofs.Walking.{
+use Rattle.walking.proofs.Walking.{
   Walking,
   walking-start,
   bit-ready,
@@ -13,8 +13,8 @@ use Rattle.mapping.proofs.Walking.{
   walking-end,
 }
 use borrow.Author.Needs.{needs}
-use Rattle.mapping.proofs.walk.Statement.{statement}
-use Rattle.mapping.proofs.walk.Tie as tie
+use Rattle.walking.proofs.walk.Statement.{statement}
+use Rattle.walking.proofs.walk.Tie as tie
 
 abbrev Inv-loop : tie.InvT-loop
 Inv-loop masked inputs gates from to pairs random mapped₀ one₀ other₀ next₀ pair₀ g₀ mapped one other next pair g =

@@ -1,11 +1,11 @@
--- `mapping::next_pair` meets its contract, kind by kind.
+-- `walking::next_pair` meets its contract, kind by kind.
 -- Assumes nothing.
 use mathlib.Core.Path.{_≡_}
 use native.Mathlib.Omega.{arith}
-use Rattle.mapping.proofs.Walking.{after-other, after-last, after-random}
+use Rattle.walking.proofs.Walking.{after-other, after-last, after-random}
 use borrow.Author.Needs.{needs}
-use Rattle.mapping.proofs.next_pair.Statement.{statement}
-use Rattle.mapping.proofs.next_pair.Tie as tie
+use Rattle.walking.proofs.next_pair.Statement.{statement}
+use Rattle.walking.proofs.next_pair.Tie as tie
 
 returns : tie.Need-returns
 returns c = after-other _ _ _ (c .if1 .taken)

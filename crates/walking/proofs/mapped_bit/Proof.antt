@@ -1,11 +1,11 @@
--- `mapping::mapped_bit` meets its contract: the bit is kept where the pair is not of the free share, and flipped where the two
+-- `walking::mapped_bit` meets its contract: the bit is kept where the pair is not of the free share, and flipped where the two
 -- products together differ.
 -- Assumes nothing.
 use native.Mathlib.Omega.{arith}
-use Rattle.mapping.proofs.Walking.{bit-before, bit-past, bit-flipped}
+use Rattle.walking.proofs.Walking.{bit-before, bit-past, bit-flipped}
 use borrow.Author.Needs.{needs}
-use Rattle.mapping.proofs.mapped_bit.Statement.{statement}
-use Rattle.mapping.proofs.mapped_bit.Tie as tie
+use Rattle.walking.proofs.mapped_bit.Statement.{statement}
+use Rattle.walking.proofs.mapped_bit.Tie as tie
 
 returns : tie.Need-returns
 returns c = bit-before _ _ _ _ _ (c .if1 .taken) (c .before .before .before .before .pre .1)

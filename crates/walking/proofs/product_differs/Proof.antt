@@ -1,10 +1,10 @@
--- `mapping::product_differs` meets its contract: the operands have values in both runs, which are bits.
+-- `walking::product_differs` meets its contract: the operands have values in both runs, which are bits.
 -- Assumes nothing.
 use native.Mathlib.Omega.{arith}
-use Rattle.mapping.proofs.Walking.{valued-product}
+use Rattle.walking.proofs.Walking.{valued-product}
 use borrow.Author.Needs.{needs}
-use Rattle.mapping.proofs.product_differs.Statement.{statement}
-use Rattle.mapping.proofs.product_differs.Tie as tie
+use Rattle.walking.proofs.product_differs.Statement.{statement}
+use Rattle.walking.proofs.product_differs.Tie as tie
 
 add-field : tie.Need-add-field
 add-field c = search needs

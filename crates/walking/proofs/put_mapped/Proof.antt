@@ -1,10 +1,10 @@
--- `mapping::put_mapped` meets its contract: a random gate puts its bit, and no other gate does.
+-- `walking::put_mapped` meets its contract: a random gate puts its bit, and no other gate does.
 -- Assumes nothing.
 use native.Mathlib.Omega.{arith}
-use Rattle.mapping.proofs.Walking.{put-random, put-other}
+use Rattle.walking.proofs.Walking.{put-random, put-other}
 use borrow.Author.Needs.{needs}
-use Rattle.mapping.proofs.put_mapped.Statement.{statement}
-use Rattle.mapping.proofs.put_mapped.Tie as tie
+use Rattle.walking.proofs.put_mapped.Statement.{statement}
+use Rattle.walking.proofs.put_mapped.Tie as tie
 
 add-if1 : tie.Need-add-if1
 add-if1 c = search needs

@@ -54,7 +54,7 @@ use Rattle.maps.specs.Walk.{
 }
 use Rattle.maps.proofs.Flat.{outside, inside}
 use Rattle.maps.proofs.Walked.{differs-same, walked-law}
-use Rattle.mapping.specs.Walking.{
+use Rattle.walking.specs.Walking.{
   gateOf,
   Valued,
   ProductReady,
