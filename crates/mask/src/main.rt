@@ -1,7 +1,8 @@
 // Reads an order byte and then a plain table from standard input, and writes the masked table on standard output; or the line
-// `refused`, number, place on standard error, and then nothing on standard output. An input of more than 458,747 bytes is refused:
-// one byte more is read, to see that. On the stack are about 1.3 MB: 458,748 bytes of input, 458,746 of output (65,535 wires, all
-// gates but the inputs, and 65,535 outputs need no more), and 393,216 of masking's own arrays.
+// `refused`, number, place on standard error, and then nothing on standard output. The exit status is 0 in both cases: a program
+// sets no other. An input of more than 458,747 bytes is refused, and one byte more is read to see that. On the stack are about
+// 1.3 MB: 458,748 bytes of input, 458,746 of output, 393,216 of masking's own arrays. A masked table has at most 65,535 wires and
+// 65,535 outputs, which 458,746 bytes hold.
 use libc::STDERR_FILENO;
 use libc::STDIN_FILENO;
 use libc::STDOUT_FILENO;
