@@ -12,7 +12,9 @@ free-of-requires : tie.Need-free-of-requires
 free-of-requires c κs = ready-shares _ _ _ (c .before .before .before .before .before .pre .0)
 
 returns : tie.Need-returns
-returns c = free-share-is _ (c .before .before .before .before .before .before .pre .0) (c .before .before .mark-probes .ensures) (c .free-of .ensures)
+returns c =
+    free-share-is _ (c .before .before .before .before .before .before .pre .0) (c .before .before .mark-probes .ensures)
+    (c .free-of .ensures)
 
 pub free-share-spec : {M : Type 1} → statement M
 free-share-spec = tie.close (tie.spec mark-probes-requires free-of-requires returns)

@@ -19,15 +19,18 @@ call-fault-requires c κs = plan-small (rw (c .before .planned2 .given .1) at (c
 
 returns : tie.Need-returns
 returns c =
-    map-call-refused _ _ _ _ _ _ _ _ _ (rw (c .before .before .before .before .planned2 .given .1) at (c .before .before .before .before .before .before .plan-table .ensures)) (c .before .before .call-fault .ensures)
+    map-call-refused _ _ _ _ _ _ _ _ _ (rw (c .before .before .before .before .planned2 .given .1) at
+    (c .before .before .before .before .before .before .plan-table .ensures)) (c .before .before .call-fault .ensures)
     (c .if1 .taken)
 
 returns-2 : tie.Need-returns-2
-returns-2 c = map-plan-refused _ _ _ _ _ _ _ _ _ (rw (c .before .planned .given .1) at (c .before .before .before .plan-table .ensures))
+returns-2 c =
+    map-plan-refused _ _ _ _ _ _ _ _ _ (rw (c .before .planned .given .1) at (c .before .before .before .plan-table .ensures))
 
 returns-3 : tie.Need-returns-3
 returns-3 c =
-    map-call-ready _ _ _ _ _ _ _ _ _ (rw (c .before .before .before .before .planned2 .given .1) at (c .before .before .before .before .before .before .plan-table .ensures)) (c .before .before .call-fault .ensures)
+    map-call-ready _ _ _ _ _ _ _ _ _ (rw (c .before .before .before .before .planned2 .given .1) at
+    (c .before .before .before .before .before .before .plan-table .ensures)) (c .before .before .call-fault .ensures)
     (c .if1 .left)
 
 pub map-fault-spec : {M : Type 1} → statement M

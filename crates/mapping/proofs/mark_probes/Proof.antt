@@ -35,7 +35,9 @@ cast-marks-at : tie.Need-cast-marks-at Inv-loop μ-loop
 cast-marks-at c = omega (arith, c .shared-slice-known3 .given (c .before .before .loop .j))
 
 marks-at-requires : tie.Need-marks-at-requires Inv-loop μ-loop
-marks-at-requires c κs = (c .before .before .before .before .before .pre .0, c .before .before .before .before .before .pre .1 .probes _ (c .before .loop-test .taken))
+marks-at-requires c κs =
+    let start = c .before .before .before .before .before in
+    (start .pre .0, start .pre .1 .probes _ (c .before .loop-test .taken))
 
 cast-first : tie.Need-cast-first Inv-loop μ-loop
 cast-first c = search needs
@@ -57,7 +59,9 @@ loop-less c = search needs
 
 loop-again : tie.Need-loop-again Inv-loop μ-loop
 loop-again c =
-    rw add-one (marking-turn (c .before .before .before .before .before .loop .inv) (c .before .before .before .before .loop-test .taken) (c .before .before .marks-at .ensures .first) (c .before .before .marks-at .ensures .second))
+    rw add-one (marking-turn (c .before .before .before .before .before .loop .inv)
+    (c .before .before .before .before .loop-test .taken) (c .before .before .marks-at .ensures .first)
+    (c .before .before .marks-at .ensures .second))
 
 returns : tie.Need-returns Inv-loop μ-loop
 returns c = marking-end (c .before .loop .inv) (c .loop-test .left)

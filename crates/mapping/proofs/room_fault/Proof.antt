@@ -22,14 +22,16 @@ refused-requires-3 c κs = search needs
 
 returns-3 : tie.Need-returns-3
 returns-3 c =
-    by-fault (other-short _ _ _ _ (c .before .before .before .before .before .if1 .left) (c .before .before .before .if2 .left) (c .before .if3 .taken)) (c .refused3 .ensures)
+    by-fault (other-short _ _ _ _ (c .before .before .before .before .before .if1 .left) (c .before .before .before .if2 .left)
+    (c .before .if3 .taken)) (c .refused3 .ensures)
 
 refused-requires-4 : tie.Need-refused-requires-4
 refused-requires-4 c κs = search needs
 
 returns-4 : tie.Need-returns-4
 returns-4 c =
-    by-fault (room-enough _ _ _ _ (c .before .before .before .before .before .if1 .left) (c .before .before .before .if2 .left) (c .before .if3 .left)) (c .refused4 .ensures)
+    by-fault (room-enough _ _ _ _ (c .before .before .before .before .before .if1 .left) (c .before .before .before .if2 .left)
+    (c .before .if3 .left)) (c .refused4 .ensures)
 
 pub room-fault-spec : {M : Type 1} → statement M
 room-fault-spec =

@@ -17,21 +17,24 @@ refused-requires-2 : tie.Need-refused-requires-2
 refused-requires-2 c κs = search needs
 
 returns-2 : tie.Need-returns-2
-returns-2 c = by-fault (second-wrong _ _ _ _ (c .before .before .before .if1 .left) (c .before .if2 .taken)) (c .refused2 .ensures)
+returns-2 c =
+    by-fault (second-wrong _ _ _ _ (c .before .before .before .if1 .left) (c .before .if2 .taken)) (c .refused2 .ensures)
 
 refused-requires-3 : tie.Need-refused-requires-3
 refused-requires-3 c κs = search needs
 
 returns-3 : tie.Need-returns-3
 returns-3 c =
-    by-fault (tape-wrong _ _ _ _ (c .before .before .before .before .before .if1 .left) (c .before .before .before .if2 .left) (c .before .if3 .taken)) (c .refused3 .ensures)
+    by-fault (tape-wrong _ _ _ _ (c .before .before .before .before .before .if1 .left) (c .before .before .before .if2 .left)
+    (c .before .if3 .taken)) (c .refused3 .ensures)
 
 bits-fault-requires : tie.Need-bits-fault-requires
 bits-fault-requires c κs = search needs
 
 returns-4 : tie.Need-returns-4
 returns-4 c =
-    by-fault (counts-right _ _ _ _ (c .before .before .before .before .before .before .before .if1 .left) (c .before .before .before .before .before .if2 .left) (c .before .before .before .if3 .left))
+    by-fault (counts-right _ _ _ _ (c .before .before .before .before .before .before .before .if1 .left)
+    (c .before .before .before .before .before .if2 .left) (c .before .before .before .if3 .left))
     (first-of _ _ _ (c .before .before .bits-fault .ensures) (c .if4 .taken))
 
 bits-fault-requires-2 : tie.Need-bits-fault-requires-2
@@ -39,8 +42,11 @@ bits-fault-requires-2 c κs = search needs
 
 returns-5 : tie.Need-returns-5
 returns-5 c =
-    by-fault (counts-right _ _ _ _ (c .before .before .before .before .before .before .before .before .before .before .if1 .left) (c .before .before .before .before .before .before .before .before .if2 .left) (c .before .before .before .before .before .before .if3 .left))
-    (second-of _ _ _ _ (c .before .before .before .before .before .bits-fault .ensures) (c .before .before .before .if4 .left) (first-of _ _ _ (c .before .before .bits-fault2 .ensures) (c .if5 .taken)))
+    by-fault (counts-right _ _ _ _ (c .before .before .before .before .before .before .before .before .before .before .if1 .left)
+    (c .before .before .before .before .before .before .before .before .if2 .left)
+    (c .before .before .before .before .before .before .if3 .left))
+    (second-of _ _ _ _ (c .before .before .before .before .before .bits-fault .ensures) (c .before .before .before .if4 .left)
+    (first-of _ _ _ (c .before .before .bits-fault2 .ensures) (c .if5 .taken)))
 
 add-bits-fault : tie.Need-add-bits-fault
 add-bits-fault c = search needs
@@ -50,8 +56,12 @@ bits-fault-requires-3 c κs = search needs
 
 returns-6 : tie.Need-returns-6
 returns-6 c =
-    by-fault (counts-right _ _ _ _ (c .before .before .before .before .before .before .before .before .before .before .before .if1 .left) (c .before .before .before .before .before .before .before .before .before .if2 .left) (c .before .before .before .before .before .before .before .if3 .left))
-    (second-of _ _ _ _ (c .before .before .before .before .before .before .bits-fault .ensures) (c .before .before .before .before .if4 .left)
+    by-fault (counts-right _ _ _ _
+    (c .before .before .before .before .before .before .before .before .before .before .before .if1 .left)
+    (c .before .before .before .before .before .before .before .before .before .if2 .left)
+    (c .before .before .before .before .before .before .before .if3 .left))
+    (second-of _ _ _ _ (c .before .before .before .before .before .before .bits-fault .ensures)
+    (c .before .before .before .before .if4 .left)
     (second-of _ _ _ _ (c .before .before .before .bits-fault2 .ensures) (c .before .if5 .left) (c .bits-fault3 .ensures)))
 
 pub supply-fault-spec : {M : Type 1} → statement M
