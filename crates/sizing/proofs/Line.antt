@@ -84,7 +84,8 @@ line-forecast s r h F =
     let f = plainFault (drop 1 s) o in
     let e = fault-plain s h in
     sizes-are r (passed f) (rw (F .number))
-    ∙ same-line (passed f) (sharesOf o) (wires m) (tapeLong isw o t) (length (tableBytes m)) (F .number) (F .place) (F .shares) (F .wires) (F .tape) (F .bytes)
+    ∙ same-line (passed f) (sharesOf o) (wires m) (tapeLong isw o t) (length (tableBytes m)) (F .number) (F .place) (F .shares)
+    (F .wires) (F .tape) (F .bytes)
     ∙ sym (forecast-is s (passed f) (rw e) ∙ rw e)
 
 -- "No input counts as order 0 and an empty table"

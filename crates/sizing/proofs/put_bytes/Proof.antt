@@ -1,4 +1,4 @@
--- `masks::put_bytes` meets its contract: so many bytes are put.
+-- `sizing::put_bytes` meets its contract: so many bytes are put.
 -- Assumes nothing.
 use borrow.Author.Needs.{needs}
 use Prim.Native.Nat.{_-_}

@@ -1,4 +1,4 @@
--- `masks::put_number` meets its contract: the digits, then the byte that ends them.
+-- `sizing::put_number` meets its contract: the digits, then the byte that ends them.
 -- Assumes nothing.
 use Rattle.sizing.proofs.Writing.{puts-number}
 use borrow.Author.Needs.{needs}

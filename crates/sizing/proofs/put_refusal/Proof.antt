@@ -1,4 +1,4 @@
--- `masks::put_refusal` meets its contract: the word and two numbers.
+-- `sizing::put_refusal` meets its contract: the word and two numbers.
 -- Assumes nothing.
 use borrow.Author.Needs.{needs}
 use Rattle.sizing.proofs.Writing.{puts-refusal}

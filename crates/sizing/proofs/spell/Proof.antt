@@ -1,4 +1,4 @@
--- `masks::spell` meets its contract: the digits of the rest are left, for the places up to i.
+-- `sizing::spell` meets its contract: the digits of the rest are left, for the places up to i.
 -- Assumes nothing.
 use borrow.Author.Needs.{needs}
 use mathlib.Core.Path.{sym, _∙_}
