@@ -162,7 +162,8 @@ pub fn check_patterns(masks: &impl Masks, circuit: &Circuit, order: u8) -> Resul
 
 /// Puts every map at order 1 to both implementations: all tapes, all pairs of secrets, no probe
 /// and each single one. Checks that the probe reads the same in both runs, that the runs are
-/// those of the masked table, and that mapping back gives the tape. Answers the number of maps.
+/// those of the masked table, that mapping back gives the tape, and that as many tapes let the
+/// probe read 1 with either secret. Answers the number of maps.
 pub fn check_maps(
     ours: &impl Masks,
     theirs: &impl Masks,
@@ -196,6 +197,8 @@ pub fn check_maps(
     for probe in lists {
         case.probes = probe.into_iter().collect();
         let mut leads_to = vec![vec![vec![0; tapes]; secrets]; secrets];
+        // For each pair of secrets, how many tapes let the probe read 1 in the first run.
+        let mut ones = vec![vec![0; secrets]; secrets];
         for x in 0..secrets {
             for y in 0..secrets {
                 case.first = bits(x, masked.inputs);
@@ -215,6 +218,7 @@ pub fn check_maps(
                     if read.is_some_and(|wire| mapping.one[wire] != mapping.other[wire]) {
                         return Err(told("the probe reads different values in the two runs"));
                     }
+                    ones[x][y] += read.map_or(0, |wire| u32::from(mapping.one[wire]));
                     leads_to[x][y][tape] = mapped;
                     maps += 1;
                 }
@@ -222,6 +226,9 @@ pub fn check_maps(
         }
         for x in 0..secrets {
             for y in 0..secrets {
+                if ones[x][y] != ones[y][x] {
+                    return Err(format!("probe {probe:?} tells secrets {x} and {y} apart"));
+                }
                 let astray = |&tape: &usize| leads_to[y][x][leads_to[x][y][tape]] != tape;
                 if let Some(tape) = (0..tapes).find(astray) {
                     return Err(format!(

@@ -11,3 +11,5 @@ pub mod masks;
 pub mod model;
 pub mod properties;
 pub mod rng;
+pub mod sampled;
+pub mod samples;

@@ -4,8 +4,12 @@
 //!     compare fuzz SECONDS [--seed N]   generated cases for so long, from the clock's seed or N
 //!     compare case CALL SEED            one generated case again, shown in full
 //!     compare line FILE                 the line that the forecast program prints for an input
+//!     compare programs                  tests the programs in target/bin and ./fantzori
+//!     compare examples                  writes the tables under examples/ again
 
+mod commands;
 mod ffi;
+mod programs;
 
 use std::process::ExitCode;
 use std::time::{Duration, Instant, SystemTime};
@@ -16,7 +20,7 @@ use compare::compare::{Tally, compare};
 use compare::masks::{Model, Outcome};
 use compare::properties::check_mapping;
 use compare::rng::Rng;
-use compare::{examples, exhaustive, generate, model};
+use compare::{examples, exhaustive, generate, model, sampled};
 
 use ffi::Archive;
 
@@ -27,7 +31,9 @@ const USAGE: &str = "\
 usage: compare [--seed N]
        compare fuzz SECONDS [--seed N]
        compare case CALL SEED
-       compare line FILE";
+       compare line FILE
+       compare programs
+       compare examples";
 
 /// The calls that the archive has.
 fn calls() -> &'static [Call] {
@@ -46,6 +52,8 @@ fn main() -> ExitCode {
         }
         ["case", call, seed] => number(seed).and_then(|seed| repeat_case(call, seed)),
         ["line", file] => print_line(file),
+        ["programs"] => programs::test().and_then(|()| commands::test()),
+        ["examples"] => programs::write_examples(),
         _ => Err(USAGE.into()),
     };
     match result {
@@ -85,6 +93,9 @@ fn compare_all(seed: u64) -> Result<(), String> {
         println!("{}: {}", call.name(), tallies[call as usize]);
     }
     compare_all_tapes()?;
+    if cfg!(feature = "map") {
+        compare_sampled_maps(seed)?;
+    }
     match calls().iter().find_map(|&call| tallies[call as usize].missing(call)) {
         Some(missing) => Err(format!("FAILED: {missing}")),
         None => Ok(()),
@@ -149,6 +160,26 @@ fn compare_all_tapes() -> Result<(), String> {
         runs += exhaustive::check_patterns(&Archive, &circuit, 2).map_err(told)?;
     }
     println!("all tapes of {} small circuits: {runs} runs, {maps} maps", circuits.len());
+    Ok(())
+}
+
+/// Drawn maps of the same circuits and of the examples at higher orders.
+fn compare_sampled_maps(seed: u64) -> Result<(), String> {
+    let mut rng = Rng::new(seed);
+    for (order, count) in sampled::ORDERS {
+        let circuits = sampled::circuits();
+        for circuit in &circuits {
+            for _ in 0..count {
+                let case = Case::Map(sampled::draw(&mut rng, circuit, order));
+                let outcome =
+                    compare_case(&case).map_err(|text| format!("FAILED: {case}\n{text}"))?;
+                if outcome.number != 0 {
+                    return Err(format!("FAILED: {case}\nrefused with {}", outcome.number));
+                }
+            }
+        }
+        println!("maps of {} circuits at order {order}: {count} each", circuits.len());
+    }
     Ok(())
 }
 

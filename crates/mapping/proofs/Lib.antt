@@ -1,6 +1,6 @@
 -- Laws of mapping's parts, by subject.
-pub mod Walking
 pub mod Flipping
 pub mod Seeing
 pub mod Faults
 pub mod Working
+pub mod Mapping

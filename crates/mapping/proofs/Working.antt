@@ -9,6 +9,7 @@ use native.Mathlib.Nat.{add-zero, mul-le-mul}
 use native.Mathlib.Omega.{arith}
 use lib.ListN.{length, getD, take, drop, length-append, length-drop, List·getD-append, take-append-drop}
 use lib.Seq.{length-take-le, take-append-seam, take-at, drop-at}
+use borrow.Rule.Slice.PartAt.{part-to-end}
 use borrow.Rule.Slice.PartMut.{midOf, putMid, mid-len}
 use Rattle.tables.specs.Refusals.{passed}
 use Rattle.tables.specs.Tables.{Gate, Table, wires, word, tableOf, tableBytes, tableFault}
@@ -43,7 +44,7 @@ use Rattle.maps.proofs.Inputs.{flipped-length, flipped-bits}
 use Rattle.maps.proofs.TwoRuns.{mapped-length}
 use Rattle.maps.proofs.Walked.{crossing-masked, walked-mapped}
 use Rattle.maps.proofs.Written.{written}
-use Rattle.mapping.specs.Walking.{WalkReady, walkedBits, WalkSays}
+use Rattle.walking.specs.Walking.{WalkReady, walkedBits, WalkSays}
 use Rattle.mapping.specs.Flipping.{FlipReady}
 use Rattle.mapping.specs.Working.{BeginReady, BegunSays, WorkReady, WorkSays}
 
@@ -254,16 +255,34 @@ module _ {s : List ℕ} {p : DP.Plan} {k : ℕ} {xs ys ts m a b : List ℕ} (W :
   F-bits : Bits F
   F-bits = flipped-bits front (inputFlips o k xs ys) (bits-take place ts (W .tape-bits))
 
+  -- the part of the tape that the random gates take
+  pub rest-part : midOf place (length ts - place) ts ≡ rs
+  rest-part = part-to-end ts place
+
+  -- the second run's random bits have room after those of the inputs
+  walk-room : {m₁ : List ℕ} → m₁ ≡ over F m → length rs ≤ length (midOf place (length m₁ - place) m₁)
+  walk-room {m₁} em =
+      let long : length m₁ ≡ length m =
+      ap length em ∙ over-length F m (omega (arith, F-long, tape-parts, W .mapped)) in
+      omega (
+        arith,
+        length-drop place ts,
+        mid-len place (length m₁) m₁ (omega arith),
+        W .tape,
+        W .mapped,
+      )
+
   pub walk-ready :
-      {s′ m′ a′ b′ : List ℕ} → s′ ≡ tableBytes M → length rs ≤ length m′ → a′ ≡ over E a → b′ ≡ over E′ b
-      → WalkReady s′ rs m′ a′ b′ (p .shares * p .inputs) (p .wires - p .shares * p .inputs)
-  walk-ready {s′} {m′} {a′} {b′} es room ea eb =
+      {s′ rs′ m₁ a′ b′ : List ℕ} → s′ ≡ tableBytes M → rs′ ≡ rs → m₁ ≡ over F m → a′ ≡ over E a → b′ ≡ over E′ b
+      → WalkReady s′ rs′ (midOf place (length m₁ - place) m₁) a′ b′ (p .shares * p .inputs)
+      (p .wires - p .shares * p .inputs)
+  walk-ready {s′} {rs′} {m₁} {a′} {b′} es er em ea eb =
       let front-bits : Bits front = bits-take place ts (W .tape-bits) in
-      rw es (record {
+      rw (es, er) (record {
         one = run-ready E a′ a ea E-long (encode-bits o xs front (W .first-bits) front-bits) (W .one);
         other = run-ready E′ b′ b eb E′-long (encode-bits o ys F (W .second-bits) F-bits) (W .other);
         exact = rest-long ∙ ap randoms (sym gates-are);
-        room = room;
+        room = walk-room em;
         crossing =
             subst (λ (l : List Gate). Crossing (p .shares * p .inputs) l) (sym gates-are)
             (subst (λ (y : ℕ). Crossing y (M .gates)) (sym inputs-are) crossing);
@@ -353,9 +372,10 @@ module _ {s : List ℕ} {p : DP.Plan} {k : ℕ} {xs ys ts m a b : List ℕ} (W :
       ∙ ap {A = List ℕ} {B = List ℕ} (over ran) ev
       ∙ over-over e ran v₀ short
 
-  module _ {s′ m₁ m₂ part a₁ a₂ b₁ b₂ : List ℕ} (es : s′ ≡ tableBytes M) (em : m₁ ≡ over F m) (ea : a₁ ≡ over E a)
+  module _ {s′ rs′ m₁ m₂ part a₁ a₂ b₁ b₂ : List ℕ} (es : s′ ≡ tableBytes M) (er : rs′ ≡ rs) (em : m₁ ≡ over F m)
+      (ea : a₁ ≡ over E a)
       (eb : b₁ ≡ over E′ b)
-      (walk : WalkSays s′ rs (p .shares * p .inputs) (offset (p .shares) (k - 1)) (offset (p .shares) k) (tri (p .shares))
+      (walks-on : WalkSays s′ rs′ (p .shares * p .inputs) (offset (p .shares) (k - 1)) (offset (p .shares) k) (tri (p .shares))
       (midOf place (length m₁ - place) m₁)
       part
       a₁
@@ -363,6 +383,27 @@ module _ {s : List ℕ} {p : DP.Plan} {k : ℕ} {xs ys ts m a b : List ℕ} (W :
       b₁
       b₂)
       (put : m₂ ≡ putMid place (length m₁ - place) m₁ part) where
+    walk :
+        WalkSays s′ rs (p .shares * p .inputs) (offset (p .shares) (k - 1)) (offset (p .shares) k) (tri (p .shares))
+        (midOf place (length m₁ - place) m₁)
+        part
+        a₁
+        a₂
+        b₁
+        b₂
+    walk =
+        subst
+        (λ (l : List ℕ). WalkSays s′ l (p .shares * p .inputs) (offset (p .shares) (k - 1)) (offset (p .shares) k)
+        (tri (p .shares))
+        (midOf place (length m₁ - place) m₁)
+        part
+        a₁
+        a₂
+        b₁
+        b₂)
+        er
+        walks-on
+
     mapped-left : m₂ ≡ over (F ++ rest) m
     mapped-left =
         let long : length m₁ ≡ length m =

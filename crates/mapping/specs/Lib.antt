@@ -1,5 +1,4 @@
 -- What the parts of mapping take and give.
-pub mod Walking
 pub mod Flipping
 pub mod Seeing
 pub mod Faults

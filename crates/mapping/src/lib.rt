@@ -1,8 +1,9 @@
+// Mapping a tape from one secret to another: the free share of the probes, the mapped tape and both runs.
 ghost use mathlib.Core.Path.{_≡_};
 ghost use Prim.Native.Nat.{ℕ, _+_, _-_, _*_, _≤_, _<_};
-ghost use lib.ListN.{length, getD, take, drop};
+ghost use lib.ListN.{length, take, drop};
 ghost use mathlib.Core.List.{List};
-ghost use Rattle.tables.specs.Tables.{kindOf, tableOf};
+ghost use Rattle.tables.specs.Tables.{tableOf};
 ghost use lib.Dec.{eqb};
 ghost use Rattle.tables.specs.Refusals.{pick, fault, badBit};
 ghost use Rattle.tables.specs.Runs.{xor};
@@ -18,150 +19,9 @@ ghost use Rattle.mapping.specs.Faults.{supplyFault, probesFault, roomFau
 ghost use Rattle.mapping.specs.Working.{BeginReady, BegunSays, WorkReady, WorkSays};
 ghost use Rattle.mapping.specs.Seeing.{Seen, Probes, MarkReady};
 ghost use Rattle.mapping.specs.Flipping.{FlipReady};
-ghost use Rattle.maps.specs.Walk.{offset, inRow, gateDiffers, afterGate};
-ghost use Rattle.mapping.specs.Walking.{
-  gateOf,
-  ProductReady,
-  crossFlip,
-  CrossReady,
-  BitReady,
-  bitPut,
-  WalkReady,
-  WalkSays,
-};
-
-// Whether the product that a gate makes differs between the runs: 1 or 0.
-fn product_differs(masked: &[u8], gates: usize, g: usize, one: &[u8], other: &[u8]) -> u8
-    requires { ⌜ ProductReady (now masked) gates g (now one) (now other) ⌝ }
-    ensures { λ r. ⌜ (r
-        ≡ gateDiffers (λ p. getD (now (one .entry)) p 0) (λ p. getD (now (other .entry)) p 0)
-        (gateOf (now (masked .entry)) gates g))
-        × (r ≤ 1) ⌝ }
-{
-    let left = tables::field(masked, 6 + gates + 4 * g);
-    let right = tables::field(masked, 8 + gates + 4 * g);
-    (one[left] * one[right] + other[left] * other[right]) % 2
-}
-
-// The bit that random gate g takes in the second run, where its bit in the first is known and its pair is given by number.
-fn mapped_bit(
-    masked: &[u8],
-    gates: usize,
-    g: usize,
-    from: usize,
-    to: usize,
-    pair: usize,
-    bit: u8,
-    one: &[u8],
-    other: &[u8],
-) -> u8
-    requires { ⌜ CrossReady (now masked) gates g (now one) (now other) × (bit ≤ 1) ⌝ }
-    ensures { λ r. ⌜ r
-        ≡ xor bit
-        (crossFlip (now (masked .entry)) gates g (inRow from to pair) (now (one .entry)) (now (other .entry))) ⌝ }
-{
-    if pair < from {
-        return bit;
-    }
-    if to <= pair {
-        return bit;
-    }
-    let a = product_differs(masked, gates, g + 1, one, other);
-    let b = product_differs(masked, gates, g + 3, one, other);
-    (bit + (a + b) % 2) % 2
-}
-
-// Puts the bit that gate g takes in the second run, where it is a random gate.
-fn put_mapped(
-    masked: &[u8],
-    gates: usize,
-    g: usize,
-    from: usize,
-    to: usize,
-    pair: usize,
-    random: &[u8],
-    next: usize,
-    one: &[u8],
-    other: &[u8],
-    mapped: &mut [u8],
-)
-    requires { ⌜ BitReady (now masked) (now random) gates g next (now one) (now other) (now mapped) ⌝ }
-    ensures { λ _. ⌜ now (mapped .exit)
-        ≡ bitPut (kindOf (getD (now (masked .entry)) (6 + g) 0)) (now (mapped .entry)) next
-        (xor (getD (now (random .entry)) next 0)
-        (crossFlip (now (masked .entry)) gates g (inRow from to pair) (now (one .entry)) (now (other .entry)))) ⌝ }
-{
-    if masked[6 + g] == 3 {
-        let bit = tables::tape_bit(random, next);
-        mapped[next] = mapped_bit(masked, gates, g, from, to, pair, bit, one, other);
-    }
-}
-
-// The number of the pair after a gate: a random gate ends one, and the last pair is followed by the first of another AND.
-fn next_pair(kind: u8, pair: usize, pairs: usize) -> usize
-    requires { ⌜ pair ≤ 65535 ⌝ }
-    ensures { λ r. ⌜ r ≡ afterGate (kindOf kind) pairs pair ⌝ }
-{
-    if kind != 3 {
-        return pair;
-    }
-    if pair + 1 == pairs {
-        return 0;
-    }
-    pair + 1
-}
-
-// One pass over a masked table's gates with both runs: the second run's random bits, and both runs' values.
-fn walk(
-    masked: &[u8],
-    inputs: usize,
-    gates: usize,
-    from: usize,
-    to: usize,
-    pairs: usize,
-    random: &[u8],
-    mapped: &mut [u8],
-    one: &mut [u8],
-    other: &mut [u8],
-)
-    requires { ⌜ WalkReady (now masked) (now random) (now mapped) (now one) (now other) inputs gates ⌝ }
-    ensures { λ _. ⌜ WalkSays (now (masked .entry)) (now (random .entry)) inputs from to pairs
-        (now (mapped .entry))
-        (now (mapped .exit))
-        (now (one .entry))
-        (now (one .exit))
-        (now (other .entry))
-        (now (other .exit)) ⌝ }
-{
-    let mut next: usize = 0;
-    let mut pair: usize = 0;
-    let mut g: usize = 0;
-    while g < gates {
-        let kind = masked[6 + g];
-        let left = tables::field(masked, 6 + gates + 4 * g);
-        let right = tables::field(masked, 8 + gates + 4 * g);
-        put_mapped(
-            masked,
-            gates,
-            g,
-            from,
-            to,
-            pair,
-            random,
-            next,
-            one,
-            other,
-            mapped,
-        );
-        let a = running::gate_value(kind, one[left], one[right], random, next);
-        let b = running::gate_value(kind, other[left], other[right], mapped, next);
-        one[inputs + g] = a.value;
-        other[inputs + g] = b.value;
-        pair = next_pair(kind, pair, pairs);
-        next = a.next;
-        g += 1;
-    }
-}
+ghost use Rattle.maps.specs.Says.{MapSays};
+ghost use Rattle.maps.specs.Walk.{offset};
+ghost use Rattle.walking.specs.Walking.{WalkReady, WalkSays};
 
 // A tape bit of share s of an input, flipped where s is the free share and the secrets differ.
 fn flip_bit(bit: u8, s: usize, k: usize, flip: u8) -> u8
@@ -354,15 +214,10 @@ fn call_fault(
         (callFault order p (now (first .entry)) (now (second .entry)) (now (tape .entry)) (now (probes .entry)) mapped one other)
         r ⌝ }
 {
-    let found = supply_fault(p, first, second, tape);
-    if found.number != 0 {
-        return found;
-    }
-    let found = probes_fault(order, p.wires, probes);
-    if found.number != 0 {
-        return found;
-    }
-    room_fault(p, mapped, one, other)
+    let supplied = supply_fault(p, first, second, tape);
+    let probed = probes_fault(order, p.wires, probes);
+    let room = room_fault(p, mapped, one, other);
+    sizing::first_of(supplied, sizing::first_of(probed, room))
 }
 
 // Whether mapping is refused: the first refusal, or the sizes.
@@ -468,7 +323,7 @@ fn walk_plan(
     let from = row_start(n, k - 1);
     let to = row_start(n, k);
     let pairs = sizing::pair_count(n);
-    walk(
+    walking::walk(
         masked,
         inputs,
         p.wires - inputs,
@@ -480,4 +335,213 @@ fn walk_plan(
         one,
         other,
     );
+}
+
+// Maps with the masked table of a plan, written into a buffer that has room for it; k is the free share.
+fn map_with(
+    table: &[u8],
+    p: sizing::Plan,
+    k: usize,
+    first: &[u8],
+    second: &[u8],
+    tape: &[u8],
+    masked: &mut [u8],
+    mapped: &mut [u8],
+    one: &mut [u8],
+    other: &mut [u8],
+)
+    requires { ⌜ WorkReady (now table) p k (now first) (now second) (now tape) (now mapped) (now one) (now other)
+        × (planBytes p ≤ length (now masked)) ⌝ }
+    ensures { λ _. ⌜ WorkSays (now (table .entry)) (orderOf p) k
+        (now (first .entry))
+        (now (second .entry))
+        (now (tape .entry))
+        (now (mapped .entry))
+        (now (mapped .exit))
+        (now (one .entry))
+        (now (one .exit))
+        (now (other .entry))
+        (now (other .exit)) ⌝ }
+{
+    let order = p.shares / 2;
+    let place = 2 * order * p.inputs;
+    let bytes = sizing::plan_bytes(p);
+    masking::mask_into(table, p, masked);
+    begin_runs(order, k, first, second, &tape[..place], mapped, one, other);
+    walk_plan(
+        &masked[..bytes],
+        p,
+        k,
+        &tape[place..],
+        &mut mapped[place..],
+        one,
+        other,
+    );
+}
+
+// Maps where the masked table has few bytes.
+fn map_small(
+    table: &[u8],
+    p: sizing::Plan,
+    k: usize,
+    first: &[u8],
+    second: &[u8],
+    tape: &[u8],
+    mapped: &mut [u8],
+    one: &mut [u8],
+    other: &mut [u8],
+)
+    requires { ⌜ WorkReady (now table) p k (now first) (now second) (now tape) (now mapped) (now one) (now other)
+        × (planBytes p ≤ 8192) ⌝ }
+    ensures { λ _. ⌜ WorkSays (now (table .entry)) (orderOf p) k
+        (now (first .entry))
+        (now (second .entry))
+        (now (tape .entry))
+        (now (mapped .entry))
+        (now (mapped .exit))
+        (now (one .entry))
+        (now (one .exit))
+        (now (other .entry))
+        (now (other .exit)) ⌝ }
+{
+    let mut masked = [0u8; 8192];
+    map_with(
+        table,
+        p,
+        k,
+        first,
+        second,
+        tape,
+        &mut masked,
+        mapped,
+        one,
+        other,
+    );
+}
+
+// Maps where the masked table has any number of bytes.
+fn map_large(
+    table: &[u8],
+    p: sizing::Plan,
+    k: usize,
+    first: &[u8],
+    second: &[u8],
+    tape: &[u8],
+    mapped: &mut [u8],
+    one: &mut [u8],
+    other: &mut [u8],
+)
+    requires { ⌜ WorkReady (now table) p k (now first) (now second) (now tape) (now mapped) (now one) (now other) ⌝ }
+    ensures { λ _. ⌜ WorkSays (now (table .entry)) (orderOf p) k
+        (now (first .entry))
+        (now (second .entry))
+        (now (tape .entry))
+        (now (mapped .entry))
+        (now (mapped .exit))
+        (now (one .entry))
+        (now (one .exit))
+        (now (other .entry))
+        (now (other .exit)) ⌝ }
+{
+    let mut masked = [0u8; 458751];
+    map_with(
+        table,
+        p,
+        k,
+        first,
+        second,
+        tape,
+        &mut masked,
+        mapped,
+        one,
+        other,
+    );
+}
+
+// The mapped tape and both runs, where nothing is refused; k is the free share.
+fn map_work(
+    table: &[u8],
+    p: sizing::Plan,
+    k: usize,
+    first: &[u8],
+    second: &[u8],
+    tape: &[u8],
+    mapped: &mut [u8],
+    one: &mut [u8],
+    other: &mut [u8],
+)
+    requires { ⌜ WorkReady (now table) p k (now first) (now second) (now tape) (now mapped) (now one) (now other) ⌝ }
+    ensures { λ _. ⌜ WorkSays (now (table .entry)) (orderOf p) k
+        (now (first .entry))
+        (now (second .entry))
+        (now (tape .entry))
+        (now (mapped .entry))
+        (now (mapped .exit))
+        (now (one .entry))
+        (now (one .exit))
+        (now (other .entry))
+        (now (other .exit)) ⌝ }
+{
+    if sizing::plan_bytes(p) <= 8192 {
+        map_small(table, p, k, first, second, tape, mapped, one, other);
+        return;
+    }
+    map_large(table, p, k, first, second, tape, mapped, one, other);
+}
+
+// Maps a tape from the first secret to the second so that every probe keeps its value: the mapped tape, both runs' values, and
+// the free share as the answer's value.
+pub fn map_tape(
+    table: &[u8],
+    order: u8,
+    first: &[u8],
+    second: &[u8],
+    tape: &[u8],
+    probes: &[u32],
+    mapped: &mut [u8],
+    one: &mut [u8],
+    other: &mut [u8],
+) -> tables::Answer
+    ensures { λ r. ⌜ MapSays (now (table .entry)) order
+        (now (first .entry))
+        (now (second .entry))
+        (now (tape .entry))
+        (now (probes .entry))
+        (now (mapped .entry))
+        (now (mapped .exit))
+        (now (one .entry))
+        (now (one .exit))
+        (now (other .entry))
+        (now (other .exit))
+        r ⌝ }
+{
+    let planned = map_fault(
+        table,
+        order,
+        first,
+        second,
+        tape,
+        probes,
+        mapped.len(),
+        one.len(),
+        other.len(),
+    );
+    match planned {
+        sizing::Planned::Refused(f) => {
+            return tables::Answer {
+                number: f.number,
+                place: f.place,
+                value: 0,
+            };
+        }
+        sizing::Planned::Ready(p) => {
+            let k = free_share(table, p, probes);
+            map_work(table, p, k, first, second, tape, mapped, one, other);
+            return tables::Answer {
+                number: 0,
+                place: 0,
+                value: k as u32,
+            };
+        }
+    }
 }

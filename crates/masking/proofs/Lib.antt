@@ -5,3 +5,4 @@ pub mod Placing
 pub mod Stretches
 pub mod Assembled
 pub mod Masked
+pub mod Input

@@ -49,7 +49,7 @@ own-order R = omega (arith, R .shares)
 pub plan-own : {s : List ℕ} {o : ℕ} {p : DP.Plan} → PlanReady s o p → PlanReady s (p .shares / 2) p
 plan-own {s} {o} {p} R = subst (λ (y : ℕ). PlanReady s y p) (sym (own-order R)) R
 
-bytes-are :
+pub bytes-are :
     {s : List ℕ} {o : ℕ} {p : DP.Plan} → PlanReady s o p
     → length (tableBytes (maskedTable isw o (tableOf s))) ≡ planBytes p
 bytes-are {s} {o} {p} R =

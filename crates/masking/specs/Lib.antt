@@ -1,2 +1,3 @@
 -- What the steps of masking need and promise.
 pub mod Masking
+pub mod Input

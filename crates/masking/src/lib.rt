@@ -12,6 +12,7 @@ ghost use Rattle.sizing.specs.Plans.{PlanReady, planBytes};
 ghost use mathlib.Core.List.{[], _++_};
 ghost use Rattle.masks.specs.Gadgets.{isw};
 ghost use Rattle.masks.specs.Says.{MaskSays};
+ghost use Rattle.masking.specs.Input.{InputSays};
 
 // Where the shares of plain wire p are.
 fn places_at(first: &[u16], base: &[u16], step: &[u16], p: usize) -> writing::Places
@@ -352,4 +353,22 @@ pub fn mask_table(table: &[u8], order: u8, out: &mut [u8]) -> tables::Answer
             };
         }
     }
+}
+
+// Masks an input, an order byte and then a plain table; the bytes written. More than 458,747 bytes is 9: no table is longer than
+// 458,746.
+pub fn mask_input(input: &[u8], out: &mut [u8]) -> tables::Answer
+    ensures { λ r. ⌜ InputSays (now (input .entry)) (now (out .entry)) (now (out .exit)) r ⌝ }
+{
+    if input.len() > 458747 {
+        return tables::Answer {
+            number: 9,
+            place: 0,
+            value: 0,
+        };
+    }
+    if input.len() == 0 {
+        return mask_table(input, 0, out);
+    }
+    mask_table(&input[1..], input[0], out)
 }

@@ -1,6 +1,7 @@
 // The calls for C and Rust programs, under the names of include/masks.h. Each is the proved call with the same promise.
 ghost use Rattle.tables.specs.Says.{CheckSays, RunSays};
 ghost use Rattle.masks.specs.Says.{ForecastSays, MaskSays, EncodeSays, DecodeSays, MarksSay};
+ghost use Rattle.maps.specs.Says.{MapSays};
 
 #[no_mangle]
 pub extern "C" fn masks_check(table: &[u8]) -> tables::Answer
@@ -60,4 +61,42 @@ pub extern "C" fn masks_marks_of(table: &[u8], order: u8, wire: u32) -> masks::M
     ensures { λ r. ⌜ MarksSay (now (table .entry)) order wire r ⌝ }
 {
     marking::wire_marks(table, order, wire)
+}
+
+#[no_mangle]
+pub extern "C" fn masks_map(
+    table: &[u8],
+    order: u8,
+    first: &[u8],
+    second: &[u8],
+    tape: &[u8],
+    probes: &[u32],
+    mapped: &mut [u8],
+    one: &mut [u8],
+    other: &mut [u8],
+) -> tables::Answer
+    ensures { λ r. ⌜ MapSays (now (table .entry)) order
+        (now (first .entry))
+        (now (second .entry))
+        (now (tape .entry))
+        (now (probes .entry))
+        (now (mapped .entry))
+        (now (mapped .exit))
+        (now (one .entry))
+        (now (one .exit))
+        (now (other .entry))
+        (now (other .exit))
+        r ⌝ }
+{
+    mapping::map_tape(
+        table,
+        order,
+        first,
+        second,
+        tape,
+        probes,
+        mapped,
+        one,
+        other,
+    )
 }

@@ -1,4 +1,3 @@
 -- Laws that the proofs of sizing cite.
 pub mod Planning
-pub mod Writing
 pub mod Line

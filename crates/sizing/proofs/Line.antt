@@ -18,13 +18,14 @@ use Rattle.masks.specs.Shares.{sharesOf}
 use Rattle.masks.specs.Gadgets.{isw}
 use Rattle.masks.specs.Wires.{maskedTable, tapeLong}
 use Rattle.masks.specs.Says.{plainFault, ForecastSays}
-use Rattle.masks.specs.Lines.{decimal, refusedWord, lineOf, lineFault, forecastLine, sizesLine, Puts, LineSays}
-use Rattle.sizing.proofs.Writing.{digits-long}
+use Rattle.text.specs.Text.{decimal, lineOf, refusalLine, Puts}
+use Rattle.text.proofs.Writing.{PutsNumber, digits-long, line-more, line-last, refusal-long, puts-long, puts-line, puts-two}
+use Rattle.masks.specs.Lines.{lineFault, forecastLine, sizesLine, LineSays}
 
 -- the line by a test: the figures, or the refusal
 abbrev lineIf : Bool → ℕ → ℕ → ℕ → ℕ → ℕ → ℕ → List ℕ
 lineIf true n p a b c d = lineOf (decimal a) (decimal b ∷ decimal c ∷ decimal d ∷ [])
-lineIf false n p a b c d = lineOf refusedWord (decimal n ∷ decimal p ∷ [])
+lineIf false n p a b c d = refusalLine n p
 
 sizes-are :
     (r : DS.Sizes) (t : Bool) → eqb (r .number) 0 ≡ t
@@ -84,8 +85,11 @@ line-forecast s r h F =
     let f = plainFault (drop 1 s) o in
     let e = fault-plain s h in
     sizes-are r (passed f) (rw (F .number))
-    ∙ same-line (passed f) (sharesOf o) (wires m) (tapeLong isw o t) (length (tableBytes m)) (F .number) (F .place) (F .shares)
-    (F .wires) (F .tape) (F .bytes)
+    ∙ same-line (passed f) (sharesOf o) (wires m) (tapeLong isw o t) (length (tableBytes m)) (F .number) (F .place)
+    (F .shares)
+    (F .wires)
+    (F .tape)
+    (F .bytes)
     ∙ sym (forecast-is s (passed f) (rw e) ∙ rw e)
 
 -- "No input counts as order 0 and an empty table"
@@ -104,14 +108,6 @@ line-part s r h F =
     line-forecast s r h (subst (λ (t : List ℕ). ForecastSays t (getD s 0 0) r) all F)
 
 -- 64 bytes hold the line
-line-more : (w x : List ℕ) (xs : List (List ℕ)) → length (lineOf w (x ∷ xs)) ≡ length w + 1 + length (lineOf x xs)
-unfolding lineOf
-line-more w x xs = omega (arith, length-append w (32 ∷ lineOf x xs))
-
-line-last : (w : List ℕ) → length (lineOf w []) ≡ length w + 1
-unfolding lineOf
-line-last w = omega (arith, length-append w (10 ∷ []))
-
 short-line : (t : Bool) (n p a b c d : ℕ) → length (lineIf t n p a b c d) ≤ 64
 short-line true n p a b c d =
     omega (
@@ -125,20 +121,24 @@ short-line true n p a b c d =
       digits-long 10 c,
       digits-long 10 d,
     )
-short-line false n p a b c d =
-    omega (
-      arith,
-      line-more refusedWord (decimal n) (decimal p ∷ []),
-      line-more (decimal n) (decimal p) [],
-      line-last (decimal p),
-      digits-long 10 n,
-      digits-long 10 p,
-    )
+short-line false n p a b c d = omega (arith, refusal-long n p)
 
 pub line-fits : (s : List ℕ) → length (forecastLine s) ≤ 64
 line-fits s =
     subst (λ (l : List ℕ). length l ≤ 64) (sym (forecast-is s (passed (lineFault s)) refl))
     (short-line (passed (lineFault s)) _ _ _ _ _ _)
+
+-- the four figures
+pub puts-figures :
+    {k m r q : ℕ} {b c d e f : List ℕ} (x y z w : ℕ) → 64 ≤ length b
+    → PutsNumber 0 x 32 b c k → PutsNumber k y 32 c d m → PutsNumber m z 32 d e r → PutsNumber r w 10 e f q
+    → Puts 0 (lineOf (decimal x) (decimal y ∷ decimal z ∷ decimal w ∷ [])) b f q
+puts-figures {c = c} {d = d} x y z w room P Q R S =
+    let second : 64 ≤ length c = omega (arith, puts-long (omega arith) (P .0)) in
+    let third : 64 ≤ length d = omega (arith, puts-long (omega arith) (Q .0)) in
+    puts-line (decimal x) (decimal y) (decimal z ∷ decimal w ∷ []) (omega arith) (P .0)
+    (puts-line (decimal y) (decimal z) (decimal w ∷ []) (omega arith) (Q .0)
+    (puts-two z w (omega arith) third R S))
 
 -- what the call says
 pub no-room : (s b : List ℕ) → length b < 64 → LineSays s b b 0

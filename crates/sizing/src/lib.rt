@@ -9,8 +9,9 @@ ghost use Rattle.tables.specs.Refusals.{Fault, orElse};
 ghost use Rattle.tables.specs.Says.{Refused};
 ghost use Rattle.masks.specs.Says.{orderFault, ForecastSays};
 ghost use Rattle.sizing.specs.Plans.{HasGates, TotalsSay, Maskable, PlanSays, PlanFits, planBytes, FiguresSay};
-ghost use mathlib.Core.List.{[], _∷_, _++_};
-ghost use Rattle.masks.specs.Lines.{decimal, Spelled, Puts, lineOf, refusedWord, forecastLine, sizesLine, LineSays};
+ghost use mathlib.Core.List.{[], _∷_};
+ghost use Rattle.text.specs.Text.{decimal, lineOf, Puts};
+ghost use Rattle.masks.specs.Lines.{forecastLine, sizesLine, LineSays};
 
 // The sizes of a plain table that 1 to 8 accept at an order, and its masked table's wires and tape bits.
 pub struct Plan {
@@ -108,7 +109,7 @@ fn gate_totals(table: &[u8], gates: usize, n: usize) -> Totals
 }
 
 // Of two checks in their order, the first that refuses.
-fn first_of(a: tables::Refusal, b: tables::Refusal) -> tables::Refusal
+pub fn first_of(a: tables::Refusal, b: tables::Refusal) -> tables::Refusal
     ensures { λ r. ⌜ ((f g : Fault) → Refused f a → Refused g b → Refused (orElse f g) r) ⌝ }
 {
     if a.number != 0 {
@@ -150,47 +151,6 @@ fn plan_sizes(table: &[u8], order: u8) -> Planned
         wires,
         tape: random * inputs + all.draws,
     })
-}
-
-// Puts a number's digits at the end of a buffer, and answers where they begin.
-fn spell(digits: &mut [u8], v: u32) -> usize
-    requires { ⌜ length (now digits) ≡ 10 ⌝ }
-    ensures { λ r. ⌜ Spelled v (now (digits .exit)) r ⌝ }
-{
-    let mut rest = v;
-    let mut i = 9;
-    while rest > 9 {
-        digits[i] = 48 + (rest % 10) as u8;
-        rest /= 10;
-        i -= 1;
-    }
-    digits[i] = 48 + rest as u8;
-    i
-}
-
-// Puts bytes at a place, and answers the next place.
-fn put_bytes(out: &mut [u8], at: usize, src: &[u8]) -> usize
-    requires { ⌜ at + length (now src) ≤ length (now out) ⌝ }
-    ensures { λ r. ⌜ Puts at (now (src .entry)) (now (out .entry)) (now (out .exit)) r ⌝ }
-{
-    let mut i = 0;
-    while i < src.len() {
-        out[at + i] = src[i];
-        i += 1;
-    }
-    at + i
-}
-
-// Puts a number in decimal and the byte that ends it, and answers the next place.
-fn put_number(out: &mut [u8], at: usize, v: u32, end: u8) -> usize
-    requires { ⌜ at + 11 ≤ length (now out) ⌝ }
-    ensures { λ r. ⌜ Puts at (decimal v ++ (end ∷ [])) (now (out .entry)) (now (out .exit)) r × (r ≤ at + 11) ⌝ }
-{
-    let mut digits = [48u8; 10];
-    let first = spell(&mut digits, v);
-    let next = put_bytes(out, at, &digits[first..]);
-    out[next] = end;
-    next + 1
 }
 
 // What a plain table and an order come to: the first of refusals 1 to 8, or the sizes.
@@ -257,18 +217,6 @@ pub fn forecast_sizes(table: &[u8], order: u8) -> masks::Sizes
     }
 }
 
-// Puts the line of a refusal, and answers its length.
-fn put_refusal(out: &mut [u8], number: u32, place: u32) -> usize
-    requires { ⌜ 64 ≤ length (now out) ⌝ }
-    ensures { λ r. ⌜
-        Puts 0 (lineOf refusedWord (decimal number ∷ decimal place ∷ [])) (now (out .entry)) (now (out .exit)) r
-        ⌝ }
-{
-    let first = put_bytes(out, 0, b"refused ");
-    let second = put_number(out, first, number, b' ');
-    put_number(out, second, place, b'\n')
-}
-
 // Puts the line of the four figures, and answers its length.
 fn put_figures(out: &mut [u8], sizes: masks::Sizes) -> usize
     requires { ⌜ 64 ≤ length (now out) ⌝ }
@@ -283,10 +231,10 @@ fn put_figures(out: &mut [u8], sizes: masks::Sizes) -> usize
         r
         ⌝ }
 {
-    let second = put_number(out, 0, sizes.shares, b' ');
-    let third = put_number(out, second, sizes.wires, b' ');
-    let fourth = put_number(out, third, sizes.tape, b' ');
-    put_number(out, fourth, sizes.bytes, b'\n')
+    let second = text::put_number(out, 0, sizes.shares, b' ');
+    let third = text::put_number(out, second, sizes.wires, b' ');
+    let fourth = text::put_number(out, third, sizes.tape, b' ');
+    text::put_number(out, fourth, sizes.bytes, b'\n')
 }
 
 // Puts the line of a forecast, and answers its length.
@@ -295,7 +243,7 @@ fn put_line(out: &mut [u8], sizes: masks::Sizes) -> usize
     ensures { λ r. ⌜ Puts 0 (sizesLine sizes) (now (out .entry)) (now (out .exit)) r ⌝ }
 {
     if sizes.number != 0 {
-        return put_refusal(out, sizes.number as u32, sizes.place);
+        return text::put_refusal(out, sizes.number as u32, sizes.place);
     }
     put_figures(out, sizes)
 }

@@ -1,5 +1,5 @@
 //! Document 01, written from the paper: checking, running, forecasting, masking, encoding,
-//! decoding, marks, the mapped tape, and the forecast program's line.
+//! decoding, marks, the mapped tape, and what the programs write.
 //!
 //! Every call answers its value or a refusal. It writes into the lent buffers only when nothing
 //! is refused, and then only what the paper says; the rest of a longer buffer stays.
@@ -12,7 +12,7 @@ mod table;
 
 pub use map::map;
 pub use masking::{Marks, Sizes, forecast, marks, mask};
-pub use program::forecast_line;
+pub use program::{forecast_line, listing, masked};
 pub use shares::{decode, encode};
 pub use table::{AND, NOT, RANDOM, XOR, check, run};
 

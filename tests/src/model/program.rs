@@ -1,23 +1,70 @@
-//! The forecast program, as a function from its input to its line.
+//! The programs, as functions from what they read to what they write.
 
-use super::forecast;
+use super::table::Table;
+use super::{AND, NOT, Refusal, XOR, forecast, mask};
 
-/// The longest input, the order byte included, that the program takes.
-const MOST_INPUT: usize = 65_536;
+/// The longest input, the order byte included, that the forecast program takes.
+const MOST_FORECAST: usize = 65_536;
+/// The longest table, and an order byte before it.
+const MOST_MASK: usize = 1 + 6 + 5 * 65_534 + 2 * 65_535;
+
+/// The line of a refusal, with its line feed.
+fn refused(number: u8, place: u32) -> String {
+    format!("refused {number} {place}\n")
+}
+
+impl From<Refusal> for String {
+    fn from(refusal: Refusal) -> Self {
+        refused(refusal.number(), refusal.place)
+    }
+}
+
+/// An order and a table; no input counts as order 0 and an empty table.
+fn order_and_table(input: &[u8]) -> (u8, &[u8]) {
+    input.split_first().map_or((0, input), |(&order, table)| (order, table))
+}
 
 /// The line, with its line feed, that the forecast program prints for an input.
 pub fn forecast_line(input: &[u8]) -> String {
-    if input.len() > MOST_INPUT {
-        return "refused 9 0\n".into();
+    if input.len() > MOST_FORECAST {
+        return refused(9, 0);
     }
-    let (order, table) = match input.split_first() {
-        Some((&order, table)) => (order, table),
-        None => (0, input),
-    };
+    let (order, table) = order_and_table(input);
     match forecast(table, order) {
         Ok(sizes) => {
             format!("{} {} {} {}\n", sizes.shares, sizes.wires, sizes.tape, sizes.bytes)
         }
-        Err(refusal) => format!("refused {} {}\n", refusal.number(), refusal.place),
+        Err(refusal) => refusal.into(),
     }
+}
+
+/// The masked table that the mask program writes for an input, or the line of its refusal.
+pub fn masked(input: &[u8]) -> Result<Vec<u8>, String> {
+    if input.len() > MOST_MASK {
+        return Err(refused(9, 0));
+    }
+    let (order, table) = order_and_table(input);
+    let mut out = vec![0; forecast(table, order)?.bytes as usize];
+    mask(table, order, &mut out)?;
+    Ok(out)
+}
+
+/// What the show program prints for a table: a line for each gate and each output, or that of
+/// the refusal.
+pub fn listing(table: &[u8]) -> String {
+    let table = match Table::new(table) {
+        Ok(table) => table,
+        Err(refusal) => return refusal.into(),
+    };
+    let gates = (table.inputs..).zip(table.gates()).map(|(wire, gate)| {
+        let (left, right) = (gate.left, gate.right);
+        match gate.kind {
+            NOT => format!("w{wire} = NOT w{left}\n"),
+            XOR => format!("w{wire} = XOR w{left} w{right}\n"),
+            AND => format!("w{wire} = AND w{left} w{right}\n"),
+            _ => format!("w{wire} = RANDOM\n"),
+        }
+    });
+    let outputs = table.outputs().enumerate().map(|(o, wire)| format!("out{o} = w{wire}\n"));
+    gates.chain(outputs).collect()
 }

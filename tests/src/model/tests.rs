@@ -10,6 +10,8 @@ use crate::generate::generate;
 use crate::masks::Model;
 use crate::properties::check_mapping;
 use crate::rng::Rng;
+use crate::sampled;
+use crate::samples::{bits, samples};
 
 #[test]
 fn the_papers_examples_hold() {
@@ -29,6 +31,28 @@ fn the_forecast_line_is_the_papers() {
     assert_eq!(forecast_line(&[&[0][..], &the_and()].concat()), "refused 6 0\n");
     assert_eq!(forecast_line(&[0; 65_536]), "refused 2 0\n");
     assert_eq!(forecast_line(&[0; 65_537]), "refused 9 0\n");
+}
+
+#[test]
+fn the_listing_names_every_gate_and_output() {
+    let gates = [and(0, 1), (NOT, 0, 0), (RANDOM, 0, 0), (XOR, 4, 2)];
+    let table = Circuit::new(2, &gates, &[5, 0]).bytes();
+    let lines = "w2 = AND w0 w1\nw3 = NOT w0\nw4 = RANDOM\nw5 = XOR w4 w2\nout0 = w5\nout1 = w0\n";
+    assert_eq!(listing(&table), lines);
+    assert_eq!(listing(&[]), "refused 1 0\n");
+}
+
+#[test]
+fn the_samples_compute_what_they_say() {
+    for sample in samples() {
+        let (table, inputs) = (sample.circuit.bytes(), usize::from(sample.circuit.inputs));
+        let wires = check(&table).unwrap() as usize;
+        let mut outputs = vec![2; sample.circuit.outputs.len()];
+        for x in 0..1 << inputs {
+            run(&table, &bits(x, inputs), &[], &mut vec![2; wires], &mut outputs).unwrap();
+            assert_eq!(outputs, bits((sample.truth)(x), outputs.len()), "{} of {x}", sample.name);
+        }
+    }
 }
 
 #[test]
@@ -81,6 +105,20 @@ fn all_tapes_of_small_circuits_hold_together() {
     }
     for circuit in circuits_for_order_2() {
         check_patterns(&Model, &circuit, 2).unwrap();
+    }
+}
+
+#[test]
+fn sampled_maps_hold() {
+    let mut rng = Rng::new(1);
+    for circuit in sampled::circuits() {
+        for order in [2, 3] {
+            let case = Case::Map(sampled::draw(&mut rng, &circuit, order));
+            let mut buffers = case.buffers();
+            let outcome = case.put_to(&Model, &mut buffers);
+            let Case::Map(map) = &case else { unreachable!("a map was drawn") };
+            assert_eq!(check_mapping(&Model, map, outcome.values[0], &buffers), Ok(()), "{case}");
+        }
     }
 }
 

@@ -1,7 +1,7 @@
 -- `sizing::put_figures` meets its contract: four numbers, each with its end.
 -- Assumes nothing.
 use borrow.Author.Needs.{needs}
-use Rattle.sizing.proofs.Writing.{puts-figures}
+use Rattle.sizing.proofs.Line.{puts-figures}
 use Rattle.sizing.proofs.put_figures.Statement.{statement}
 use Rattle.sizing.proofs.put_figures.Tie as tie
 

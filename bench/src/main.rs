@@ -1,0 +1,321 @@
+//! Measures every call of the archive libmasks_c.a against the separate implementation of tests/:
+//! the same inputs, both built for release, in one run.
+//!
+//!     bench measure FILE     measures, and writes the rows to a file
+//!     bench report FILE..    prints the table of rows measured in one layout or several
+//!     bench stack            prints how much stack each call of the archive takes
+//!
+//! Both are called through the same trait on slices, with buffers that are lent once and used
+//! again; neither is inlined into the loop that measures it. A size is measured on as many
+//! different inputs as make up the largest size together, in turn, so that the processor cannot
+//! learn a small one by heart. Before anything is measured, both must answer and write the same.
+
+mod clock;
+#[path = "../../tests/src/ffi.rs"]
+mod ffi;
+mod layout;
+mod load;
+mod report;
+mod stack;
+
+use std::hint::black_box;
+use std::iter::repeat_with;
+use std::process::ExitCode;
+use std::{env, fs};
+
+use compare::examples::and_chain;
+use compare::masks::{Masks, Model, Outcome};
+use compare::model::{AND, NOT, RANDOM, XOR};
+use compare::rng::Rng;
+
+use clock::{Gauge, Times, race};
+use ffi::Archive;
+use load::{Mapping, Masking, Running, any_table, plain_table};
+use report::{MAP_AGAINST_RUNS, Row};
+
+const SEED: u64 = 1;
+const ORDERS: [u8; 4] = [1, 2, 7, 15];
+const SIZES: [usize; 3] = [1_000, 8_000, 65_000];
+const MOST_WIRES: usize = 65_535;
+
+fn main() -> ExitCode {
+    layout::keep();
+    let arguments: Vec<String> = env::args().skip(1).collect();
+    let result = match &arguments[..] {
+        [word, file] if word == "measure" => measure_all(file),
+        [word, files @ ..] if word == "report" => report(files),
+        [word] if word == "stack" => {
+            print_stack();
+            Ok(())
+        }
+        _ => {
+            Err("usage: bench measure FILE\n       bench report FILE..\n       bench stack".into())
+        }
+    };
+    match result {
+        Ok(()) => ExitCode::SUCCESS,
+        Err(text) => {
+            eprintln!("{text}");
+            ExitCode::FAILURE
+        }
+    }
+}
+
+fn measure_all(file: &str) -> Result<(), String> {
+    let rows = all_rows(race);
+    let lines: String = rows.iter().map(|row| format!("{row}\n")).collect();
+    fs::write(file, lines).map_err(|error| format!("{file}: {error}"))
+}
+
+fn report(files: &[String]) -> Result<(), String> {
+    let read = |file: &String| {
+        let text = fs::read_to_string(file).map_err(|error| format!("{file}: {error}"))?;
+        text.lines().map(str::parse).collect()
+    };
+    let layouts: Vec<Vec<Row>> = files.iter().map(read).collect::<Result<_, String>>()?;
+    report::print(&report::combined(&layouts)?, layouts.len());
+    Ok(())
+}
+
+/// A line for each call with the most stack that it takes.
+fn print_stack() {
+    println!("call              ours      Rust  bytes of stack");
+    let rows = all_rows(stack::taken);
+    for call in ["check", "forecast", "mask", "run", "encode", "decode", "map"] {
+        let of_call = rows.iter().filter(|row| row.call.split(',').next() == Some(call));
+        let most = |stack: fn(&Row) -> f64| of_call.clone().map(stack).fold(0.0, f64::max);
+        if of_call.clone().next().is_some() {
+            let (ours, theirs) = (most(|row| row.times.ours), most(|row| row.times.theirs));
+            println!("{call:<13} {ours:>8} {theirs:>9}");
+        }
+    }
+}
+
+/// All that is measured, by one gauge.
+fn all_rows(gauge: Gauge) -> Vec<Row> {
+    let mut rng = Rng::new(SEED);
+    let mut rows = sized(gauge, &mut rng);
+    rows.extend(largest(gauge, &mut rng));
+    rows
+}
+
+/// Each call at each order and size.
+fn sized(gauge: Gauge, rng: &mut Rng) -> Vec<Row> {
+    let maskings: Vec<Vec<Masking>> = ORDERS
+        .iter()
+        .flat_map(|&order| SIZES.map(|size| (order, size)))
+        .map(|(order, size)| inputs_of(size, || masking(rng, order, size)))
+        .collect();
+    let mut rows = Vec::new();
+    let mut on_maskings = |call, measured: fn(Gauge, &[Masking]) -> Times| {
+        rows.extend(
+            maskings
+                .iter()
+                .map(|of_a_size| masking_row(call, of_a_size, measured(gauge, of_a_size))),
+        );
+    };
+    on_maskings("check", |gauge, maskings| check(gauge, &masked(maskings)));
+    on_maskings("forecast", forecast);
+    on_maskings("mask", mask);
+    on_maskings("run", |gauge, maskings| run(gauge, &masked(maskings)));
+    if cfg!(feature = "map") {
+        on_maskings("map", map);
+        on_maskings(MAP_AGAINST_RUNS, map_and_two_runs);
+    }
+    for call in [encode, decode] {
+        for order in ORDERS {
+            rows.extend(SIZES.map(|size| call(gauge, rng, order, size)));
+        }
+    }
+    rows
+}
+
+fn masked(maskings: &[Masking]) -> Vec<&Running> {
+    maskings.iter().map(|masking| &masking.masked).collect()
+}
+
+/// As many inputs of a size as make up the largest size together.
+fn inputs_of<T>(size: usize, input: impl FnMut() -> T) -> Vec<T> {
+    repeat_with(input).take(SIZES[2] / size).collect()
+}
+
+fn masking(rng: &mut Rng, order: u8, most_wires: usize) -> Masking {
+    let plain = plain_table(rng, order, most_wires);
+    Masking::new(rng, plain, order)
+}
+
+/// The row of a call on maskings at one order; its wires are those of the first, as all have
+/// about as many.
+fn masking_row(call: &str, maskings: &[Masking], times: Times) -> Row {
+    Row::new(call, Some(maskings[0].order), maskings[0].wires(), times)
+}
+
+/// The largest tables.
+fn largest(gauge: Gauge, rng: &mut Rng) -> Vec<Row> {
+    let mixed = any_table(rng, MOST_WIRES, &[NOT, XOR, AND, RANDOM]);
+    let ands = any_table(rng, MOST_WIRES, &[AND]);
+    let mut rows = Vec::new();
+    for (name, table) in [("mixed", mixed), ("ANDs", ands)] {
+        let running = Running::new(rng, table);
+        rows.push(Row::new(
+            &format!("check, {name}"),
+            None,
+            running.wires,
+            check(gauge, &[&running]),
+        ));
+        rows.push(Row::new(&format!("run, {name}"), None, running.wires, run(gauge, &[&running])));
+    }
+    // 8 inputs and 65,511 NOTs are 65,535 wires at order 1.
+    for (name, plain) in [("ANDs", and_chain(2_730)), ("NOTs", any_table(rng, 8 + 65_511, &[NOT]))]
+    {
+        let maskings = [Masking::new(rng, plain, 1)];
+        rows.push(masking_row(&format!("mask, {name}"), &maskings, mask(gauge, &maskings)));
+        if cfg!(feature = "map") {
+            rows.push(masking_row(&format!("map, {name}"), &maskings, map(gauge, &maskings)));
+        }
+    }
+    rows
+}
+
+/// Measures a call on several inputs in turn, once both have answered and written the same on
+/// each. The call writes into buffers of the lengths that an input asks for.
+fn measure<T, const N: usize>(
+    gauge: Gauge,
+    inputs: &[T],
+    lengths: impl Fn(&T) -> [usize; N],
+    call: impl Fn(&dyn Masks, &T, &mut [Vec<u8>; N]) -> Outcome,
+) -> Times {
+    for input in inputs {
+        let lent = || lengths(input).map(|length| vec![2_u8; length]);
+        let (mut our_buffers, mut their_buffers) = (lent(), lent());
+        let ours = call(&Archive, input, &mut our_buffers);
+        let theirs = call(&Model, input, &mut their_buffers);
+        assert_eq!(ours.number, 0, "a sound call is refused");
+        assert!(ours == theirs && our_buffers == their_buffers, "the results differ");
+    }
+    let lent = || longest(inputs.iter().map(&lengths)).map(|length| vec![2_u8; length]);
+    let (mut our_buffers, mut their_buffers) = (lent(), lent());
+    let sweep = |masks: &dyn Masks, buffers: &mut [Vec<u8>; N]| {
+        for input in inputs {
+            black_box(call(masks, black_box(input), black_box(buffers)));
+        }
+    };
+    gauge(inputs.len(), &mut || sweep(&Archive, &mut our_buffers), &mut || {
+        sweep(&Model, &mut their_buffers)
+    })
+}
+
+/// The longest of each length.
+fn longest<const N: usize>(all: impl Iterator<Item = [usize; N]>) -> [usize; N] {
+    all.fold([0; N], |longest, lengths| std::array::from_fn(|at| longest[at].max(lengths[at])))
+}
+
+fn check(gauge: Gauge, runnings: &[&Running]) -> Times {
+    measure(gauge, runnings, |_| [], |masks, running, []| masks.check(&running.table))
+}
+
+fn forecast(gauge: Gauge, maskings: &[Masking]) -> Times {
+    measure(
+        gauge,
+        maskings,
+        |_| [],
+        |masks, masking, []| masks.forecast(&masking.plain, masking.order),
+    )
+}
+
+fn mask(gauge: Gauge, maskings: &[Masking]) -> Times {
+    measure(
+        gauge,
+        maskings,
+        |masking| [masking.sizes.bytes as usize],
+        |masks, masking, [out]| masks.mask(&masking.plain, masking.order, out),
+    )
+}
+
+fn run(gauge: Gauge, runnings: &[&Running]) -> Times {
+    measure(
+        gauge,
+        runnings,
+        |running| [running.wires, running.outputs],
+        |masks, running, [values, outputs]| run_once(masks, running, values, outputs),
+    )
+}
+
+fn run_once(
+    masks: &dyn Masks,
+    running: &Running,
+    values: &mut [u8],
+    outputs: &mut [u8],
+) -> Outcome {
+    let Running { table, inputs, random, .. } = running;
+    masks.run(table, inputs, random, values, outputs)
+}
+
+/// As many secrets as have at most so many shares.
+fn encode(gauge: Gauge, rng: &mut Rng, order: u8, most_shares: usize) -> Row {
+    let n = 2 * usize::from(order) + 1;
+    let count = most_shares / n;
+    let inputs = inputs_of(most_shares, || (rng.bits(count), rng.bits((n - 1) * count)));
+    let times = measure(
+        gauge,
+        &inputs,
+        |_| [n * count],
+        |masks, (secrets, tape), [out]| masks.encode(order, secrets, tape, out),
+    );
+    Row::new("encode", Some(order), n * count, times)
+}
+
+/// As many shares as `encode` writes.
+fn decode(gauge: Gauge, rng: &mut Rng, order: u8, most_shares: usize) -> Row {
+    let n = 2 * usize::from(order) + 1;
+    let count = most_shares / n;
+    let inputs = inputs_of(most_shares, || rng.bits(n * count));
+    let times = measure(
+        gauge,
+        &inputs,
+        |_| [count],
+        |masks, shares, [out]| masks.decode(order, shares, out),
+    );
+    Row::new("decode", Some(order), n * count, times)
+}
+
+fn map(gauge: Gauge, maskings: &[Masking]) -> Times {
+    measure(gauge, maskings, map_lengths, map_once)
+}
+
+fn map_lengths(masking: &Masking) -> [usize; 3] {
+    [masking.sizes.tape as usize, masking.wires(), masking.wires()]
+}
+
+fn map_once(
+    masks: &dyn Masks,
+    masking: &Masking,
+    [mapped, one, other]: &mut [Vec<u8>; 3],
+) -> Outcome {
+    let Masking { plain, order, mapping, .. } = masking;
+    let Mapping { first, second, tape, probes } = mapping;
+    masks.map(plain, *order, first, second, tape, probes, mapped, one, other)
+}
+
+/// The archive's map, against two of its runs of the masked table.
+fn map_and_two_runs(gauge: Gauge, maskings: &[Masking]) -> Times {
+    let mut map_lent = longest(maskings.iter().map(map_lengths)).map(|length| vec![2; length]);
+    let mut run_lent = [map_lent[1].clone(), vec![2; maskings[0].masked.outputs]];
+    gauge(
+        maskings.len(),
+        &mut || {
+            for masking in maskings {
+                black_box(map_once(&Archive, black_box(masking), black_box(&mut map_lent)));
+            }
+        },
+        &mut || {
+            for masking in maskings {
+                for _ in 0..2 {
+                    let (running, lent) = (black_box(&masking.masked), black_box(&mut run_lent));
+                    let [values, outputs] = lent;
+                    black_box(run_once(&Archive, running, values, outputs));
+                }
+            }
+        },
+    )
+}

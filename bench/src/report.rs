@@ -1,0 +1,164 @@
+//! Measured rows, kept in a file for each layout, and the table printed of them.
+
+use std::fmt;
+use std::str::FromStr;
+
+use crate::clock::Times;
+
+const ABOUT: &str = "\
+Microseconds a call, the median of many: this library's, then those of the separate implementation
+in Rust. A ratio above 1.00 is marked. Wires are those of the masked table, in encode and decode the
+share bits. Growth is the time for each wire at the largest size against the smallest. An AND takes
+24, 75, 750 and 3,286 wires at order 1, 2, 7 and 15: at 15 the smallest tables have none.";
+
+/// The call of a row that compares the library's map with two of its runs.
+pub const MAP_AGAINST_RUNS: &str = "map / 2 runs";
+/// A map may cost so many times two runs of the masked table.
+const MAP_GOAL: f64 = 3.0;
+
+/// One call at one size; no order for a call that takes none.
+#[derive(Clone, PartialEq)]
+pub struct Row {
+    pub call: String,
+    pub order: Option<u8>,
+    pub wires: usize,
+    pub times: Times,
+}
+
+impl Row {
+    pub fn new(call: &str, order: Option<u8>, wires: usize, times: Times) -> Self {
+        Row { call: call.into(), order, wires, times }
+    }
+
+    /// The ratio as printed, with two digits.
+    fn ratio(&self) -> f64 {
+        (100.0 * self.times.ours / self.times.theirs).round() / 100.0
+    }
+
+    fn a_wire(&self) -> f64 {
+        self.times.ours / self.wires as f64
+    }
+
+    /// Whether both are the same call at the same order, at whatever size.
+    fn same_call(&self, other: &Row) -> bool {
+        self.call == other.call && self.order == other.order
+    }
+
+    /// One of the largest tables, which stand together.
+    fn is_largest(&self) -> bool {
+        self.call.contains(',')
+    }
+
+    /// The ratio that a row should not exceed.
+    fn goal(&self) -> f64 {
+        if self.call == MAP_AGAINST_RUNS { MAP_GOAL } else { 1.0 }
+    }
+}
+
+/// A row in a file: its parts, with tabs between them.
+impl fmt::Display for Row {
+    fn fmt(&self, f: &mut fmt::Formatter<'_>) -> fmt::Result {
+        let Row { call, wires, times: Times { ours, theirs }, .. } = self;
+        write!(f, "{call}\t{}\t{wires}\t{ours}\t{theirs}", self.order.unwrap_or(0))
+    }
+}
+
+fn number<T: FromStr>(text: &str) -> Result<T, String> {
+    text.parse().map_err(|_| format!("no number: {text}"))
+}
+
+impl FromStr for Row {
+    type Err = String;
+
+    fn from_str(line: &str) -> Result<Self, String> {
+        let parts: Vec<&str> = line.split('\t').collect();
+        let [call, order, wires, ours, theirs] = parts[..] else {
+            return Err(format!("no row: {line}"));
+        };
+        let order: u8 = number(order)?;
+        let times = Times { ours: number(ours)?, theirs: number(theirs)? };
+        Ok(Row::new(call, (order > 0).then_some(order), number(wires)?, times))
+    }
+}
+
+/// The same rows measured in several layouts, as one: the medians.
+pub fn combined(layouts: &[Vec<Row>]) -> Result<Vec<Row>, String> {
+    let Some((first, others)) = layouts.split_first() else {
+        return Err("nothing was measured".into());
+    };
+    let mut rows = first.clone();
+    for (at, row) in rows.iter_mut().enumerate() {
+        let mut times = vec![row.times];
+        for other in others {
+            let same =
+                other.get(at).filter(|other| row.same_call(other) && row.wires == other.wires);
+            times.push(same.ok_or("the layouts have different rows")?.times);
+        }
+        row.times = Times {
+            ours: median(times.iter().map(|times| times.ours).collect()),
+            theirs: median(times.iter().map(|times| times.theirs).collect()),
+        };
+    }
+    Ok(rows)
+}
+
+fn median(mut times: Vec<f64>) -> f64 {
+    times.sort_unstable_by(f64::total_cmp);
+    let middle = times.len() / 2;
+    if times.len().is_multiple_of(2) {
+        (times[middle - 1] + times[middle]) / 2.0
+    } else {
+        times[middle]
+    }
+}
+
+/// Prints the table and what stands out in it.
+pub fn print(rows: &[Row], layouts: usize) {
+    println!("{ABOUT}");
+    println!(
+        "Each time is the median over {layouts} places in memory to which the code was linked.\n"
+    );
+    println!("call          order  wires      ours      Rust  ratio  growth");
+    let (mut above, mut largest_growth, mut map_ratio) = (0, 0_f64, None);
+    for (at, row) in rows.iter().enumerate() {
+        let before = at.checked_sub(1).map(|before| &rows[before]);
+        if before.is_some_and(|b| b.call != row.call && !(b.is_largest() && row.is_largest())) {
+            println!();
+        }
+        let growth = growth(rows, at);
+        largest_growth = largest_growth.max(growth.unwrap_or(0.0));
+        if row.call == MAP_AGAINST_RUNS {
+            map_ratio = Some(map_ratio.map_or(row.ratio(), |most: f64| most.max(row.ratio())));
+        } else if row.ratio() > 1.0 {
+            above += 1;
+        }
+        println!("{}", text(row, growth));
+    }
+    let ratios = rows.iter().filter(|row| row.call != MAP_AGAINST_RUNS).count();
+    println!(
+        "\n{above} of {ratios} ratios are above 1.00. The largest growth is {largest_growth:.2}."
+    );
+    if let Some(ratio) = map_ratio {
+        println!("A map costs at most {ratio:.2} times two runs of the masked table (goal: 3).");
+    }
+}
+
+/// The growth of a call, at its largest size, from its smallest, which comes two rows before.
+fn growth(rows: &[Row], at: usize) -> Option<f64> {
+    let (small, large) = (&rows[at.checked_sub(2)?], &rows[at]);
+    let grows = small.same_call(large) && large.call != MAP_AGAINST_RUNS;
+    grows.then(|| large.a_wire() / small.a_wire())
+}
+
+fn text(row: &Row, growth: Option<f64>) -> String {
+    let Row { call, wires, times: Times { ours, theirs }, .. } = row;
+    let order = row.order.map_or("-".into(), |order| order.to_string());
+    let (ours, theirs, ratio) = (ours / 1e3, theirs / 1e3, row.ratio());
+    let growth = growth.map_or(String::new(), |growth| format!("{growth:.2}"));
+    let mark =
+        if ratio > row.goal() { format!("<-- above {:.2}", row.goal()) } else { String::new() };
+    let text = format!(
+        "{call:<13} {order:>5} {wires:>6} {ours:>9.2} {theirs:>9.2} {ratio:>6.2} {growth:>7} {mark}"
+    );
+    text.trim_end().to_string()
+}

@@ -1,0 +1,2 @@
+-- A table in words.
+pub mod Listing

@@ -1,0 +1,2 @@
+-- Laws of text that callers above cite.
+pub mod Writing

@@ -1,0 +1,2 @@
+-- What the walk takes and gives.
+pub mod Walking

@@ -1,0 +1,141 @@
+// The walk over a masked table's gates with both runs: the second run's random bits and both runs' values.
+ghost use mathlib.Core.Path.{_≡_};
+ghost use Prim.Native.Nat.{_+_, _*_, _≤_, _<_};
+ghost use lib.ListN.{getD};
+ghost use Rattle.tables.specs.Tables.{kindOf};
+ghost use Rattle.tables.specs.Runs.{xor};
+ghost use Rattle.maps.specs.Walk.{inRow, gateDiffers, afterGate};
+ghost use Rattle.walking.specs.Walking.{gateOf, ProductReady, crossFlip, CrossReady, BitReady, bitPut, WalkReady, WalkSays};
+
+// Whether the product that a gate makes differs between the runs: 1 or 0.
+fn product_differs(masked: &[u8], gates: usize, g: usize, one: &[u8], other: &[u8]) -> u8
+    requires { ⌜ ProductReady (now masked) gates g (now one) (now other) ⌝ }
+    ensures { λ r. ⌜ (r
+        ≡ gateDiffers (λ p. getD (now (one .entry)) p 0) (λ p. getD (now (other .entry)) p 0)
+        (gateOf (now (masked .entry)) gates g))
+        × (r ≤ 1) ⌝ }
+{
+    let left = tables::field(masked, 6 + gates + 4 * g);
+    let right = tables::field(masked, 8 + gates + 4 * g);
+    (one[left] * one[right] + other[left] * other[right]) % 2
+}
+
+// The bit that random gate g takes in the second run, where its bit in the first is known and its pair is given by number.
+fn mapped_bit(
+    masked: &[u8],
+    gates: usize,
+    g: usize,
+    from: usize,
+    to: usize,
+    pair: usize,
+    bit: u8,
+    one: &[u8],
+    other: &[u8],
+) -> u8
+    requires { ⌜ CrossReady (now masked) gates g (now one) (now other) × (bit ≤ 1) ⌝ }
+    ensures { λ r. ⌜ r
+        ≡ xor bit
+        (crossFlip (now (masked .entry)) gates g (inRow from to pair) (now (one .entry)) (now (other .entry))) ⌝ }
+{
+    if pair < from {
+        return bit;
+    }
+    if to <= pair {
+        return bit;
+    }
+    let a = product_differs(masked, gates, g + 1, one, other);
+    let b = product_differs(masked, gates, g + 3, one, other);
+    (bit + (a + b) % 2) % 2
+}
+
+// Puts the bit that gate g takes in the second run, where it is a random gate.
+fn put_mapped(
+    masked: &[u8],
+    gates: usize,
+    g: usize,
+    from: usize,
+    to: usize,
+    pair: usize,
+    random: &[u8],
+    next: usize,
+    one: &[u8],
+    other: &[u8],
+    mapped: &mut [u8],
+)
+    requires { ⌜ BitReady (now masked) (now random) gates g next (now one) (now other) (now mapped) ⌝ }
+    ensures { λ _. ⌜ now (mapped .exit)
+        ≡ bitPut (kindOf (getD (now (masked .entry)) (6 + g) 0)) (now (mapped .entry)) next
+        (xor (getD (now (random .entry)) next 0)
+        (crossFlip (now (masked .entry)) gates g (inRow from to pair) (now (one .entry)) (now (other .entry)))) ⌝ }
+{
+    if masked[6 + g] == 3 {
+        let bit = tables::tape_bit(random, next);
+        mapped[next] = mapped_bit(masked, gates, g, from, to, pair, bit, one, other);
+    }
+}
+
+// The number of the pair after a gate: a random gate ends one, and the last pair is followed by the first of another AND.
+fn next_pair(kind: u8, pair: usize, pairs: usize) -> usize
+    requires { ⌜ pair ≤ 65535 ⌝ }
+    ensures { λ r. ⌜ r ≡ afterGate (kindOf kind) pairs pair ⌝ }
+{
+    if kind != 3 {
+        return pair;
+    }
+    if pair + 1 == pairs {
+        return 0;
+    }
+    pair + 1
+}
+
+// One pass over a masked table's gates with both runs: the second run's random bits, and both runs' values.
+pub fn walk(
+    masked: &[u8],
+    inputs: usize,
+    gates: usize,
+    from: usize,
+    to: usize,
+    pairs: usize,
+    random: &[u8],
+    mapped: &mut [u8],
+    one: &mut [u8],
+    other: &mut [u8],
+)
+    requires { ⌜ WalkReady (now masked) (now random) (now mapped) (now one) (now other) inputs gates ⌝ }
+    ensures { λ _. ⌜ WalkSays (now (masked .entry)) (now (random .entry)) inputs from to pairs
+        (now (mapped .entry))
+        (now (mapped .exit))
+        (now (one .entry))
+        (now (one .exit))
+        (now (other .entry))
+        (now (other .exit)) ⌝ }
+{
+    let mut next: usize = 0;
+    let mut pair: usize = 0;
+    let mut g: usize = 0;
+    while g < gates {
+        let kind = masked[6 + g];
+        let left = tables::field(masked, 6 + gates + 4 * g);
+        let right = tables::field(masked, 8 + gates + 4 * g);
+        put_mapped(
+            masked,
+            gates,
+            g,
+            from,
+            to,
+            pair,
+            random,
+            next,
+            one,
+            other,
+            mapped,
+        );
+        let a = running::gate_value(kind, one[left], one[right], random, next);
+        let b = running::gate_value(kind, other[left], other[right], mapped, next);
+        one[inputs + g] = a.value;
+        other[inputs + g] = b.value;
+        pair = next_pair(kind, pair, pairs);
+        next = a.next;
+        g += 1;
+    }
+}
