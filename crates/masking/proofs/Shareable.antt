@@ -14,7 +14,25 @@ use borrow.Author.Tests.{ltb-true, eqb-true, leb-true}
 use mir.Syntax.{w64}
 use mir.Val.{Fits}
 use Rattle.tables.specs.Refusals.{passed, orElse, refusedIf}
-use Rattle.tables.specs.Tables.{Kind, NOT, XOR, AND, RANDOM, UNKNOWN, kindOf, Gate, gate, Table, wires, word, tableOf, tableLong, tableFault, randomFault, operandsOk}
+use Rattle.tables.specs.Tables.{
+  Kind,
+  NOT,
+  XOR,
+  AND,
+  RANDOM,
+  UNKNOWN,
+  kindOf,
+  Gate,
+  gate,
+  Table,
+  wires,
+  word,
+  tableOf,
+  tableLong,
+  tableFault,
+  randomFault,
+  operandsOk,
+}
 use Rattle.tables.proofs.Tests.{and-true, both-passed}
 use Rattle.tables.proofs.Lists.{All}
 use Rattle.tables.proofs.Accept.{PlainGate, PlainGates, Accepted, accepted, inputs-of, gates-of-length, outputs-of-length}

@@ -27,7 +27,18 @@ use Rattle.writing.proofs.Drivers.{masked-drivers, masked-kinds}
 use Rattle.writing.proofs.GateKinds.{kinds-same}
 use Rattle.writing.proofs.Bytes.{operands-append, operands-long, wire-kinds-append, wire-kinds-long}
 use Rattle.masks.proofs.Placed.{Placed, share-below, placed-at, placed-inputs, placed-after, outputs-stand, shares-after-length}
-use Rattle.masking.proofs.Located.{noGate, gateOf, gate-wire-suc, located-next, listed-length, by-at, by-length, located-shares, located-placed, gate-wire-left}
+use Rattle.masking.proofs.Located.{
+  noGate,
+  gateOf,
+  gate-wire-suc,
+  located-next,
+  listed-length,
+  by-at,
+  by-length,
+  located-shares,
+  located-placed,
+  gate-wire-left,
+}
 use Rattle.masking.proofs.Shareable.{Sized, Turn, turn, gate-at, shareable-sized, shareable-passed}
 
 -- a buffer where the rest is still to be put at a place, after which it is what it shall become

@@ -5,7 +5,8 @@ ghost use lib.ListN.{length};
 ghost use Rattle.tables.specs.Tables.{kindOf, wordBytes, word, tableOf, two, kindBytes, pairBytes, tableBytes};
 ghost use Rattle.masks.specs.Wires.{cost, totalOf, newShares, inputShares, outputShares, maskedTable};
 ghost use Rattle.writing.specs.Layout.{listed, LowShares};
-ghost use Rattle.masking.specs.Masking.{Shareable, placesAt, Small, sharesBy, Room, Put, Located, allShares, gateWire, stretch, maskedGates, afterSizes};
+ghost use Rattle.masking.specs.Masking.{Shareable, placesAt, Small, sharesBy, Room, Put};
+ghost use Rattle.masking.specs.Masking.{Located, allShares, gateWire, stretch, maskedGates, afterSizes};
 ghost use Rattle.tables.specs.Says.{putAt, over};
 ghost use Rattle.sizing.specs.Plans.{PlanReady, planBytes};
 ghost use mathlib.Core.List.{[], _++_};
@@ -55,7 +56,8 @@ fn new_places(kind: u8, n: usize, w: usize, a: writing::Places) -> writing::Plac
 // Notes where the shares of plain wire p are.
 fn put_places(first: &mut [u16], base: &mut [u16], step: &mut [u16], p: usize, a: writing::Places)
     requires { ⌜ Room (p + 1) (now first) (now base) (now step) × Small a ⌝ }
-    ensures { λ _. ⌜ Put p a (now (first .entry)) (now (base .entry)) (now (step .entry)) (now (first .exit)) (now (base .exit)) (now (step .exit)) ⌝ }
+    ensures { λ _. ⌜ Put p a (now (first .entry)) (now (base .entry)) (now (step .entry)) (now (first .exit)) (now (base .exit))
+        (now (step .exit)) ⌝ }
 {
     first[p] = a.first as u16;
     base[p] = a.base as u16;
@@ -91,7 +93,9 @@ fn place_gates(
     base: &mut [u16],
     step: &mut [u16],
 )
-    requires { ⌜ Shareable (now table) n × (inputs ≡ word (now table) 0) × (gates ≡ word (now table) 2) × Room (inputs + gates) (now first) (now base) (now step) × (sharesBy n (now first) (now base) (now step) inputs ≡ inputShares n inputs) ⌝ }
+    requires { ⌜ Shareable (now table) n × (inputs ≡ word (now table) 0) × (gates ≡ word (now table) 2)
+        × Room (inputs + gates) (now first) (now base) (now step)
+        × (sharesBy n (now first) (now base) (now step) inputs ≡ inputShares n inputs) ⌝ }
     ensures { λ _. ⌜ Located (tableOf (now (table .entry))) n (now (first .exit)) (now (base .exit)) (now (step .exit)) ⌝ }
 {
     let mut w = n * inputs;
@@ -186,7 +190,8 @@ fn write_outputs(
 )
     requires { ⌜ Shareable (now table) n × (gates ≡ word (now table) 2) × (outputs ≡ word (now table) 4)
         × Located (tableOf (now table)) n (now first) (now base) (now step) × (2 * (n * outputs) ≤ length (now outs)) ⌝ }
-    ensures { λ _. ⌜ now (outs .exit) ≡ over (wordBytes (outputShares (allShares n (tableOf (now (table .entry)))) (tableOf (now (table .entry)) .outputs))) (now (outs .entry)) ⌝ }
+    ensures { λ _. ⌜ now (outs .exit) ≡ over (wordBytes (outputShares (allShares n (tableOf (now (table .entry)))) (tableOf (now
+        (table .entry)) .outputs))) (now (outs .entry)) ⌝ }
 {
     let mut at = 0;
     let mut o = 0;

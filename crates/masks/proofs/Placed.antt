@@ -18,7 +18,31 @@ use Rattle.tables.proofs.Format.{SoundGates, sound-append}
 use Rattle.tables.proofs.Accept.{PlainGate, PlainGates, Plain}
 use Rattle.masks.specs.Shares.{sharesOf, upFrom, inTurn, Pair, pairOf, pairs, tri, pairAt, row}
 use Rattle.masks.specs.Gadgets.{Five, first, second, third, fourth, fifth, place, Gadget}
-use Rattle.masks.specs.Wires.{Wire, wire, Origin, andPart, sum, xorShare, share, driverOf, adding, pairWires, rowWires, pairWire, andWires, newWires, newShares, inputShares, cost, draws, masked, sharesAfter, outputShares, maskedTable, totalOf}
+use Rattle.masks.specs.Wires.{
+  Wire,
+  wire,
+  Origin,
+  andPart,
+  sum,
+  xorShare,
+  share,
+  driverOf,
+  adding,
+  pairWires,
+  rowWires,
+  pairWire,
+  andWires,
+  newWires,
+  newShares,
+  inputShares,
+  cost,
+  draws,
+  masked,
+  sharesAfter,
+  outputShares,
+  maskedTable,
+  totalOf,
+}
 use Rattle.masks.proofs.Sum.{up-length, up-all, up-at}
 use Rattle.masks.proofs.Rows.{pairs-length, pairs-in, pair-below, row-length, row-all}
 use Rattle.masks.proofs.Each.{Each, each-append, each-in-turn, each-up, each-rows, in-turn-length}
@@ -53,8 +77,14 @@ pub new-stands :
     (k : Kind) (n w p l r : ℕ) (a : List ℕ) → 1 ≤ n → PlainGate p k l r → Stands n w a
     → Stands n (w + cost k n) (newShares k n w a)
 unfolding All
-new-stands NOT n w p l r a h g s =
-    (omega (arith, length-drop 1 a, s .0), (omega arith, all-map (λ x. x < w) (λ x. x < w + 1) (λ x k. omega arith) (drop 1 a) (all-drop _ 1 a (s .1))))
+new-stands NOT n w p l r a h g s = (
+  omega (arith, length-drop 1 a, s .0),
+  (
+    omega arith,
+    all-map (λ x. x < w) (λ x. x < w + 1) (λ x k. omega arith) (drop 1 a)
+        (all-drop _ 1 a (s .1)),
+  ),
+)
 new-stands XOR n w p l r a h g s = (up-length n w _, up-all _ n w _ (λ i _ k. k))
 new-stands AND n w p l r a h g s =
     (up-length n 0 _, up-all _ n 0 _ (λ i _ k. omega (arith, row-ends n i (omega arith))))

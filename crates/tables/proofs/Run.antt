@@ -117,7 +117,8 @@ run-solves-at w c (g ∷ gs) rs vs e h =
     driven-local k (g .left) (g .right) w (getD (drop c rs) 0 0) _ _ (h .0) local in
     let d : drop (drawn k) (drop c rs) ≡ drop (c + drawn k) rs = drop-drop (drawn k) c rs in
     rw d (
-      keep w (omega arith) ∙ at ∙ is ∙ ap (λ (b : ℕ). driven k (g .left) (g .right) (λ p. getD (runFrom gs (drop (c + drawn k) rs) ws) p 0) b) bit,
+      keep w (omega arith) ∙ at ∙ is ∙ ap (λ (b : ℕ). driven k (g .left) (g .right) (λ p. getD (runFrom gs (drop
+          (c + drawn k) rs) ws) p 0) b) bit,
       run-solves-at (suc w) (c + drawn k) gs rs ws long (h .1),
     )
 

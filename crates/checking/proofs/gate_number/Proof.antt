@@ -1,4 +1,4 @@
--- `tables::gate_number` meets its contract: the kind first, then the operands against their limits.
+-- `checking::gate_number` meets its contract: the kind first, then the operands against their limits.
 -- Assumes nothing.
 use native.Mathlib.Omega.{arith}
 use Rattle.checking.proofs.Checks.{number-kind, number-left, number-right, number-good}

@@ -1,4 +1,4 @@
--- `tables::left_limit` meets its contract: only a random gate has no left operand.
+-- `checking::left_limit` meets its contract: only a random gate has no left operand.
 -- Assumes nothing.
 use Rattle.checking.proofs.Checks.{left-unused, left-used}
 use Rattle.checking.proofs.left_limit.Statement.{statement}

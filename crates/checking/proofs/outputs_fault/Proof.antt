@@ -1,4 +1,4 @@
--- `tables::outputs_fault` meets its contract. The loop's invariant: the outputs before o are wires.
+-- `checking::outputs_fault` meets its contract. The loop's invariant: the outputs before o are wires.
 -- Assumes nothing.
 use Prim.Native.Nat.{_-_}
 use native.Mathlib.Numerals.{add-one}

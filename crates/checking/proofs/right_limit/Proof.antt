@@ -1,4 +1,4 @@
--- `tables::right_limit` meets its contract: a NOT has no right operand, any other gate has one where it has a left one.
+-- `checking::right_limit` meets its contract: a NOT has no right operand, any other gate has one where it has a left one.
 -- Assumes nothing.
 use Rattle.checking.proofs.right_limit.Statement.{statement}
 use Rattle.checking.proofs.right_limit.Tie as tie

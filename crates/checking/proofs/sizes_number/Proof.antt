@@ -1,4 +1,4 @@
--- `tables::sizes_number` meets its contract: each test is one of the definition's, on the sizes read.
+-- `checking::sizes_number` meets its contract: each test is one of the definition's, on the sizes read.
 -- Assumes nothing.
 use native.Mathlib.Omega.{arith}
 use mathlib.Core.Logic.{⊎-elim}

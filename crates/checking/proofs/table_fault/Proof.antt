@@ -1,4 +1,4 @@
--- `tables::table_fault` meets its contract: sizes that pass make room for the gates and the outputs, and the first to refuse
+-- `checking::table_fault` meets its contract: sizes that pass make room for the gates and the outputs, and the first to refuse
 -- answers.
 -- Assumes nothing.
 use native.Mathlib.Omega.{arith}

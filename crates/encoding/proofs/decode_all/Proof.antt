@@ -1,4 +1,4 @@
--- `masks::decode_all` meets its contract. The loop's invariant: the sums from i on are left to write.
+-- `encoding::decode_all` meets its contract. The loop's invariant: the sums from i on are left to write.
 -- Assumes nothing.
 use Prim.Native.Nat.{_-_}
 use native.Mathlib.Omega.{arith}

@@ -1,4 +1,4 @@
--- `masks::decode_one` meets its contract. The loop's invariant: the shares from j on are left to add.
+-- `encoding::decode_one` meets its contract. The loop's invariant: the shares from j on are left to add.
 -- Assumes nothing.
 use Prim.Native.Nat.{_-_}
 use native.Mathlib.Omega.{arith}

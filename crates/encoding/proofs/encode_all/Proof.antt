@@ -1,4 +1,4 @@
--- `masks::encode_all` meets its contract. The loop's invariant: the encoding of the secrets from i on is left to write.
+-- `encoding::encode_all` meets its contract. The loop's invariant: the encoding of the secrets from i on is left to write.
 -- Assumes nothing.
 use Prim.Native.Nat.{_+_, _-_, _*_, _≤_, _<_}
 use native.Mathlib.Omega.{arith}

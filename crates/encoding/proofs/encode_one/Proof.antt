@@ -1,4 +1,4 @@
--- `masks::encode_one` meets its contract. The loop's invariant: the rest of the secret's shares is left to write.
+-- `encoding::encode_one` meets its contract. The loop's invariant: the rest of the secret's shares is left to write.
 -- Assumes nothing.
 use Prim.Native.Nat.{_*_, _-_}
 use native.Mathlib.Omega.{arith}

@@ -1,4 +1,4 @@
--- `masks::locate` meets its contract: the inputs, then the gates.
+-- `masking::locate` meets its contract: the inputs, then the gates.
 -- Assumes nothing.
 use native.Mathlib.Omega.{arith}
 use borrow.Author.Needs.{needs}
@@ -21,8 +21,14 @@ place-gates-requires : tie.Need-place-gates-requires
 place-gates-requires c κs =
     let pre = c .before .before .before .before .before .before .before .before .before .before .before .before .before .before .before .before .before .pre in
     let w = plan-work (pre .0) in
-    let kept = c .before .before .before .before .before .before .before .before .before .place-inputs .kept in
-    (w .shareable, w .inputs, w .gates, room-kept (pre .1) (omega arith) (kept .1 .1 .0) (kept .1 .1 .1 .0) (kept .1 .1 .1 .1 .0), c .before .before .before .before .before .before .before .before .before .place-inputs .ensures)
+    let kept = c .before .before .before .before .before .before .before .before .before .place-inputs .kept in (
+      w .shareable,
+      w .inputs,
+      w .gates,
+      room-kept (pre .1) (omega arith) (kept .1 .1 .0) (kept .1 .1 .1 .0)
+          (kept .1 .1 .1 .1 .0),
+      c .before .before .before .before .before .before .before .before .before .place-inputs .ensures,
+    )
 
 same-length : tie.Need-same-length
 same-length c = search needs

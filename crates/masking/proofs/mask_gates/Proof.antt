@@ -1,4 +1,4 @@
--- `masks::mask_gates` meets its contract: three parts of the buffer, each lent to the function that writes it.
+-- `masking::mask_gates` meets its contract: three parts of the buffer, each lent to the function that writes it.
 -- Assumes nothing.
 use native.Mathlib.Omega.{arith}
 use borrow.Author.Needs.{needs}
@@ -60,14 +60,18 @@ part-write-operands-end c = search needs
 write-operands-requires : tie.Need-write-operands-requires
 write-operands-requires c κs =
     let pre = c .before .before .before .before .before .before .before .before .before .before .before .before .pre in
-    let kept = kinds-kept (pre .0) (pre .1) (c .before .before .before .before .before .before .before .before .before .before .before .before .args .out .now) (pre .2) (c .before .before .before .write-kinds .ensures) in
+    let kept = kinds-kept (pre .0) (pre .1)
+    (c .before .before .before .before .before .before .before .before .before .before .before .before .args .out .now) (pre .2)
+    (c .before .before .before .write-kinds .ensures) in
     operands-asked (pre .0) (pre .1) _ kept
 
 mul-write-outputs : tie.Need-mul-write-outputs
-mul-write-outputs c = let m = plan-numbers (c .before .before .before .before .before .before .before .before .before .before .before .before .before .before .before .pre .0) in omega arith
+mul-write-outputs c = let m = plan-numbers
+    (c .before .before .before .before .before .before .before .before .before .before .before .before .before .before .before .pre .0) in omega arith
 
 add-write-outputs : tie.Need-add-write-outputs
-add-write-outputs c = let m = plan-numbers (c .before .before .before .before .before .before .before .before .before .before .before .before .before .before .before .pre .0) in omega arith
+add-write-outputs c = let m = plan-numbers
+    (c .before .before .before .before .before .before .before .before .before .before .before .before .before .before .before .pre .0) in omega arith
 
 sub-write-outputs : tie.Need-sub-write-outputs
 sub-write-outputs c = search needs
@@ -81,12 +85,15 @@ part-write-outputs-end c = search needs
 write-outputs-requires : tie.Need-write-outputs-requires
 write-outputs-requires c κs =
     let pre = c .before .before .before .before .before .before .before .before .before .before .before .before .before .before .before .before .pre in
-    let kept = kinds-kept (pre .0) (pre .1) (c .before .before .before .before .before .before .before .before .before .before .before .before .before .before .before .before .args .out .now) (pre .2) (c .before .before .before .before .before .before .before .write-kinds .ensures) in
+    let kept = kinds-kept (pre .0) (pre .1)
+    (c .before .before .before .before .before .before .before .before .before .before .before .before .before .before .before .before .args .out .now)
+    (pre .2) (c .before .before .before .before .before .before .before .write-kinds .ensures) in
     let kept₂ = operands-kept (pre .0) (pre .1) _ kept (c .before .before .before .write-operands .ensures) in
     let p = c .before .before .before .before .before .before .before .before .before .before .before .before .before .before .before .before .args .p in
     let x = c .before .before .before .before .before .before .before .write-kinds .last .1 .1 .1 .1 .0 in
     let y = c .before .before .before .write-operands .last .1 .1 .1 .1 .1 .1 .1 .1 .1 .0 in
-    outputs-asked (pre .0) (pre .1) (operandsBack p (kindsBack p (c .before .before .before .before .before .before .before .before .before .before .before .before .before .before .before .before .args .out .now) x) y) kept₂
+    outputs-asked (pre .0) (pre .1) (operandsBack p (kindsBack p
+    (c .before .before .before .before .before .before .before .before .before .before .before .before .before .before .before .before .args .out .now) x) y) kept₂
 
 same-length : tie.Need-same-length
 same-length c = search needs
@@ -94,8 +101,11 @@ same-length c = search needs
 returns : tie.Need-returns
 returns c =
     let pre = c .before .before .before .before .before .before .before .before .before .before .before .before .before .before .before .before .before .before .before .pre in
-    parts-back (pre .0) (pre .1) (c .before .before .before .before .before .before .before .before .before .before .before .before .before .before .before .before .before .before .before .args .out .now) (pre .2)
-    (c .before .before .before .before .before .before .before .before .before .before .write-kinds .ensures) (c .before .before .before .before .before .before .write-operands .ensures) (c .before .before .write-outputs .ensures)
+    parts-back (pre .0) (pre .1)
+    (c .before .before .before .before .before .before .before .before .before .before .before .before .before .before .before .before .before .before .before .args .out .now)
+    (pre .2)
+    (c .before .before .before .before .before .before .before .before .before .before .write-kinds .ensures)
+    (c .before .before .before .before .before .before .write-operands .ensures) (c .before .before .write-outputs .ensures)
 
 pub mask-gates-spec : {M : Type 1} → statement M
 mask-gates-spec =

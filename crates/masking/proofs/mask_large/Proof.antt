@@ -19,7 +19,12 @@ slice-aggregate-mask-with-3 : tie.Need-slice-aggregate-mask-with-3
 slice-aggregate-mask-with-3 c = sym (length-replicate {A = ℕ} 65536 0)
 
 mask-with-requires : tie.Need-mask-with-requires
-mask-with-requires c κs = let pre = c .before .before .before .before .before .before .pre in (pre .0, room-of _ 65536 (omega (arith, plan-plain (pre .0))), pre .1)
+mask-with-requires c κs = let pre = c .before .before .before .before .before .before .pre in (
+  pre .0,
+  room-of _ 65536 (omega
+      (arith, plan-plain (pre .0))),
+  pre .1,
+)
 
 same-length : tie.Need-same-length
 same-length c = search needs

@@ -19,7 +19,8 @@ enum-known-planned c = search needs
 returns : tie.Need-returns
 returns c =
     mask-refused
-    (subst (λ (r : Planned). PlanSays (c .before .before .before .before .before .before .args .table .now) (c .before .before .before .before .before .before .args .order) r)
+    (subst (λ (r : Planned). PlanSays (c .before .before .before .before .before .before .args .table .now)
+    (c .before .before .before .before .before .before .args .order) r)
     (c .before .planned .given .1)
     (c .before .before .before .plan-table .ensures))
 
@@ -29,14 +30,16 @@ enum-known-planned-2 c = search needs
 plan-bytes-requires : tie.Need-plan-bytes-requires
 plan-bytes-requires c κs =
     plan-fits
-    (subst (λ (r : Planned). PlanSays (c .before .before .before .before .before .before .args .table .now) (c .before .before .before .before .before .before .args .order) r)
+    (subst (λ (r : Planned). PlanSays (c .before .before .before .before .before .before .args .table .now)
+    (c .before .before .before .before .before .before .args .order) r)
     (c .before .planned2 .given .1)
     (c .before .before .before .plan-table .ensures))
 
 returns-2 : tie.Need-returns-2
 returns-2 c =
     mask-short
-    (subst (λ (r : Planned). PlanSays (c .before .before .before .before .before .before .before .before .args .table .now) (c .before .before .before .before .before .before .before .before .args .order) r)
+    (subst (λ (r : Planned). PlanSays (c .before .before .before .before .before .before .before .before .args .table .now)
+    (c .before .before .before .before .before .before .before .before .args .order) r)
     (c .before .before .before .planned2 .given .1)
     (c .before .before .before .before .before .plan-table .ensures))
     (omega (arith, c .if1 .taken, c .before .plan-bytes .ensures))
@@ -44,7 +47,8 @@ returns-2 c =
 mask-into-requires : tie.Need-mask-into-requires
 mask-into-requires c κs = (
   plan-own
-      (subst (λ (r : Planned). PlanSays (c .before .before .before .before .before .before .before .before .before .args .table .now) (c .before .before .before .before .before .before .before .before .before .args .order) r)
+      (subst (λ (r : Planned). PlanSays (c .before .before .before .before .before .before .before .before .before .args .table .now)
+      (c .before .before .before .before .before .before .before .before .before .args .order) r)
       (c .before .before .before .before .planned2 .given .1)
       (c .before .before .before .before .before .before .plan-table .ensures)),
   omega (arith, c .before .if1 .left, c .before .before .plan-bytes .ensures),
@@ -53,7 +57,9 @@ mask-into-requires c κs = (
 cast-t13 : tie.Need-cast-t13
 cast-t13 c =
     let f = plan-fits
-    (subst (λ (r : Planned). PlanSays (c .before .before .before .before .before .before .before .before .before .before .before .before .args .table .now) (c .before .before .before .before .before .before .before .before .before .before .before .before .args .order) r)
+    (subst (λ (r : Planned). PlanSays
+    (c .before .before .before .before .before .before .before .before .before .before .before .before .args .table .now)
+    (c .before .before .before .before .before .before .before .before .before .before .before .before .args .order) r)
     (c .before .before .before .before .before .before .before .planned2 .given .1)
     (c .before .before .before .before .before .before .before .before .before .plan-table .ensures)) in
     omega (arith, f .wires, f .inputs, f .outputs, c .before .before .before .before .before .plan-bytes .ensures)
@@ -64,7 +70,9 @@ same-length c = search needs
 returns-3 : tie.Need-returns-3
 returns-3 c =
     mask-done
-    (subst (λ (r : Planned). PlanSays (c .before .before .before .before .before .before .before .before .before .before .before .before .args .table .now) (c .before .before .before .before .before .before .before .before .before .before .before .before .args .order) r)
+    (subst (λ (r : Planned). PlanSays
+    (c .before .before .before .before .before .before .before .before .before .before .before .before .args .table .now)
+    (c .before .before .before .before .before .before .before .before .before .before .before .before .args .order) r)
     (c .before .before .before .before .before .before .before .planned2 .given .1)
     (c .before .before .before .before .before .before .before .before .before .plan-table .ensures))
     (c .before .before .before .before .before .plan-bytes .ensures)

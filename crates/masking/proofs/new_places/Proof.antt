@@ -1,4 +1,4 @@
--- `masks::new_places` meets its contract, kind by kind.
+-- `masking::new_places` meets its contract, kind by kind.
 -- Assumes nothing.
 use borrow.Author.Needs.{needs}
 use native.Mathlib.Omega.{arith}

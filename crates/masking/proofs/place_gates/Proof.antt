@@ -1,4 +1,4 @@
--- `masks::place_gates` meets its contract: the gates before number g are noted, and gate g begins at wire w.
+-- `masking::place_gates` meets its contract: the gates before number g are noted, and gate g begins at wire w.
 -- Assumes nothing.
 use Prim.Native.Nat.{_-_}
 use native.Mathlib.Omega.{arith}
@@ -30,7 +30,8 @@ loop-holds c = let p = c .before .before .before .before .pre in (placing-start 
 -- what holds in a turn
 facts :
     (c : tie.In-loop Inv-loop μ-loop)
-    → let a = c .before .before .before .before .before .before .args in Turn (a .table .now) (a .n) (a .inputs) (a .gates) (c .before .loop .g) (c .before .loop .w)
+    → let a = c .before .before .before .before .before .before .args in Turn (a .table .now) (a .n) (a .inputs) (a .gates)
+    (c .before .loop .g) (c .before .loop .w)
 facts c = placing-facts (c .before .loop .inv .0) (c .loop-test .taken)
 
 add-kind : tie.Need-add-kind Inv-loop μ-loop
@@ -85,16 +86,21 @@ put-places-requires c κs =
     )
 
 gate-cost-requires : tie.Need-gate-cost-requires Inv-loop μ-loop
-gate-cost-requires c κs = facts (c .before .before .before .before .before .before .before .before .before .before .before .before .before .before .before .before .before) .few-shares
+gate-cost-requires c κs = facts
+    (c .before .before .before .before .before .before .before .before .before .before .before .before .before .before .before .before .before) .few-shares
 
 add-w : tie.Need-add-w Inv-loop μ-loop
-add-w c = let f = facts (c .before .before .before .before .before .before .before .before .before .before .before .before .before .before .before .before .before .before) in omega (arith, c .gate-cost .ensures)
+add-w c = let f = facts
+    (c .before .before .before .before .before .before .before .before .before .before .before .before .before .before .before .before .before .before) in omega
+    (arith, c .gate-cost .ensures)
 
 add-g : tie.Need-add-g Inv-loop μ-loop
-add-g c = let f = facts (c .before .before .before .before .before .before .before .before .before .before .before .before .before .before .before .before .before .before) in omega arith
+add-g c = let f = facts
+    (c .before .before .before .before .before .before .before .before .before .before .before .before .before .before .before .before .before .before) in omega arith
 
 loop-less : tie.Need-loop-less Inv-loop μ-loop
-loop-less c = let f = facts (c .before .before .before .before .before .before .before .before .before .before .before .before .before .before .before .before .before .before) in omega arith
+loop-less c = let f = facts
+    (c .before .before .before .before .before .before .before .before .before .before .before .before .before .before .before .before .before .before) in omega arith
 
 loop-again : tie.Need-loop-again Inv-loop μ-loop
 loop-again c =

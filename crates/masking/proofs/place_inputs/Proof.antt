@@ -1,9 +1,19 @@
--- `masks::place_inputs` meets its contract: the inputs before number i are noted, and the next one begins at wire n·i.
+-- `masking::place_inputs` meets its contract: the inputs before number i are noted, and the next one begins at wire n·i.
 -- Assumes nothing.
 use Prim.Native.Nat.{_+_, _-_, _≤_}
 use native.Mathlib.Omega.{arith}
 use borrow.Author.Needs.{needs}
-use Rattle.masking.proofs.Placing.{Inputs, inputs-start, inputs-fit, inputs-room, inputs-turn, inputs-end, Same, same-start, same-put}
+use Rattle.masking.proofs.Placing.{
+  Inputs,
+  inputs-start,
+  inputs-fit,
+  inputs-room,
+  inputs-turn,
+  inputs-end,
+  Same,
+  same-start,
+  same-put,
+}
 use Rattle.masking.proofs.place_inputs.Statement.{statement}
 use Rattle.masking.proofs.place_inputs.Tie as tie
 use Rattle.masking.proofs.place_inputs.Reads as reads

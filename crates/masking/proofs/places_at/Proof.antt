@@ -1,4 +1,4 @@
--- `masks::places_at` meets its contract: an element of a 16-bit array is below 65,536.
+-- `masking::places_at` meets its contract: an element of a 16-bit array is below 65,536.
 -- Assumes nothing.
 use mathlib.Core.Path.{refl}
 use borrow.Author.Needs.{needs}

@@ -1,4 +1,4 @@
--- `masks::put_sizes` meets its contract: three fields, one after the other.
+-- `masking::put_sizes` meets its contract: three fields, one after the other.
 -- Assumes nothing.
 use borrow.Author.Needs.{needs}
 use Rattle.masking.proofs.Assembled.{sizes-put}
@@ -20,8 +20,10 @@ same-length c = search needs
 returns : tie.Need-returns
 returns c =
     let a = c .before .before .before .before .before .before .before .before .before .before .before .before .before .args in
-    sizes-put (a .inputs) (a .gates) (a .outputs) (a .out .now) (c .before .before .before .before .before .before .before .before .before .before .before .before .before .pre .0)
-    (c .before .before .before .before .before .before .before .before .before .before .put-field .ensures) (c .before .before .before .before .before .before .put-field2 .ensures) (c .before .before .put-field3 .ensures)
+    sizes-put (a .inputs) (a .gates) (a .outputs) (a .out .now)
+    (c .before .before .before .before .before .before .before .before .before .before .before .before .before .pre .0)
+    (c .before .before .before .before .before .before .before .before .before .before .put-field .ensures)
+    (c .before .before .before .before .before .before .put-field2 .ensures) (c .before .before .put-field3 .ensures)
 
 pub put-sizes-spec : {M : Type 1} → statement M
 put-sizes-spec =

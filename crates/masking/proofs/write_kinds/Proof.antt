@@ -1,4 +1,4 @@
--- `masks::write_kinds` meets its contract: the kinds from gate g on are left to write.
+-- `masking::write_kinds` meets its contract: the kinds from gate g on are left to write.
 -- Assumes nothing.
 use mathlib.Core.Path.{_∙_}
 use Prim.Native.Nat.{_-_}
@@ -36,7 +36,8 @@ gate-cost-requires c κs = shareable-sized (c .before .before .before .before .b
 
 add-at : tie.Need-add-at Inv-loop μ-loop
 add-at c =
-    let room = kinds-room (c .before .before .before .before .before .before .before .loop .inv) (c .before .before .before .before .before .before .loop-test .taken) in
+    let room = kinds-room (c .before .before .before .before .before .before .before .loop .inv)
+    (c .before .before .before .before .before .before .loop-test .taken) in
     omega (arith, c .gate-cost .ensures, c .before .before .before .before .before .before .before .loop .inv .left .long, c .before .before .before .before .before .before .before .before .before .before .good)
 
 add-g : tie.Need-add-g Inv-loop μ-loop
@@ -49,7 +50,9 @@ loop-less c = omega (arith, c .before .before .before .before .before .before .l
 
 loop-again : tie.Need-loop-again Inv-loop μ-loop
 loop-again c =
-    kinds-turn (c .before .before .before .before .before .before .before .loop .inv) (c .before .before .before .before .before .before .loop-test .taken) (c .before .before .before .write-kinds-of .ensures) (c .gate-cost .ensures)
+    kinds-turn (c .before .before .before .before .before .before .before .loop .inv)
+    (c .before .before .before .before .before .before .loop-test .taken) (c .before .before .before .write-kinds-of .ensures)
+    (c .gate-cost .ensures)
 
 same-length : tie.Need-same-length Inv-loop μ-loop
 same-length c = c .before .loop .inv .left .long

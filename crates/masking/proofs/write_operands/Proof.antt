@@ -1,4 +1,4 @@
--- `masks::write_operands` meets its contract: the operands from gate g on are left to write, and gate g begins at wire `next`.
+-- `masking::write_operands` meets its contract: the operands from gate g on are left to write, and gate g begins at wire `next`.
 -- Assumes nothing.
 use mathlib.Core.Path.{_∙_}
 use Prim.Native.Nat.{_-_}
@@ -72,12 +72,16 @@ field-requires-2 c κs = let f = facts (c .before .before) in omega arith
 places-at-requires : tie.Need-places-at-requires Inv-loop μ-loop
 places-at-requires c κs =
     let f = facts (c .before .before .before) in
-    located-room (c .before .before .before .before .before .before .before .before .before .before .args .table .now) (c .before .before .before .before .loop .inv .located) _ (c .before .field .result) (omega (arith, f .left)) (c .before .field .ensures .0)
+    located-room (c .before .before .before .before .before .before .before .before .before .before .args .table .now)
+    (c .before .before .before .before .loop .inv .located) _ (c .before .field .result) (omega (arith, f .left))
+    (c .before .field .ensures .0)
 
 places-at-requires-2 : tie.Need-places-at-requires-2 Inv-loop μ-loop
 places-at-requires-2 c κs =
     let f = facts (c .before .before .before .before) in
-    located-room (c .before .before .before .before .before .before .before .before .before .before .before .args .table .now) (c .before .before .before .before .before .loop .inv .located) _ (c .before .field2 .result) (omega (arith, f .right)) (c .before .field2 .ensures .0)
+    located-room (c .before .before .before .before .before .before .before .before .before .before .before .args .table .now)
+    (c .before .before .before .before .before .loop .inv .located) _ (c .before .field2 .result) (omega (arith, f .right))
+    (c .before .field2 .ensures .0)
 
 write-operands-of-requires : tie.Need-write-operands-of-requires Inv-loop μ-loop
 write-operands-of-requires c κs =
@@ -88,8 +92,10 @@ write-operands-of-requires c κs =
     record {
       some = omega (arith, f .some-shares);
       wires = omega (arith, f .fits);
-      left = low-read (a .n) (a .first .now) (a .base .now) (a .step .now) (low .0) (c .before .before .before .before .field .ensures .0) (c .before .before .places-at .ensures .0);
-      right = λ _. low-read (a .n) (a .first .now) (a .base .now) (a .step .now) (low .1) (c .before .before .before .field2 .ensures .0) (c .before .places-at2 .ensures .0);
+      left = low-read (a .n) (a .first .now) (a .base .now) (a .step .now) (low .0)
+          (c .before .before .before .before .field .ensures .0) (c .before .before .places-at .ensures .0);
+      right = λ _. low-read (a .n) (a .first .now) (a .base .now) (a .step .now) (low .1)
+          (c .before .before .before .field2 .ensures .0) (c .before .places-at2 .ensures .0);
       room = operands-room inv (c .before .before .before .before .before .before .loop-test .taken);
     }
 
@@ -97,14 +103,17 @@ gate-cost-requires : tie.Need-gate-cost-requires Inv-loop μ-loop
 gate-cost-requires c κs = facts (c .before .before .before .before .before .before .before .before .before) .few-shares
 
 add-next : tie.Need-add-next Inv-loop μ-loop
-add-next c = let f = facts (c .before .before .before .before .before .before .before .before .before .before) in omega (arith, c .gate-cost .ensures)
+add-next c = let f = facts (c .before .before .before .before .before .before .before .before .before .before) in omega
+    (arith, c .gate-cost .ensures)
 
 mul-at : tie.Need-mul-at Inv-loop μ-loop
-mul-at c = let f = facts (c .before .before .before .before .before .before .before .before .before .before) in omega (arith, c .gate-cost .ensures)
+mul-at c = let f = facts (c .before .before .before .before .before .before .before .before .before .before) in omega
+    (arith, c .gate-cost .ensures)
 
 add-at : tie.Need-add-at Inv-loop μ-loop
 add-at c =
-    let room = operands-room (c .before .before .before .before .before .before .before .before .before .before .before .loop .inv) (c .before .before .before .before .before .before .before .before .before .before .loop-test .taken) in
+    let room = operands-room (c .before .before .before .before .before .before .before .before .before .before .before .loop .inv)
+    (c .before .before .before .before .before .before .before .before .before .before .loop-test .taken) in
     omega (arith, c .gate-cost .ensures, c .before .before .before .before .before .before .before .before .before .before .before .loop .inv .left .long, c .before .before .before .before .before .before .before .before .before .before .before .before .before .before .before .before .before .good)
 
 add-g : tie.Need-add-g Inv-loop μ-loop
@@ -115,9 +124,12 @@ loop-less c = omega (arith, c .before .before .before .before .before .before .b
 
 loop-again : tie.Need-loop-again Inv-loop μ-loop
 loop-again c =
-    operands-turn (c .before .before .before .before .before .before .before .before .before .before .before .loop .inv) (c .before .before .before .before .before .before .before .before .before .before .loop-test .taken)
-    (c .before .before .before .before .before .before .before .before .field .ensures .0) (c .before .before .before .before .before .before .places-at .ensures .0)
-    (c .before .before .before .before .before .before .before .field2 .ensures .0) (c .before .before .before .before .before .places-at2 .ensures .0)
+    operands-turn (c .before .before .before .before .before .before .before .before .before .before .before .loop .inv)
+    (c .before .before .before .before .before .before .before .before .before .before .loop-test .taken)
+    (c .before .before .before .before .before .before .before .before .field .ensures .0)
+    (c .before .before .before .before .before .before .places-at .ensures .0)
+    (c .before .before .before .before .before .before .before .field2 .ensures .0)
+    (c .before .before .before .before .before .places-at2 .ensures .0)
     (c .before .before .before .write-operands-of .ensures) (c .gate-cost .ensures)
 
 same-length : tie.Need-same-length Inv-loop μ-loop

@@ -1,11 +1,20 @@
--- `masks::write_outputs` meets its contract: the outputs from number o on are left to write.
+-- `masking::write_outputs` meets its contract: the outputs from number o on are left to write.
 -- Assumes nothing.
 use mathlib.Core.Path.{_∙_, sym, subst}
 use Prim.Native.Nat.{_-_, _<_}
 use native.Mathlib.Omega.{arith}
 use borrow.Author.Needs.{needs}
 use Rattle.tables.proofs.Put.{put-zero}
-use Rattle.masking.proofs.Stretches.{low-read, Outputs, OutputTurn, outputsWhole, outputs-start, outputs-facts, outputs-turn, outputs-end}
+use Rattle.masking.proofs.Stretches.{
+  low-read,
+  Outputs,
+  OutputTurn,
+  outputsWhole,
+  outputs-start,
+  outputs-facts,
+  outputs-turn,
+  outputs-end,
+}
 use Rattle.masking.proofs.write_outputs.Statement.{statement}
 use Rattle.masking.proofs.write_outputs.Tie as tie
 
@@ -60,7 +69,8 @@ mul-at : tie.Need-mul-at Inv-loop μ-loop
 mul-at c = let f = facts (c .before .before .before .before .before .before) in omega arith
 
 add-at : tie.Need-add-at Inv-loop μ-loop
-add-at c = let f = facts (c .before .before .before .before .before .before) in omega (arith, c .before .before .before .before .before .before .before .before .before .before .before .before .before .good)
+add-at c = let f = facts (c .before .before .before .before .before .before) in omega
+    (arith, c .before .before .before .before .before .before .before .before .before .before .before .before .before .good)
 
 add-o : tie.Need-add-o Inv-loop μ-loop
 add-o c = search needs
@@ -70,8 +80,10 @@ loop-less c = omega (arith, c .before .before .before .before .before .before .l
 
 loop-again : tie.Need-loop-again Inv-loop μ-loop
 loop-again c =
-    outputs-turn (c .before .before .before .before .before .before .before .loop .inv) (c .before .before .before .before .before .before .loop-test .taken)
-    (c .before .before .before .before .before .field .ensures .0) (c .before .before .before .before .places-at .ensures .0) (c .before .before .write-shares .ensures)
+    outputs-turn (c .before .before .before .before .before .before .before .loop .inv)
+    (c .before .before .before .before .before .before .loop-test .taken)
+    (c .before .before .before .before .before .field .ensures .0) (c .before .before .before .before .places-at .ensures .0)
+    (c .before .before .write-shares .ensures)
 
 same-length : tie.Need-same-length Inv-loop μ-loop
 same-length c = c .before .loop .inv .left .long

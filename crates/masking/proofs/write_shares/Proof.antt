@@ -1,4 +1,4 @@
--- `masks::write_shares` meets its contract: the wires of shares from number i on are left to write.
+-- `masking::write_shares` meets its contract: the wires of shares from number i on are left to write.
 -- Assumes nothing.
 use Prim.Native.Nat.{_-_}
 use native.Mathlib.Omega.{arith}
@@ -24,10 +24,16 @@ mul-put-field : tie.Need-mul-put-field Inv-loop μ-loop
 mul-put-field c = search needs
 
 add-put-field : tie.Need-add-put-field Inv-loop μ-loop
-add-put-field c = omega (arith, shares-room (c .before .before .loop .inv) (c .before .loop-test .taken), c .before .before .before .before .good)
+add-put-field c = omega (
+  arith,
+  shares-room (c .before .before .loop .inv)
+      (c .before .loop-test .taken),
+  c .before .before .before .before .good,
+)
 
 share-wire-requires : tie.Need-share-wire-requires Inv-loop μ-loop
-share-wire-requires c κs = share-low _ (c .before .before .loop .i) (c .before .before .before .before .args .a) (c .before .before .before .before .pre .2) (c .before .loop-test .taken)
+share-wire-requires c κs = share-low _ (c .before .before .loop .i) (c .before .before .before .before .args .a)
+    (c .before .before .before .before .pre .2) (c .before .loop-test .taken)
 
 put-field-requires : tie.Need-put-field-requires Inv-loop μ-loop
 put-field-requires c κs =
@@ -42,7 +48,8 @@ loop-less c = omega (arith, c .before .before .before .before .before .loop-test
 loop-again : tie.Need-loop-again Inv-loop μ-loop
 loop-again c =
     let h = c .before .before .before .before .before .loop-test .taken in
-    shares-turn (c .before .before .before .before .before .before .loop .inv) h (c .before .before .before .share-wire .ensures .1 (c .before .before .before .before .before .before .before .before .args .n) h) (c .before .before .put-field .ensures)
+    shares-turn (c .before .before .before .before .before .before .loop .inv) h (c .before .before .before .share-wire .ensures .1
+    (c .before .before .before .before .before .before .before .before .args .n) h) (c .before .before .put-field .ensures)
 
 same-length : tie.Need-same-length Inv-loop μ-loop
 same-length c = c .before .loop .inv .left .long

@@ -1,4 +1,4 @@
--- `tables::bits_fault` meets its contract: the first bad byte is in the first list, in the second, or in neither.
+-- `running::bits_fault` meets its contract: the first bad byte is in the first list, in the second, or in neither.
 -- Assumes nothing.
 use native.Mathlib.Omega.{arith}
 use Rattle.tables.proofs.Answers.{refused-is}
@@ -28,12 +28,14 @@ cast-t10 c = search needs
 returns-2 : tie.Need-returns-2
 returns-2 c =
     refused-is _ _
-    (bad-second _ _ (c .before .before .before .first-bad .ensures) (c .before .first-bad2 .ensures) (c .before .before .if1 .left) (c .if2 .taken))
+    (bad-second _ _ (c .before .before .before .first-bad .ensures) (c .before .first-bad2 .ensures) (c .before .before .if1 .left)
+    (c .if2 .taken))
 
 returns-3 : tie.Need-returns-3
 returns-3 c =
     refused-is _ _
-    (bad-neither _ _ (c .before .before .before .first-bad .ensures) (c .before .first-bad2 .ensures) (c .before .before .if1 .left) (c .if2 .left))
+    (bad-neither _ _ (c .before .before .before .first-bad .ensures) (c .before .first-bad2 .ensures) (c .before .before .if1 .left)
+    (c .if2 .left))
 
 pub bits-fault-spec : {M : Type 1} → statement M
 bits-fault-spec =

@@ -1,4 +1,4 @@
--- `tables::copy_bits` meets its contract. The invariant: what is left to copy, put after what is copied, is the whole.
+-- `running::copy_bits` meets its contract. The invariant: what is left to copy, put after what is copied, is the whole.
 -- Assumes nothing.
 use Prim.Native.Nat.{_-_}
 use native.Mathlib.Numerals.{add-one}

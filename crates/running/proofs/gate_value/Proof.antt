@@ -1,4 +1,4 @@
--- `tables::gate_value` meets its contract: the next random bit, or the kind's row of the truth tables.
+-- `running::gate_value` meets its contract: the next random bit, or the kind's row of the truth tables.
 -- Assumes nothing.
 use mathlib.Core.Path.{refl}
 use native.Mathlib.Omega.{arith}

@@ -1,4 +1,4 @@
--- `tables::read_outputs` meets its contract. The invariant: the values left to write, put after those written, are all of them.
+-- `running::read_outputs` meets its contract. The invariant: the values left to write, put after those written, are all of them.
 -- Assumes nothing.
 use Prim.Native.Nat.{_-_}
 use native.Mathlib.Numerals.{add-one}
@@ -45,7 +45,8 @@ loop-again : tie.Need-loop-again Inv-loop μ-loop
 loop-again c =
     let ready = c .before .before .before .before .before .before .before .pre in
     rw add-one
-    (reading-turn _ _ _ _ _ _ _ _ (c .before .before .before .loop .inv) (c .before .before .loop-test .taken) (ready .room) (c .before .field .ensures .0))
+    (reading-turn _ _ _ _ _ _ _ _ (c .before .before .before .loop .inv) (c .before .before .loop-test .taken) (ready .room)
+    (c .before .field .ensures .0))
 
 same-length : tie.Need-same-length Inv-loop μ-loop
 same-length c = search needs

@@ -1,4 +1,4 @@
--- `tables::room_fault` meets its contract: first the values' buffer, then the outputs'.
+-- `running::room_fault` meets its contract: first the values' buffer, then the outputs'.
 -- Assumes nothing.
 use native.Mathlib.Omega.{arith}
 use Rattle.tables.proofs.Answers.{refused-is}
@@ -27,13 +27,15 @@ field-requires-3 c κs = omega (arith, accepted-long _ (c .before .before .befor
 returns-2 : tie.Need-returns-2
 returns-2 c =
     refused-is _ _
-    (outputs-refused _ _ _ (c .before .before .before .before .field .ensures .0) (c .before .before .before .field2 .ensures .0) (c .before .field3 .ensures .0)
+    (outputs-refused _ _ _ (c .before .before .before .before .field .ensures .0) (c .before .before .before .field2 .ensures .0)
+    (c .before .field3 .ensures .0)
     (c .before .before .if1 .left) (c .if2 .taken))
 
 returns-3 : tie.Need-returns-3
 returns-3 c =
     refused-is _ _
-    (room-enough _ _ _ (c .before .before .before .before .field .ensures .0) (c .before .before .before .field2 .ensures .0) (c .before .field3 .ensures .0)
+    (room-enough _ _ _ (c .before .before .before .before .field .ensures .0) (c .before .before .before .field2 .ensures .0)
+    (c .before .field3 .ensures .0)
     (c .before .before .if1 .left) (c .if2 .left))
 
 pub room-fault-spec : {M : Type 1} → statement M

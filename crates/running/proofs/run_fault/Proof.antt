@@ -1,4 +1,4 @@
--- `tables::run_fault` meets its contract: the three parts of the chain in turn.
+-- `running::run_fault` meets its contract: the three parts of the chain in turn.
 -- Assumes nothing.
 use Rattle.tables.proofs.Answers.{refused-passed}
 use Rattle.running.proofs.RunFault.{first-of, second-of, run-fault-parts}
@@ -22,12 +22,14 @@ returns-2 c =
     (first-of _ _ _ (c .before .before .supply-fault .ensures) (c .if2 .taken)))
 
 room-fault-requires : tie.Need-room-fault-requires
-room-fault-requires c κs = refused-passed _ _ (c .before .before .before .before .before .table-fault .ensures) (c .before .before .before .if1 .left)
+room-fault-requires c κs = refused-passed _ _ (c .before .before .before .before .before .table-fault .ensures)
+    (c .before .before .before .if1 .left)
 
 returns-3 : tie.Need-returns-3
 returns-3 c =
     rw run-fault-parts
-    (second-of _ _ _ _ (c .before .before .before .before .before .before .table-fault .ensures) (c .before .before .before .before .if1 .left)
+    (second-of _ _ _ _ (c .before .before .before .before .before .before .table-fault .ensures)
+    (c .before .before .before .before .if1 .left)
     (second-of _ _ _ _ (c .before .before .before .supply-fault .ensures) (c .before .if2 .left) (c .room-fault .ensures)))
 
 pub run-fault-spec : {M : Type 1} → statement M

@@ -1,4 +1,4 @@
--- `tables::run_gates` meets its contract. The invariant: running the gates left from the values so far gives the whole run.
+-- `running::run_gates` meets its contract. The invariant: running the gates left from the values so far gives the whole run.
 -- Assumes nothing.
 use mathlib.Core.Path.{refl}
 use Prim.Native.Nat.{_-_}
@@ -57,14 +57,18 @@ shared-slice-read-gate-value : tie.Need-shared-slice-read-gate-value Inv-loop μ
 shared-slice-read-gate-value c = search needs
 
 slice-read-gate-value : tie.Need-slice-read-gate-value Inv-loop μ-loop
-slice-read-gate-value c = left-there (c .before .before .before .before .before .loop .inv) (c .before .before .before .before .loop-test .taken) _ (c .before .before .before .field .ensures .0)
+slice-read-gate-value c = left-there (c .before .before .before .before .before .loop .inv)
+    (c .before .before .before .before .loop-test .taken) _ (c .before .before .before .field .ensures .0)
 
 slice-read-gate-value-2 : tie.Need-slice-read-gate-value-2 Inv-loop μ-loop
-slice-read-gate-value-2 c = right-there (c .before .before .before .before .before .before .loop .inv) (c .before .before .before .before .before .loop-test .taken) _ (c .before .before .before .field2 .ensures .0)
+slice-read-gate-value-2 c = right-there (c .before .before .before .before .before .before .loop .inv)
+    (c .before .before .before .before .before .loop-test .taken) _ (c .before .before .before .field2 .ensures .0)
 
 gate-value-requires : tie.Need-gate-value-requires Inv-loop μ-loop
 gate-value-requires c κs =
-    gate-ready (c .before .before .before .before .before .before .loop .inv) (c .before .before .before .before .before .loop-test .taken) _ _ (c .before .before .before .before .field .ensures .0) (c .before .before .before .field2 .ensures .0)
+    gate-ready (c .before .before .before .before .before .before .loop .inv)
+    (c .before .before .before .before .before .loop-test .taken) _ _ (c .before .before .before .before .field .ensures .0)
+    (c .before .before .before .field2 .ensures .0)
 
 add-values : tie.Need-add-values Inv-loop μ-loop
 add-values c = search needs
@@ -81,8 +85,10 @@ loop-less c = search needs
 loop-again : tie.Need-loop-again Inv-loop μ-loop
 loop-again c =
     rw add-one
-    (gate-turn (c .before .before .before .before .before .before .before .loop .inv) (c .before .before .before .before .before .before .loop-test .taken) _ _
-    (c .before .before .before .before .before .field .ensures .0) (c .before .before .before .before .field2 .ensures .0) _ (c .gate-value .ensures))
+    (gate-turn (c .before .before .before .before .before .before .before .loop .inv)
+    (c .before .before .before .before .before .before .loop-test .taken) _ _
+    (c .before .before .before .before .before .field .ensures .0) (c .before .before .before .before .field2 .ensures .0) _
+    (c .gate-value .ensures))
 
 same-length : tie.Need-same-length Inv-loop μ-loop
 same-length c = c .before .loop .inv .long

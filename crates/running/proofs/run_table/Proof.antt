@@ -40,7 +40,9 @@ values-are :
     (c : tie.After-run-gates)
     → c .run-gates .last .1 .1 .1 .1 .0
     ≡ over
-    (run (tableOf (c .before .before .before .before .before .before .before .before .before .before .before .before .before .before .before .args .table .now)) (c .before .before .before .before .before .before .before .before .before .before .before .before .before .before .before .args .inputs .now) (c .before .before .before .before .before .before .before .before .before .before .before .before .before .before .before .args .random .now))
+    (run (tableOf (c .before .before .before .before .before .before .before .before .before .before .before .before .before .before .before .args .table .now))
+    (c .before .before .before .before .before .before .before .before .before .before .before .before .before .before .before .args .inputs .now)
+    (c .before .before .before .before .before .before .before .before .before .before .before .before .before .before .before .args .random .now))
     (c .before .before .before .before .before .before .before .before .before .before .before .before .before .before .before .args .values .now)
 values-are c =
     let args = c .before .before .before .before .before .before .before .before .before .before .before .before .before .before .before .args in
@@ -63,7 +65,9 @@ field-requires : tie.Need-field-requires
 field-requires c κs = omega (arith, accepted-long _ (good c .accepted))
 
 copy-bits-requires : tie.Need-copy-bits-requires
-copy-bits-requires c κs = inputs-fit _ _ _ (c .before .before .before .before .before .before .before .before .before .before .args .values .now) (c .before .before .before .before .before .before .before .before .before .before .args .outputs .now) (good (c .before .before))
+copy-bits-requires c κs = inputs-fit _ _ _
+    (c .before .before .before .before .before .before .before .before .before .before .args .values .now)
+    (c .before .before .before .before .before .before .before .before .before .before .args .outputs .now) (good (c .before .before))
 
 run-gates-requires : tie.Need-run-gates-requires
 run-gates-requires c κs =
@@ -79,12 +83,17 @@ add-read-outputs : tie.Need-add-read-outputs
 add-read-outputs c = omega (arith, c .before .before .before .before .before .before .before .before .field .ensures .1)
 
 field-requires-2 : tie.Need-field-requires-2
-field-requires-2 c κs = omega (arith, accepted-long _ (good (c .before .before .before .before .before .before .before .before .before) .accepted))
+field-requires-2 c κs = omega (
+  arith,
+  accepted-long _ (good
+      (c .before .before .before .before .before .before .before .before .before) .accepted),
+)
 
 read-outputs-requires : tie.Need-read-outputs-requires
 read-outputs-requires c κs =
     let args = c .before .before .before .before .before .before .before .before .before .before .before .before .before .before .before .before .before .before .before .before .args in
-    outputs-ready _ _ _ (args .values .now) (args .outputs .now) (good (c .before .before .before .before .before .before .before .before .before .before .before .before)) _ _ _
+    outputs-ready _ _ _ (args .values .now) (args .outputs .now) (good
+    (c .before .before .before .before .before .before .before .before .before .before .before .before)) _ _ _
     (values-are (c .before .before .before .before .before))
     (c .before .before .before .before .before .before .before .before .before .before .before .field .ensures .0)
     (c .before .before .field2 .ensures .0)
@@ -92,14 +101,22 @@ read-outputs-requires c κs =
 add-t16 : tie.Need-add-t16
 add-t16 c =
     let args = c .before .before .before .before .before .before .before .before .before .before .before .before .before .before .before .before .before .before .before .before .before .before .before .args in
-    omega
-    (arith, few-wires _ _ _ (args .values .now) (args .outputs .now) (good (c .before .before .before .before .before .before .before .before .before .before .before .before .before .before .before)) _ (c .before .before .before .before .before .before .before .before .before .before .before .before .before .before .field .ensures .0))
+    omega (
+      arith,
+      few-wires _ _ _ (args .values .now) (args .outputs .now) (good
+          (c .before .before .before .before .before .before .before .before .before .before .before .before .before .before .before)) _
+          (c .before .before .before .before .before .before .before .before .before .before .before .before .before .before .field .ensures .0),
+    )
 
 cast-t21 : tie.Need-cast-t21
 cast-t21 c =
     let args = c .before .before .before .before .before .before .before .before .before .before .before .before .before .before .before .before .before .before .before .before .before .before .before .args in
-    omega
-    (arith, few-wires _ _ _ (args .values .now) (args .outputs .now) (good (c .before .before .before .before .before .before .before .before .before .before .before .before .before .before .before)) _ (c .before .before .before .before .before .before .before .before .before .before .before .before .before .before .field .ensures .0))
+    omega (
+      arith,
+      few-wires _ _ _ (args .values .now) (args .outputs .now) (good
+          (c .before .before .before .before .before .before .before .before .before .before .before .before .before .before .before)) _
+          (c .before .before .before .before .before .before .before .before .before .before .before .before .before .before .field .ensures .0),
+    )
 
 same-length : tie.Need-same-length
 same-length c = c .before .before .before .before .before .before .before .before .run-gates .kept .1 .1 .1 .1 .0 ∙ c .before .before .before .before .before .before .before .before .before .before .before .before .copy-bits .kept .1 .0
@@ -113,11 +130,14 @@ returns-2 c =
     let gates = c .before .before .before .before .before .before .before .before .before .before .before .before .before .before .field .ensures .0 in
     let values = values-are (c .before .before .before .before .before .before .before .before) in
     run-done _ _ _ (args .values .now) _ (args .outputs .now) _ _
-    (refused-passed _ _ (c .before .before .before .before .before .before .before .before .before .before .before .before .before .before .before .before .before .run-fault .ensures) (c .before .before .before .before .before .before .before .before .before .before .before .before .before .before .before .if1 .left))
+    (refused-passed _ _ (c .before .before .before .before .before .before .before .before .before .before .before .before .before .before .before .before .before .run-fault .ensures)
+    (c .before .before .before .before .before .before .before .before .before .before .before .before .before .before .before .if1 .left))
     values
-    (run-outputs _ _ _ (args .values .now) (args .outputs .now) (good (c .before .before .before .before .before .before .before .before .before .before .before .before .before .before .before)) _ _ _ _
+    (run-outputs _ _ _ (args .values .now) (args .outputs .now) (good
+    (c .before .before .before .before .before .before .before .before .before .before .before .before .before .before .before)) _ _ _ _
     values gates (c .before .before .before .before .before .field2 .ensures .0) (c .before .before .read-outputs .ensures))
-    (wires-are _ _ _ (args .values .now) (args .outputs .now) (good (c .before .before .before .before .before .before .before .before .before .before .before .before .before .before .before)) _ gates)
+    (wires-are _ _ _ (args .values .now) (args .outputs .now) (good
+    (c .before .before .before .before .before .before .before .before .before .before .before .before .before .before .before)) _ gates)
 
 pub run-table-spec : {M : Type 1} → statement M
 run-table-spec =

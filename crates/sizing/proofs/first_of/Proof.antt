@@ -1,4 +1,4 @@
--- `masks::first_of` meets its contract: the number says whether the first refuses.
+-- `sizing::first_of` meets its contract: the number says whether the first refuses.
 -- Assumes nothing.
 use Rattle.sizing.proofs.Planning.{first-refuses, first-passes}
 use Rattle.sizing.proofs.first_of.Statement.{statement}

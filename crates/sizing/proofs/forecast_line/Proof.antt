@@ -1,4 +1,4 @@
--- `masks::forecast_line` meets its contract: the refusal of a short buffer, or the line of the forecast.
+-- `sizing::forecast_line` meets its contract: the refusal of a short buffer, or the line of the forecast.
 -- Assumes nothing.
 use borrow.Author.Needs.{needs}
 use Rattle.sizing.proofs.Line.{no-room, line-put}

@@ -1,4 +1,4 @@
--- `masks::forecast_sizes` meets its contract: the plan's refusal, or its figures.
+-- `sizing::forecast_sizes` meets its contract: the plan's refusal, or its figures.
 -- Assumes nothing.
 use borrow.Author.Needs.{needs}
 use mathlib.Core.Path.{subst}

@@ -1,4 +1,4 @@
--- `masks::gate_cost` meets its contract, a case for each kind; an AND costs 3,286 wires at most.
+-- `sizing::gate_cost` meets its contract, a case for each kind; an AND costs 3,286 wires at most.
 -- Assumes nothing.
 use mathlib.Core.Path.{sym}
 use borrow.Author.Needs.{needs}

@@ -1,4 +1,4 @@
--- `masks::gate_draws` meets its contract: only an AND draws, a bit for each pair.
+-- `sizing::gate_draws` meets its contract: only an AND draws, a bit for each pair.
 -- Assumes nothing.
 use mathlib.Core.Path.{sym}
 use borrow.Author.Needs.{needs}

@@ -44,7 +44,8 @@ mul-t10 c =
 add-t11 : tie.Need-add-t11
 add-t11 c =
     let p = c .before .before .before .before .before .before in
-    let nots = few-costs NOT (c .before .before .before .before .count-kind .ensures .1) (p .pre .0 .few) (c .before .gate-cost .ensures) (p .pre .1) in
+    let nots = few-costs NOT (c .before .before .before .before .count-kind .ensures .1) (p .pre .0 .few)
+    (c .before .gate-cost .ensures) (p .pre .1) in
     let xors = few-costs XOR (c .before .before .before .count-kind2 .ensures .1) (p .pre .0 .few) (c .gate-cost2 .ensures) (p .pre .1) in
     record { fits = omega (arith, nots, xors) }
 
@@ -60,8 +61,10 @@ mul-t13 c =
 add-t14 : tie.Need-add-t14
 add-t14 c =
     let p = c .before .before .before .before .before .before .before in
-    let nots = few-costs NOT (c .before .before .before .before .before .count-kind .ensures .1) (p .pre .0 .few) (c .before .before .gate-cost .ensures) (p .pre .1) in
-    let xors = few-costs XOR (c .before .before .before .before .count-kind2 .ensures .1) (p .pre .0 .few) (c .before .gate-cost2 .ensures) (p .pre .1) in
+    let nots = few-costs NOT (c .before .before .before .before .before .count-kind .ensures .1) (p .pre .0 .few)
+    (c .before .before .gate-cost .ensures) (p .pre .1) in
+    let xors = few-costs XOR (c .before .before .before .before .count-kind2 .ensures .1) (p .pre .0 .few)
+    (c .before .gate-cost2 .ensures) (p .pre .1) in
     let ands = few-costs AND (c .before .before .before .count-kind3 .ensures .1) (p .pre .0 .few) (c .gate-cost3 .ensures) (p .pre .1) in
     record { fits = omega (arith, nots, xors, ands) }
 
@@ -71,7 +74,8 @@ gate-draws-requires c κs = c .before .before .before .before .before .before .b
 mul-t16 : tie.Need-mul-t16
 mul-t16 c =
     let p = c .before .before .before .before .before .before .before .before in
-    let few = few-draws AND (c .before .before .before .before .count-kind3 .ensures .1) (p .pre .0 .few) (c .gate-draws .ensures) (p .pre .1) in
+    let few = few-draws AND (c .before .before .before .before .count-kind3 .ensures .1) (p .pre .0 .few) (c .gate-draws .ensures)
+    (p .pre .1) in
     record { fits = omega (arith, few) }
 
 returns : tie.Need-returns

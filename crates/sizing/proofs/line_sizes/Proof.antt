@@ -1,4 +1,4 @@
--- `masks::line_sizes` meets its contract.
+-- `sizing::line_sizes` meets its contract.
 -- Assumes nothing.
 use borrow.Author.Needs.{needs}
 use Rattle.sizing.proofs.Line.{line-long, line-empty, line-part}

@@ -1,9 +1,19 @@
--- `masks::plan_sizes` meets its contract: the laws of the plan, from the sizes that the table states and the gates' totals.
+-- `sizing::plan_sizes` meets its contract: the laws of the plan, from the sizes that the table states and the gates' totals.
 -- Assumes nothing.
 use borrow.Author.Needs.{needs}
 use native.Mathlib.Omega.{arith}
 use Prim.Native.Nat.{_+_, _*_, _≤_}
-use Rattle.sizing.proofs.Planning.{bytes-long, has-gates, few-shares, few-products, few-total-wires, few-total-draws, many-wires, many-outputs, plan-ready}
+use Rattle.sizing.proofs.Planning.{
+  bytes-long,
+  has-gates,
+  few-shares,
+  few-products,
+  few-total-wires,
+  few-total-draws,
+  many-wires,
+  many-outputs,
+  plan-ready,
+}
 use Rattle.sizing.proofs.plan_sizes.Statement.{statement}
 use Rattle.sizing.proofs.plan_sizes.Tie as tie
 

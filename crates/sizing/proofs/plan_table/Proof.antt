@@ -1,4 +1,4 @@
--- `masks::plan_table` meets its contract: each refusal is the first of the chain, and what passes can be sized.
+-- `sizing::plan_table` meets its contract: each refusal is the first of the chain, and what passes can be sized.
 -- Assumes nothing.
 use borrow.Author.Needs.{needs}
 use native.Mathlib.Omega.{arith}
@@ -16,7 +16,8 @@ field-requires : tie.Need-field-requires
 field-requires c κs = omega (arith, bytes-long _ (passes (c .before .before .table-fault .ensures) (c .if1 .left)))
 
 random-fault-requires : tie.Need-random-fault-requires
-random-fault-requires c κs = has-gates _ (passes (c .before .before .before .table-fault .ensures) (c .before .if1 .left)) _ (c .field .ensures .0)
+random-fault-requires c κs = has-gates _ (passes (c .before .before .before .table-fault .ensures) (c .before .if1 .left)) _
+    (c .field .ensures .0)
 
 order-fault-requires : tie.Need-order-fault-requires
 order-fault-requires c κs = search needs

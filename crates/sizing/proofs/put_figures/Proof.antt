@@ -1,4 +1,4 @@
--- `masks::put_figures` meets its contract: four numbers, each with its end.
+-- `sizing::put_figures` meets its contract: four numbers, each with its end.
 -- Assumes nothing.
 use borrow.Author.Needs.{needs}
 use Rattle.sizing.proofs.Line.{puts-figures}

@@ -1,4 +1,4 @@
--- `masks::put_line` meets its contract: the number says which line.
+-- `sizing::put_line` meets its contract: the number says which line.
 -- Assumes nothing.
 use borrow.Author.Needs.{needs}
 use borrow.Author.Tests.{eq-eqb, ne-eqb}

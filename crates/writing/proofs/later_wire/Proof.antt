@@ -1,4 +1,4 @@
--- `masks::later_wire` meets its contract: a later share stands where `listed` has it.
+-- `writing::later_wire` meets its contract: a later share stands where `listed` has it.
 -- Assumes nothing.
 use mathlib.Core.Path.{_≡_, sym}
 use Prim.Native.Nat.{suc, _+_, _-_, _*_}

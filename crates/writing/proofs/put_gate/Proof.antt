@@ -1,4 +1,4 @@
--- `masks::put_gate` meets its contract: one field after the other.
+-- `writing::put_gate` meets its contract: one field after the other.
 -- Assumes nothing.
 use mathlib.Core.Path.{refl}
 use native.Mathlib.Omega.{arith}

@@ -1,4 +1,4 @@
--- `masks::share_wire` meets its contract: share 1 heads the list, the others are `later_wire`'s.
+-- `writing::share_wire` meets its contract: share 1 heads the list, the others are `later_wire`'s.
 -- Assumes nothing.
 use mathlib.Core.Path.{sym}
 use Prim.Native.Nat.{suc}

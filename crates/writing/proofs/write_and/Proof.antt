@@ -1,4 +1,4 @@
--- `masks::write_and` meets its contract: the pairs, then the rows.
+-- `writing::write_and` meets its contract: the pairs, then the rows.
 -- Assumes nothing.
 use mathlib.Core.Path.{_≡_}
 use Prim.Native.Nat.{_+_, _*_}

@@ -1,4 +1,4 @@
--- `masks::write_and_kinds` meets its contract: the pairs, then the rows.
+-- `writing::write_and_kinds` meets its contract: the pairs, then the rows.
 -- Assumes nothing.
 use mathlib.Core.Path.{_≡_}
 use mathlib.Core.List.{_++_}

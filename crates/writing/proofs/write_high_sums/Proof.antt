@@ -1,4 +1,4 @@
--- `masks::write_high_sums` meets its contract. The invariant: j sums are written, the others follow them, and `Upright`.
+-- `writing::write_high_sums` meets its contract. The invariant: j sums are written, the others follow them, and `Upright`.
 -- Assumes nothing.
 use mathlib.Core.Path.{refl, ap}
 use Prim.Native.Nat.{ℕ, _+_, _-_, _*_, _≤_}

@@ -1,4 +1,4 @@
--- `masks::write_kinds_of` meets its contract, kind by kind.
+-- `writing::write_kinds_of` meets its contract, kind by kind.
 -- Assumes nothing.
 use mathlib.Core.Path.{_≡_, sym}
 use mathlib.Core.List.{List, []}

@@ -1,4 +1,4 @@
--- `masks::write_low_sums` meets its contract. The invariant: c sums are written, the others follow them.
+-- `writing::write_low_sums` meets its contract. The invariant: c sums are written, the others follow them.
 -- Assumes nothing.
 use mathlib.Core.Path.{refl}
 use Prim.Native.Nat.{_+_, _-_, _*_, _<_}

@@ -1,4 +1,4 @@
--- `masks::write_operands_of` meets its contract, kind by kind.
+-- `writing::write_operands_of` meets its contract, kind by kind.
 -- Assumes nothing.
 use mathlib.Core.Path.{_≡_, refl, sym, ap, _∙_}
 use mathlib.Core.List.{List, [], map}

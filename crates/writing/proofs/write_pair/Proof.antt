@@ -1,4 +1,4 @@
--- `masks::write_pair` meets its contract: five gates, one after the other.
+-- `writing::write_pair` meets its contract: five gates, one after the other.
 -- Assumes nothing.
 use mathlib.Core.Path.{refl}
 use mathlib.Core.List.{_++_}

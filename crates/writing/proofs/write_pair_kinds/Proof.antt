@@ -1,4 +1,4 @@
--- `masks::write_pair_kinds` meets its contract. The invariant: the kinds of c pairs are written, the others follow them.
+-- `writing::write_pair_kinds` meets its contract. The invariant: the kinds of c pairs are written, the others follow them.
 -- Assumes nothing.
 use mathlib.Core.Path.{refl}
 use Prim.Native.Nat.{_+_, _-_, _*_}

@@ -1,4 +1,4 @@
--- `masks::write_pairs` meets its contract. The invariant: the pairs of i shares are written, the others follow them.
+-- `writing::write_pairs` meets its contract. The invariant: the pairs of i shares are written, the others follow them.
 -- Assumes nothing.
 use mathlib.Core.Path.{_≡_, ap, _∙_}
 use mathlib.Core.List.{List}

@@ -1,4 +1,4 @@
--- `masks::write_pairs_of` meets its contract. The invariant: c pairs are written, the others follow them.
+-- `writing::write_pairs_of` meets its contract. The invariant: c pairs are written, the others follow them.
 -- Assumes nothing.
 use mathlib.Core.Path.{refl, sym, ap, _∙_}
 use mathlib.Core.List.{List}

@@ -1,4 +1,4 @@
--- `masks::write_row` meets its contract: the own product, the first sums, the last sums.
+-- `writing::write_row` meets its contract: the own product, the first sums, the last sums.
 -- Assumes nothing.
 use mathlib.Core.Path.{_≡_, refl, ap, _∙_}
 use mathlib.Core.List.{_++_}

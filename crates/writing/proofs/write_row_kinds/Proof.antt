@@ -1,4 +1,4 @@
--- `masks::write_row_kinds` meets its contract: one byte, then the others.
+-- `writing::write_row_kinds` meets its contract: one byte, then the others.
 -- Assumes nothing.
 use mathlib.Core.Path.{refl, _∙_}
 use mathlib.Core.List.{[], _∷_}

@@ -1,4 +1,4 @@
--- `masks::write_rows` meets its contract. The invariant: i rows are written, the others follow them.
+-- `writing::write_rows` meets its contract. The invariant: i rows are written, the others follow them.
 -- Assumes nothing.
 use mathlib.Core.Path.{_≡_, sym, ap, _∙_}
 use Prim.Native.Nat.{ℕ, suc, _+_, _-_, _*_, _≤_}

@@ -1,4 +1,4 @@
--- `masks::write_rows_kinds` meets its contract. The invariant: the kinds of i rows are written, the others follow them.
+-- `writing::write_rows_kinds` meets its contract. The invariant: the kinds of i rows are written, the others follow them.
 -- Assumes nothing.
 use Prim.Native.Nat.{_+_, _-_, _≤_}
 use mathlib.Core.Path.{refl}

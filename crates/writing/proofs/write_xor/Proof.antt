@@ -1,4 +1,4 @@
--- `masks::write_xor` meets its contract. The invariant: s shares are written, the others follow them.
+-- `writing::write_xor` meets its contract. The invariant: s shares are written, the others follow them.
 -- Assumes nothing.
 use mathlib.Core.Path.{refl, ap₂}
 use mathlib.Core.List.{_++_}

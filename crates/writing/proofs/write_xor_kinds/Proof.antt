@@ -1,4 +1,4 @@
--- `masks::write_xor_kinds` meets its contract. The invariant: c kinds are written, the others follow them.
+-- `writing::write_xor_kinds` meets its contract. The invariant: c kinds are written, the others follow them.
 -- Assumes nothing.
 use mathlib.Core.Path.{refl}
 use mathlib.Core.List.{[], _∷_}
