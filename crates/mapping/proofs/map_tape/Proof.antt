@@ -5,7 +5,7 @@ use native.Mathlib.Omega.{arith}
 use lib.ListN.{length}
 use borrow.Author.Needs.{needs}
 use Rattle.sizing.specs.declared.Planned.{Planned}
-use Rattle.mapping.specs.Faults.{MapPlanSays}
+use Rattle.probing.specs.Faults.{MapPlanSays}
 use Rattle.mapping.proofs.Mapping.{map-refused, free-ready, free-small, work-ready, map-done}
 use Rattle.mapping.proofs.map_tape.Statement.{statement}
 use Rattle.mapping.proofs.map_tape.Tie as tie

@@ -1,4 +1,4 @@
--- `mapping::mark_probes` meets its contract. The loop's invariant: the numbers of the probes from j on are left to mark.
+-- `probing::mark_probes` meets its contract. The loop's invariant: the numbers of the probes from j on are left to mark.
 -- Assumes nothing.
 use Prim.Native.Nat.{_-_}
 use native.Mathlib.Numerals.{add-one}
@@ -8,10 +8,10 @@ use Rattle.tables.specs.Tables.{tableOf}
 use Rattle.masks.specs.Gadgets.{isw}
 use Rattle.masks.specs.Wires.{origins}
 use Rattle.marking.specs.Origins.{orderOf}
-use Rattle.mapping.proofs.Seeing.{Marking, marking-start, marking-turn, marking-end}
+use Rattle.probing.proofs.Seeing.{Marking, marking-start, marking-turn, marking-end}
 use borrow.Author.Needs.{needs}
-use Rattle.mapping.proofs.mark_probes.Statement.{statement}
-use Rattle.mapping.proofs.mark_probes.Tie as tie
+use Rattle.probing.proofs.mark_probes.Statement.{statement}
+use Rattle.probing.proofs.mark_probes.Tie as tie
 
 abbrev Inv-loop : tie.InvT-loop
 Inv-loop table p probes seen₀ j₀ seen j =

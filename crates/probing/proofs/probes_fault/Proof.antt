@@ -1,11 +1,11 @@
--- `mapping::probes_fault` meets its contract. The loop's invariant: the probes before j are wires.
+-- `probing::probes_fault` meets its contract. The loop's invariant: the probes before j are wires.
 -- Assumes nothing.
 use Prim.Native.Nat.{_-_}
 use native.Mathlib.Numerals.{add-one}
 use native.Mathlib.Omega.{arith}
 use mathlib.Core.Path.{_∙_}
 use lib.ListN.{length}
-use Rattle.mapping.proofs.Faults.{
+use Rattle.probing.proofs.Faults.{
   by-fault,
   probes-many,
   probes-few,
@@ -16,8 +16,8 @@ use Rattle.mapping.proofs.Faults.{
   probing-end,
 }
 use borrow.Author.Needs.{needs}
-use Rattle.mapping.proofs.probes_fault.Statement.{statement}
-use Rattle.mapping.proofs.probes_fault.Tie as tie
+use Rattle.probing.proofs.probes_fault.Statement.{statement}
+use Rattle.probing.proofs.probes_fault.Tie as tie
 
 abbrev Inv-loop : tie.InvT-loop
 Inv-loop order wires probes j₀ j =

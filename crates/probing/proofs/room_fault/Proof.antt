@@ -1,9 +1,9 @@
--- `mapping::room_fault` meets its contract.
+-- `probing::room_fault` meets its contract.
 -- Assumes nothing.
-use Rattle.mapping.proofs.Faults.{by-fault, tape-short, one-short, other-short, room-enough}
+use Rattle.probing.proofs.Faults.{by-fault, tape-short, one-short, other-short, room-enough}
 use borrow.Author.Needs.{needs}
-use Rattle.mapping.proofs.room_fault.Statement.{statement}
-use Rattle.mapping.proofs.room_fault.Tie as tie
+use Rattle.probing.proofs.room_fault.Statement.{statement}
+use Rattle.probing.proofs.room_fault.Tie as tie
 
 refused-requires : tie.Need-refused-requires
 refused-requires c κs = search needs

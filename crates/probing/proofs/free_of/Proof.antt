@@ -1,12 +1,12 @@
--- `mapping::free_of` meets its contract. The loop's invariant: looking from k on finds what looking from 1 on finds.
+-- `probing::free_of` meets its contract. The loop's invariant: looking from k on finds what looking from 1 on finds.
 -- Assumes nothing.
 use Prim.Native.Nat.{suc, _-_}
 use native.Mathlib.Numerals.{add-one}
 use native.Mathlib.Omega.{arith}
-use Rattle.mapping.proofs.Seeing.{Looking, looking-start, looking-turn, looking-found, looking-end}
+use Rattle.probing.proofs.Seeing.{Looking, looking-start, looking-turn, looking-found, looking-end}
 use borrow.Author.Needs.{needs}
-use Rattle.mapping.proofs.free_of.Statement.{statement}
-use Rattle.mapping.proofs.free_of.Tie as tie
+use Rattle.probing.proofs.free_of.Statement.{statement}
+use Rattle.probing.proofs.free_of.Tie as tie
 
 abbrev Inv-loop : tie.InvT-loop
 Inv-loop seen n k₀ k =

@@ -1,9 +1,9 @@
--- `mapping::map_fault` meets its contract: the plan's refusal, one that follows from its sizes, or the plan.
+-- `probing::map_fault` meets its contract: the plan's refusal, one that follows from its sizes, or the plan.
 -- Assumes nothing.
-use Rattle.mapping.proofs.Faults.{plan-small, map-plan-refused, map-call-refused, map-call-ready}
+use Rattle.probing.proofs.Faults.{plan-small, map-plan-refused, map-call-refused, map-call-ready}
 use borrow.Author.Needs.{needs}
-use Rattle.mapping.proofs.map_fault.Statement.{statement}
-use Rattle.mapping.proofs.map_fault.Tie as tie
+use Rattle.probing.proofs.map_fault.Statement.{statement}
+use Rattle.probing.proofs.map_fault.Tie as tie
 
 plan-table-requires : tie.Need-plan-table-requires
 plan-table-requires c κs = search needs

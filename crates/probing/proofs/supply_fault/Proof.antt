@@ -1,11 +1,11 @@
--- `mapping::supply_fault` meets its contract: the counts first, then the bits.
+-- `probing::supply_fault` meets its contract: the counts first, then the bits.
 -- Assumes nothing.
 use native.Mathlib.Omega.{arith}
 use Rattle.running.proofs.RunFault.{first-of, second-of}
-use Rattle.mapping.proofs.Faults.{by-fault, first-wrong, second-wrong, tape-wrong, counts-right}
+use Rattle.probing.proofs.Faults.{by-fault, first-wrong, second-wrong, tape-wrong, counts-right}
 use borrow.Author.Needs.{needs}
-use Rattle.mapping.proofs.supply_fault.Statement.{statement}
-use Rattle.mapping.proofs.supply_fault.Tie as tie
+use Rattle.probing.proofs.supply_fault.Statement.{statement}
+use Rattle.probing.proofs.supply_fault.Tie as tie
 
 refused-requires : tie.Need-refused-requires
 refused-requires c κs = search needs
