@@ -271,7 +271,7 @@ module _ {s : List ℕ} {p : DP.Plan} (R : PlanReady s (p .shares / 2) p) where
   module _ {F B T : List ℕ} (L : Located (tableOf s) (p .shares) F B T) (b : List ℕ) (room : planBytes p ≤ length b) where
     pub kinds-asked :
         (Shareable s (p .shares)) × (0 ≤ p .gates) × (p .gates ≤ word s 2)
-        × (totalOf (λ k. cost k (p .shares)) (stretch (tableOf s) 0 (p .gates)) ≤ length (kindsPart p b))
+        × (totalOf (λ k. cost k (p .shares)) (stretch (tableOf s) 0 (p .gates)) ≡ length (kindsPart p b))
     kinds-asked =
         let w = plan-work R in
         let fits = mid-len 6 (6 + gatesOf p) b (omega arith) in

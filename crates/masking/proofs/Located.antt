@@ -9,6 +9,8 @@ use native.Mathlib.Omega.{arith}
 use lib.ListN.{length, getD, take, drop, set, length-append, length-drop, length-set, take-append-drop}
 use lib.Seq.{getD-set-same, getD-set-other, length-take-le, take-suc, take-at, take-take, take-append-seam, drop-cons, take-length}
 use Rattle.tables.specs.Tables.{Kind, NOT, XOR, AND, RANDOM, UNKNOWN, kindOf, Gate, gate, Table, wires, word, gatesFrom, wordsFrom, tableOf}
+use lib.Dec.{eqb}
+use Rattle.tables.specs.Refusals.{pick}
 use Rattle.tables.proofs.Accept.{PlainGate, PlainGates}
 use Rattle.writing.specs.declared.Places as DP
 use Rattle.masks.specs.Shares.{upFrom, tri}
@@ -146,6 +148,20 @@ new-and (suc (suc zero)) n w d a some fits small h p q e =
       record { first = omega arith; base = omega arith; step = omega arith },
     )
 new-and (suc (suc (suc k))) n w d a some fits small h p q e = absurd (omega arith)
+
+-- the places as the code picks them, by the kind
+pub new-places-are :
+    {first base step other-base other-step : ℕ} (k n w d : ℕ) (a : DP.Places) → 1 ≤ n → w + cost (kindOf k) n ≤ 65535
+    → Small a → k < 3 → d ≡ tri n
+    → other-base ≡ pick (eqb k 1) (w + 1) (w + 5 * d + (n - 1) + n) → other-step ≡ pick (eqb k 1) 1 n
+    → first ≡ pick (eqb k 2) (w + 5 * d + (n - 1)) w → base ≡ pick (eqb k 0) (a .base) other-base
+    → step ≡ pick (eqb k 0) (a .step) other-step → NewAt k n w a (placesOf first base step)
+new-places-are zero n w d a some fits small h e p q f b t = rw (f, b, t) (new-not 0 n w a some fits small refl)
+new-places-are (suc zero) n w d a some fits small h e p q f b t =
+    rw (f, b, t, p, q) (new-xor 1 n w a some fits small refl)
+new-places-are (suc (suc zero)) n w d a some fits small h e p q f b t =
+    rw (f, b, t, p, q) (new-and 2 n w d a some fits small h (λ z. omega arith) (λ z. omega arith) e)
+new-places-are (suc (suc (suc k))) n w d a some fits small h e p q f b t = absurd (omega arith)
 
 pub after-length-take :
     (n w : ℕ) (S : List (List ℕ)) (gs : List Gate) → take (length S) (sharesAfter n w S gs) ≡ S

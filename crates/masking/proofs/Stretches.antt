@@ -6,25 +6,25 @@ use Prim.Native.Nat.{ℕ, zero, suc, _+_, _-_, _*_, _/_, _≤_, _<_}
 use native.Mathlib.Nat.{add-zero, zero-add}
 use native.Mathlib.Numerals.{add-one}
 use native.Mathlib.Omega.{arith}
-use lib.ListN.{length, getD, take, drop, length-append, drop-of-length-le}
+use lib.ListN.{length, getD, take, drop, replicate, length-replicate, length-append, drop-of-length-le}
 use lib.Seq.{drop-cons}
 use Rattle.tables.specs.Tables.{kindOf, Gate, Table, wires, word, two, tableOf, wordBytes, pairBytes, kindBytes}
-use Rattle.tables.specs.Says.{putAt}
+use Rattle.tables.specs.Says.{putAt, over}
 use Rattle.tables.proofs.Lists.{All, all-map}
 use Rattle.tables.proofs.Accept.{PlainGates, inputs-of, gates-of-length, wires-of, outputs-of-length}
 use Rattle.tables.proofs.Format.{words-long}
 use Rattle.tables.proofs.Loops.{gatesAt, gateAt, gates-at-step, wordsAt, words-at-table, words-at-step, words-at-end}
-use Rattle.tables.proofs.Put.{put-length, put-nil, put-append}
+use Rattle.tables.proofs.Put.{put-length, put-zero, put-nil, put-append}
 use Rattle.writing.specs.declared.Places as DP
 use Rattle.masks.specs.Shares.{upFrom}
 use Rattle.masks.specs.Wires.{cost, totalOf, share, newShares, inputShares, masked, outputShares, driverOf, newWires}
 use Rattle.masks.specs.Gadgets.{isw}
-use Rattle.writing.specs.Layout.{listed, LowShares, operandBytes, wireKinds}
+use Rattle.writing.specs.Layout.{listed, LowShares, operandBytes, wireKinds, XorsFrom}
 use Rattle.masking.specs.Masking.{Shareable, placesAt, sharesBy, Room, Located, allShares, gateWire, stretch, maskedGates}
 use Rattle.masks.proofs.Sum.{up-length}
 use Rattle.masks.proofs.Costs.{new-length, masked-length}
 use Rattle.writing.proofs.Drivers.{masked-drivers, masked-kinds}
-use Rattle.writing.proofs.GateKinds.{kinds-same}
+use Rattle.writing.proofs.GateKinds.{kinds-same, xors-after}
 use Rattle.writing.proofs.Bytes.{operands-append, operands-long, wire-kinds-append, wire-kinds-long}
 use Rattle.masks.proofs.Placed.{Placed, share-below, placed-at, placed-inputs, placed-after, outputs-stand, shares-after-length}
 use Rattle.masking.proofs.Located.{
@@ -494,22 +494,56 @@ pub record Kinds (s : List ℕ) (n : ℕ) (whole b₀ : List ℕ) (e g at : ℕ)
   pub within : g ≤ e
   pub ends : e ≤ word s 2
   pub left : Left whole b₀ at (wireKinds (masked isw n 0 0 [] (stretch (tableOf s) g e))) b
+  pub xors : XorsFrom at b
 
 abbrev pub kindsWhole : List ℕ → ℕ → ℕ → ℕ → List ℕ → List ℕ
 kindsWhole s n g e b = putAt 0 (kindBytes (maskedGates n 0 [] (stretch (tableOf s) g e))) b
 
-pub kinds-start :
-    {s : List ℕ} {n : ℕ} {e g : ℕ} {b : List ℕ} → Shareable s n → g ≤ e → e ≤ word s 2
-    → totalOf (λ k. cost k n) (stretch (tableOf s) g e) ≤ length b → Kinds s n (kindsWhole s n g e b) b e g 0 b
-kinds-start {s} {n} {e} {g} {b} M within ends room =
-    let xs = masked isw n 0 0 [] (stretch (tableOf s) g e) in
-    record {
-      shareable = M;
-      within = within;
-      ends = ends;
-      left = left-start 0 (wireKinds xs) b
-          (omega (arith, wire-kinds-long xs, masked-length isw n 0 0 [] (stretch (tableOf s) g e)));
-    }
+-- a buffer b, of which b₁ is what remains once every byte is the kind of an XOR gate
+module _
+    (s : List ℕ)
+    (n g e : ℕ)
+    (b : List ℕ)
+    {b₁ : List ℕ}
+    (fits : totalOf (λ k. cost k n) (stretch (tableOf s) g e) ≡ length b)
+    (filled : b₁ ≡ putAt 0 (replicate (length b) 1) b) where
+  filled-is : b₁ ≡ replicate (length b) 1
+  filled-is =
+      let long = length-replicate {A = ℕ} (length b) 1 in
+      filled
+      ∙ put-zero (replicate (length b) 1) b
+      ∙ ap {A = List ℕ} {B = List ℕ} (λ y. replicate (length b) 1 ++ y)
+      (drop-of-length-le b {i = length (replicate {A = ℕ} (length b) 1)} (omega (arith, long)))
+      ∙ append-nil (replicate (length b) 1)
+
+  filled-long : length b₁ ≡ length b
+  filled-long = ap length filled-is ∙ length-replicate {A = ℕ} (length b) 1
+
+  kinds-whole-long : length (wireKinds (masked isw n 0 0 [] (stretch (tableOf s) g e))) ≡ length b
+  kinds-whole-long =
+      let xs = masked isw n 0 0 [] (stretch (tableOf s) g e) in
+      omega (arith, fits, wire-kinds-long xs, masked-length isw n 0 0 [] (stretch (tableOf s) g e))
+
+  pub kinds-start : Shareable s n → g ≤ e → e ≤ word s 2 → Kinds s n (kindsWhole s n g e b₁) b₁ e g 0 b₁
+  kinds-start M within ends =
+      let e : length b ≡ length b₁ - 0 = omega (arith, filled-long) in
+      record {
+        shareable = M;
+        within = within;
+        ends = ends;
+        left = left-start 0 _ b₁ (omega (arith, kinds-whole-long, filled-long));
+        xors = filled-is ∙ ap (λ (m : ℕ). replicate m 1) e;
+      }
+
+  -- all of it is written, so that it does not matter what stood there
+  pub kinds-over :
+      kindsWhole s n g e b₁ ≡ over (kindBytes (maskedGates n 0 [] (stretch (tableOf s) g e))) b
+  kinds-over =
+      let xs = wireKinds (masked isw n 0 0 [] (stretch (tableOf s) g e)) in
+      let none : (y : List ℕ) → length y ≡ length b → drop (length xs) y ≡ [] =
+      λ y h. drop-of-length-le y {i = length xs} (omega (arith, h, kinds-whole-long)) in
+      put-zero xs b₁
+      ∙ ap {A = List ℕ} {B = List ℕ} (λ y. xs ++ y) (none b₁ filled-long ∙ sym (none b refl))
 
 module _ {s : List ℕ} {n : ℕ} {whole b₀ : List ℕ} {e g at : ℕ} {b : List ℕ} (P : Kinds s n whole b₀ e g at b) where
   pub kinds-end : e ≤ g → b ≡ whole
@@ -563,4 +597,5 @@ module _ {s : List ℕ} {n : ℕ} {whole b₀ : List ℕ} {e g at : ℕ} {b : Li
           within = h;
           ends = P .ends;
           left = left-turn (P .left) _ _ kinds-piece put next;
+          xors = xors-after at (wireKinds ws) b (P .xors) (omega (arith, kinds-room, next)) put next;
         })

@@ -7,6 +7,7 @@ ghost use Rattle.masks.specs.Wires.{cost, totalOf, newShares, inputShares, outp
 ghost use Rattle.writing.specs.Layout.{listed, LowShares};
 ghost use Rattle.masking.specs.Masking.{Shareable, placesAt, Small, sharesBy, Room, Put};
 ghost use Rattle.masking.specs.Masking.{Located, allShares, gateWire, stretch, maskedGates, afterSizes};
+ghost use Rattle.tables.specs.Refusals.{pick};
 ghost use Rattle.tables.specs.Says.{putAt, over};
 ghost use Rattle.sizing.specs.Plans.{PlanReady, planBytes};
 ghost use mathlib.Core.List.{[], _++_};
@@ -26,30 +27,28 @@ fn places_at(first: &[u16], base: &[u16], step: &[u16], p: usize) -> writing::Pl
     }
 }
 
+// One of two numbers, by a test.
+fn either(test: bool, yes: usize, no: usize) -> usize
+    ensures { λ r. ⌜ r ≡ pick test yes no ⌝ }
+{
+    if test {
+        return yes;
+    }
+    no
+}
+
 // Where the shares of a plain gate's result are, where its first wire is w and its left operand's shares are at a.
 fn new_places(kind: u8, n: usize, w: usize, a: writing::Places) -> writing::Places
     requires { ⌜ (kind < 3) × (1 ≤ n) × (n ≤ 31) × (w + cost (kindOf kind) n ≤ 65535) × Small a ⌝ }
     ensures { λ r. ⌜ (listed n r ≡ newShares (kindOf kind) n w (listed n a)) × Small r ⌝ }
 {
-    match kind {
-        0 => writing::Places {
-            first: w,
-            base: a.base,
-            step: a.step,
-        },
-        1 => writing::Places {
-            first: w,
-            base: w + 1,
-            step: 1,
-        },
-        _ => {
-            let last = w + 5 * sizing::pair_count(n) + (n - 1);
-            writing::Places {
-                first: last,
-                base: last + n,
-                step: n,
-            }
-        }
+    let last = w + 5 * sizing::pair_count(n) + (n - 1);
+    let base = either(kind == 1, w + 1, last + n);
+    let step = either(kind == 1, 1, n);
+    writing::Places {
+        first: either(kind == 2, last, w),
+        base: either(kind == 0, a.base, base),
+        step: either(kind == 0, a.step, step),
     }
 }
 
@@ -111,13 +110,15 @@ fn place_gates(
     }
 }
 
-// Writes the kinds of the masked gates of the plain gates from..to.
+// Writes the kinds of the masked gates of the plain gates from..to: those of XOR gates everywhere, then what is none.
 fn write_kinds(table: &[u8], from: usize, to: usize, n: usize, kinds: &mut [u8])
     requires { ⌜ Shareable (now table) n × (from ≤ to) × (to ≤ word (now table) 2)
-        × (totalOf (λ k. cost k n) (stretch (tableOf (now table)) from to) ≤ length (now kinds)) ⌝ }
+        × (totalOf (λ k. cost k n) (stretch (tableOf (now table)) from to) ≡ length (now kinds)) ⌝ }
     ensures { λ _. ⌜ now (kinds .exit)
         ≡ over (kindBytes (maskedGates n 0 [] (stretch (tableOf (now (table .entry))) from to))) (now (kinds .entry)) ⌝ }
 {
+    let room = kinds.len();
+    writing::write_xor_kinds(kinds, 0, room);
     let mut at = 0;
     let mut g = from;
     while g < to {
@@ -286,15 +287,27 @@ fn mask_with(
     mask_gates(table, p, first, base, step, out);
 }
 
-// Masks a table of at most 1,024 wires.
+// Masks a table of at most 256 wires.
 fn mask_small(table: &[u8], p: sizing::Plan, out: &mut [u8])
-    requires { ⌜ PlanReady (now table) (p .shares / 2) p × (p .inputs + p .gates ≤ 1024) × (planBytes p ≤ length (now out)) ⌝ }
+    requires { ⌜ PlanReady (now table) (p .shares / 2) p × (p .inputs + p .gates ≤ 256) × (planBytes p ≤ length (now out)) ⌝ }
     ensures { λ _. ⌜ now (out .exit)
         ≡ over (tableBytes (maskedTable isw (p .shares / 2) (tableOf (now (table .entry))))) (now (out .entry)) ⌝ }
 {
-    let mut first = [0u16; 1024];
-    let mut base = [0u16; 1024];
-    let mut step = [0u16; 1024];
+    let mut first = [0u16; 256];
+    let mut base = [0u16; 256];
+    let mut step = [0u16; 256];
+    mask_with(table, p, &mut first, &mut base, &mut step, out);
+}
+
+// Masks a table of at most 8,192 wires.
+fn mask_middle(table: &[u8], p: sizing::Plan, out: &mut [u8])
+    requires { ⌜ PlanReady (now table) (p .shares / 2) p × (p .inputs + p .gates ≤ 8192) × (planBytes p ≤ length (now out)) ⌝ }
+    ensures { λ _. ⌜ now (out .exit)
+        ≡ over (tableBytes (maskedTable isw (p .shares / 2) (tableOf (now (table .entry))))) (now (out .entry)) ⌝ }
+{
+    let mut first = [0u16; 8192];
+    let mut base = [0u16; 8192];
+    let mut step = [0u16; 8192];
     mask_with(table, p, &mut first, &mut base, &mut step, out);
 }
 
@@ -316,11 +329,24 @@ pub fn mask_into(table: &[u8], p: sizing::Plan, out: &mut [u8])
     ensures { λ _. ⌜ now (out .exit)
         ≡ over (tableBytes (maskedTable isw (p .shares / 2) (tableOf (now (table .entry))))) (now (out .entry)) ⌝ }
 {
-    if p.inputs + p.gates <= 1024 {
-        mask_small(table, p, out);
+    if p.inputs + p.gates <= 8192 {
+        mask_middle(table, p, out);
         return;
     }
     mask_large(table, p, out);
+}
+
+// The same, with little stack for a small table: to reserve that of a large one takes time even where it is not used.
+fn mask_lean(table: &[u8], p: sizing::Plan, out: &mut [u8])
+    requires { ⌜ PlanReady (now table) (p .shares / 2) p × (planBytes p ≤ length (now out)) ⌝ }
+    ensures { λ _. ⌜ now (out .exit)
+        ≡ over (tableBytes (maskedTable isw (p .shares / 2) (tableOf (now (table .entry))))) (now (out .entry)) ⌝ }
+{
+    if p.inputs + p.gates <= 256 {
+        mask_small(table, p, out);
+        return;
+    }
+    mask_into(table, p, out);
 }
 
 // Masks a plain table at an order; the bytes written.
@@ -330,11 +356,7 @@ pub fn mask_table(table: &[u8], order: u8, out: &mut [u8]) -> tables::Answer
     let planned = sizing::plan_table(table, order);
     match planned {
         sizing::Planned::Refused(f) => {
-            return tables::Answer {
-                number: f.number,
-                place: f.place,
-                value: 0,
-            };
+            return tables::refused(f);
         }
         sizing::Planned::Ready(p) => {
             let bytes = sizing::plan_bytes(p);
@@ -345,7 +367,7 @@ pub fn mask_table(table: &[u8], order: u8, out: &mut [u8]) -> tables::Answer
                     value: 0,
                 };
             }
-            mask_into(table, p, out);
+            mask_lean(table, p, out);
             return tables::Answer {
                 number: 0,
                 place: 0,

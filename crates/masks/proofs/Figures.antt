@@ -103,20 +103,25 @@ module _ {s : List ℕ} {g i : ℕ} (S : Searching s g i) where
   unfolding randomFault
   search-end h = let e : i ≡ g = omega (arith, S .within) in S .left ∙ rw (e, gates-at-end s g)
 
--- the total of a figure that only NOT, XOR and AND have, from how many gates there are of each
-pub total-by-kind :
-    (f : Kind → ℕ) → f RANDOM ≡ 0 → ((k : ℕ) → f (UNKNOWN k) ≡ 0) → (gs : List Gate)
-    → totalOf f gs ≡ countKind 0 gs * f NOT + countKind 1 gs * f XOR + countKind 2 gs * f AND
-unfolding totalOf countKind
-total-by-kind f r u [] = omega arith
-total-by-kind f r u (g ∷ gs) = omega (arith, one (g .kind), total-by-kind f r u gs)
-  where
-    one : (k : Kind) → f k ≡ ofKind 0 k * f NOT + ofKind 1 k * f XOR + ofKind 2 k * f AND
-    one NOT = omega arith
-    one XOR = omega arith
-    one AND = omega arith
-    one RANDOM = omega (arith, r)
-    one (UNKNOWN k) = omega (arith, u k)
+-- a figure that only NOT, XOR and AND have, of one gate and in total, from how many gates there are of each
+module _ (f : Kind → ℕ) (random : f RANDOM ≡ 0) (unknown : (k : ℕ) → f (UNKNOWN k) ≡ 0) where
+  pub by-kind : (k : Kind) → f k ≡ ofKind 0 k * f NOT + ofKind 1 k * f XOR + ofKind 2 k * f AND
+  by-kind NOT = omega arith
+  by-kind XOR = omega arith
+  by-kind AND = omega arith
+  by-kind RANDOM = omega (arith, random)
+  by-kind (UNKNOWN k) = omega (arith, unknown k)
+
+  pub total-by-kind :
+      (gs : List Gate) → totalOf f gs ≡ countKind 0 gs * f NOT + countKind 1 gs * f XOR + countKind 2 gs * f AND
+  unfolding totalOf countKind
+  total-by-kind [] = omega arith
+  total-by-kind (g ∷ gs) = omega (arith, by-kind (g .kind), total-by-kind gs)
+
+pub at-most-once : (b v : ℕ) → b ≤ 1 → b * v ≤ v
+at-most-once zero v h = omega arith
+at-most-once (suc zero) v h = omega arith
+at-most-once (suc (suc b)) v h = absurd (omega arith)
 
 pub few-costs :
     {c g v n : ℕ} (k : Kind) → c ≤ g → g ≤ 65535 → v ≡ cost k n → n ≤ 31 → c * v ≤ 65535 * 3286

@@ -48,12 +48,11 @@ pub fn gate_cost(kind: u8, n: usize) -> usize
     requires { ⌜ n ≤ 31 ⌝ }
     ensures { λ r. ⌜ r ≡ cost (kindOf kind) n ⌝ }
 {
-    match kind {
-        0 => 1,
-        1 => n,
-        2 => 5 * pair_count(n) + n * n,
-        _ => 0,
-    }
+    let of_and = 5 * pair_count(n) + n * n;
+    let nots = tables::is_kind(kind, 0) as usize;
+    let xors = tables::is_kind(kind, 1) as usize;
+    let ands = tables::is_kind(kind, 2) as usize;
+    nots + xors * n + ands * of_and
 }
 
 // How many random bits a plain gate draws once it is masked.
@@ -118,11 +117,11 @@ pub fn first_of(a: tables::Refusal, b: tables::Refusal) -> tables::Refusal
     b
 }
 
-// A refusal with no place of its own.
-fn refuse(number: u8) -> Planned
-    ensures { λ r. ⌜ r ≡ Planned.Refused (record { number = number; place = 0 }) ⌝ }
+// A refusal, by its number and place.
+fn refuse(number: u8, place: u32) -> Planned
+    ensures { λ r. ⌜ r ≡ Planned.Refused (record { number = number; place = place }) ⌝ }
 {
-    Planned::Refused(tables::Refusal { number, place: 0 })
+    Planned::Refused(tables::Refusal { number, place })
 }
 
 // 8, or the sizes, for a table and an order that 1 to 7 accept.
@@ -138,10 +137,10 @@ fn plan_sizes(table: &[u8], order: u8) -> Planned
     let all = gate_totals(table, gates, shares);
     let wires = shares * inputs + all.wires;
     if wires > 65535 {
-        return refuse(8);
+        return refuse(8, 0);
     }
     if shares * outputs > 65535 {
-        return refuse(8);
+        return refuse(8, 0);
     }
     Planned::Ready(Plan {
         inputs,
@@ -159,13 +158,13 @@ pub fn plan_table(table: &[u8], order: u8) -> Planned
 {
     let found = checking::table_fault(table);
     if found.number != 0 {
-        return Planned::Refused(found);
+        return refuse(found.number, found.place);
     }
     let gates = tables::field(table, 2);
     let random = random_fault(table, gates);
     let first = first_of(masks::order_fault(order), random);
     if first.number != 0 {
-        return Planned::Refused(first);
+        return refuse(first.number, first.place);
     }
     plan_sizes(table, order)
 }

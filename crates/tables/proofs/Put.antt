@@ -45,6 +45,18 @@ put-append at xs ys b h =
     let far : at + length (xs ++ ys) ≡ n + length ys = omega (arith, length-append xs ys) in
     rw (split, front, tail, far) (simp append-assoc)
 
+-- what stands past a piece
+pub put-past :
+    (at : ℕ) (xs b : List ℕ) → at + length xs ≤ length b
+    → drop (at + length xs) (putAt at xs b) ≡ drop (at + length xs) b
+unfolding putAt
+put-past at xs b h =
+    let n = at + length xs in
+    let head = take at b ++ xs in
+    let long : length head ≡ n = omega (arith, length-append (take at b) xs, length-take-le at b (omega arith)) in
+    let split : take at b ++ (xs ++ drop n b) ≡ head ++ drop n b = sym (append-assoc (take at b) xs (drop n b)) in
+    rw split (drop-at head (drop n b) n long)
+
 -- a piece put into a part that was lent
 pub put-part :
     (a e at : ℕ) (xs b : List ℕ) → a ≤ e → e ≤ length b → at + length xs ≤ e - a

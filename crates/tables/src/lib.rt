@@ -50,8 +50,8 @@ pub fn put_field(out: &mut [u8], at: usize, v: usize)
     out[at + 1] = (v / 256) as u8;
 }
 
-// 1 where a byte is a kind, else 0.
-fn is_kind(byte: u8, kind: u8) -> u32
+// 1 where a byte is a kind, else 0: a number, so that a sum over kinds needs no branch.
+pub fn is_kind(byte: u8, kind: u8) -> u32
     requires { ⌜ kind ≤ 3 ⌝ }
     ensures { λ r. ⌜ (r ≡ ofKind kind (kindOf byte)) × (r ≤ 1) ⌝ }
 {

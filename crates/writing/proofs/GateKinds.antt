@@ -5,9 +5,12 @@ use mathlib.Core.Path.{_≡_, refl, sym, ap, ap₂, _∙_}
 use mathlib.Core.List.{List, [], _∷_, _++_, map, map-append}
 use Prim.Native.Nat.{ℕ, zero, suc, _+_, _-_, _*_, _≤_, _<_}
 use native.Mathlib.Omega.{arith}
-use lib.ListN.{length, replicate, length-replicate}
-use Rattle.tables.specs.Tables.{Kind, NOT, XOR, AND, RANDOM, UNKNOWN, Gate, gate, kindBytes}
+use lib.ListN.{length, drop, set, replicate, length-replicate, replicate-append-replicate}
+use lib.Seq.{drop-drop}
+use Rattle.tables.specs.Tables.{Kind, NOT, XOR, AND, RANDOM, UNKNOWN, kindOf, Gate, gate, kindBytes}
+use Rattle.tables.specs.Says.{putAt}
 use Rattle.tables.proofs.Lists.{All}
+use Rattle.tables.proofs.Put.{put-length, put-set, put-past}
 use Rattle.masks.specs.Shares.{upFrom, inTurn, pairs, tri, row}
 use Rattle.masks.specs.Gadgets.{Gadget, isw}
 use Rattle.masks.specs.Wires.{
@@ -25,8 +28,9 @@ use Rattle.masks.specs.Wires.{
   pairWire,
   andWires,
   newWires,
+  cost,
 }
-use Rattle.writing.specs.Layout.{wireKinds, times, pairKinds, rowKinds}
+use Rattle.writing.specs.Layout.{wireKinds, times, pairKinds, rowKinds, XorsFrom}
 use Rattle.masks.proofs.Sum.{up-length, up-all}
 use Rattle.masks.proofs.Rows.{pairs-length, row-length}
 use Rattle.masks.proofs.Costs.{all-of}
@@ -57,6 +61,47 @@ unfolding joined
 rows-kinds-long zero = refl
 rows-kinds-long (suc n) =
     joined-long (suc n) (suc n) 0 (λ _. rowKinds (suc n)) (λ _. row-kinds-long (suc n) (omega arith))
+
+-- bytes of which all from a place on are the kind of an XOR gate
+abbrev ones : ℕ → List ℕ
+ones n = replicate n 1
+
+drop-ones : (k n : ℕ) → drop k (ones n) ≡ ones (n - k)
+drop-ones zero n = ap ones {x = n} {y = n - 0} (omega arith)
+drop-ones (suc k) zero = ap ones {x = 0} {y = 0 - suc k} (omega arith)
+drop-ones (suc k) (suc n) = drop-ones k n ∙ ap ones {x = n - k} {y = suc n - suc k} (omega arith)
+
+xors-later : (at k : ℕ) (b : List ℕ) → XorsFrom at b → XorsFrom (at + k) b
+xors-later at k b h =
+    sym (drop-drop k at b)
+    ∙ ap {A = List ℕ} {B = List ℕ} (λ ys. drop k ys) h
+    ∙ drop-ones k (length b - at)
+    ∙ ap ones {x = length b - at - k} {y = length b - (at + k)} (omega arith)
+
+pub xors-after :
+    (at : ℕ) {at' : ℕ} (xs b : List ℕ) {b' : List ℕ} → XorsFrom at b → at + length xs ≤ length b → b' ≡ putAt at xs b
+    → at' ≡ at + length xs → XorsFrom at' b'
+xors-after at xs b h fits put next =
+    let long = put-length at xs b fits in
+    rw (next, put, long) (put-past at xs b fits ∙ xors-later at (length xs) b h)
+
+-- one byte, and the kinds of XOR gates that stand after it
+pub xors-head :
+    (at m v : ℕ) (b : List ℕ) → XorsFrom at b → at + suc m ≤ length b → set b at v ≡ putAt at (v ∷ ones m) b
+unfolding putAt
+xors-head at m v b h fits =
+    let rest = length b - (at + suc m) in
+    let far : at + suc (length (ones m)) ≡ at + suc m = omega (arith, length-replicate {A = ℕ} m 1) in
+    let tail : drop (at + 1) b ≡ ones m ++ drop (at + suc m) b =
+    xors-later at 1 b h
+    ∙ ap ones {x = length b - (at + 1)} {y = m + rest} (omega arith)
+    ∙ sym (replicate-append-replicate {A = ℕ} m rest 1)
+    ∙ ap {A = List ℕ} {B = List ℕ} (λ ys. ones m ++ ys) (sym (xors-later at (suc m) b h)) in
+    put-set at v b (omega arith) ∙ rw (far, tail) refl
+
+pub row-head :
+    (at n : ℕ) (b : List ℕ) → 1 ≤ n → XorsFrom at b → at + n ≤ length b → set b at 2 ≡ putAt at (rowKinds n) b
+row-head at n b some h fits = xors-head at (n - 1) 2 b h (omega arith)
 
 -- blocks of wires that all have the same kinds
 pub in-turn-kinds :
@@ -109,6 +154,24 @@ xors-kinds g (suc m) c a b = ap {A = List ℕ} {B = List ℕ} (λ y. 1 ∷ y) (x
 
 pub xor-kinds : (n g w : ℕ) (a b : List ℕ) → wireKinds (newWires isw XOR n g w a b) ≡ replicate n 1
 xor-kinds n g w a b = xors-kinds g n 0 a b
+
+-- the kinds of a NOT and of an XOR, where the kinds of XOR gates stand already
+pub kinds-head :
+    (k n at : ℕ) (b : List ℕ) → k < 3 → (k ≡ 2 → ⊥) → 1 ≤ n → at + cost (kindOf k) n ≤ length b → XorsFrom at b
+    → set b at k ≡ putAt at (wireKinds (newWires isw (kindOf k) n 0 0 [] [])) b
+unfolding kindBytes
+kinds-head zero n at b h e some fits xors = put-set at 0 b (omega arith)
+kinds-head (suc zero) zero at b h e some fits xors = absurd (omega arith)
+kinds-head (suc zero) (suc n) at b h e some fits xors = xors-head at n 1 b xors fits ∙ rw (xor-kinds (suc n) 0 0 [] []) refl
+kinds-head (suc (suc zero)) n at b h e some fits xors = absurd (e refl)
+kinds-head (suc (suc (suc k))) n at b h e some fits xors = absurd (omega arith)
+
+pub kinds-room :
+    (k n at : ℕ) (b : List ℕ) → k < 3 → (k ≡ 2 → ⊥) → 1 ≤ n → at + cost (kindOf k) n ≤ length b → at < length b
+kinds-room zero n at b h e some fits = omega arith
+kinds-room (suc zero) n at b h e some fits = omega arith
+kinds-room (suc (suc zero)) n at b h e some fits = absurd (e refl)
+kinds-room (suc (suc (suc k))) n at b h e some fits = absurd (omega arith)
 
 -- the kinds depend on neither wires nor shares
 pub kinds-same :

@@ -1,13 +1,13 @@
 -- The bytes of a gate's new wires as pieces one after another, as the loops write them.
 -- Assumes nothing.
-use mathlib.Core.Path.{_≡_, refl, sym, ap, _∙_}
+use mathlib.Core.Path.{_≡_, refl, sym, ap, _∙_, subst}
 use mathlib.Core.List.{List, [], _∷_, _++_, map, append-assoc}
 use Prim.Native.Nat.{ℕ, zero, suc, _+_, _-_, _*_, _≤_, _<_}
 use native.Mathlib.Nat.{zero-add, add-zero, add-suc}
 use native.Mathlib.Omega.{arith}
-use lib.ListN.{length, length-append}
+use lib.ListN.{length, getD, length-append}
 use Rattle.tables.specs.Tables.{NOT, XOR, AND, kindOf, gate, two, pairBytes}
-use Rattle.masks.specs.Shares.{upFrom, inTurn, pairOf, pairsFrom, pairs, tri, pairAt, row}
+use Rattle.masks.specs.Shares.{upFrom, inTurn, Pair, pairOf, pairs, tri, pairAt, row}
 use Rattle.masks.specs.Gadgets.{Gadget, allFive, iswGates, isw}
 use Rattle.masks.specs.Wires.{
   Wire,
@@ -23,10 +23,11 @@ use Rattle.masks.specs.Wires.{
   andWires,
   newWires,
 }
-use Rattle.writing.specs.Layout.{operandBytes, pairsOf, allPairs, sumBytes, highWires, lowWires, rowBytes, allRows}
+use Rattle.writing.specs.declared.Pair as DQ
+use Rattle.writing.specs.Layout.{PairNo, operandBytes, allPairs, sumBytes, highWires, lowWires, rowBytes, allRows}
 use Rattle.writing.proofs.Bytes.{operands-append, operands-long, adding-operands, sums-append, joined, joined-long}
-use Rattle.masks.proofs.Sum.{up-length, up-plus, up-cong}
-use Rattle.masks.proofs.Rows.{pairs-length, pair-below, pair-closed, row-length}
+use Rattle.masks.proofs.Sum.{up-length, up-plus, up-cong, up-shift}
+use Rattle.masks.proofs.Rows.{pairs-length, pair-at, pair-below, tri-closed, pair-closed, row-length}
 use Rattle.masks.proofs.Each.{in-turn-length}
 use Rattle.masks.proofs.Costs.{adding-length, pairs-span, rows-span}
 
@@ -52,27 +53,90 @@ in-turn-joined size w m s g F =
     ∙ ap (λ (v : ℕ). operandBytes (inTurn size (w + size * 0) (upFrom m v g) F)) k
     ∙ in-turn-from size w m s 0 g F
 
--- the five wires of the pair (i, j) that is number c among those of i
+-- a list by its entries
+up-get : {A : Type 0} (xs : List A) (d : A) → xs ≡ upFrom (length xs) 0 (λ i. getD xs i d)
+unfolding upFrom
+up-get [] d = refl
+up-get {A} (x ∷ xs) d =
+    ap {A = List A} {B = List A} (λ ys. x ∷ ys)
+    (up-get xs d ∙ sym (up-shift (length xs) 0 (λ i. getD (x ∷ xs) i d)))
+
+-- the five wires of pair number c
 abbrev pub pairPiece : ℕ → ℕ → List ℕ → List ℕ → ℕ → List ℕ
-pairPiece i w a b c =
-    pairBytes
-    (map
-    (iswGates (w + 5 * c) (share a i) (share b (suc i + c)) (share a (suc i + c)) (share b i))
-    allFive)
+pairPiece n w a b c = operandBytes (pairWires isw 0 a b (w + 5 * c) (getD (pairs n) c (pairOf 0 0)))
 
-pub pair-long : (i w : ℕ) (a b : List ℕ) (c : ℕ) → length (pairPiece i w a b c) ≡ 20
+pub pair-long : (n w : ℕ) (a b : List ℕ) (c : ℕ) → length (pairPiece n w a b c) ≡ 20
 unfolding pairBytes
-pair-long i w a b c = refl
+pair-long n w a b c = refl
 
-pub pairs-of-joined :
-    (n i w : ℕ) (a b : List ℕ) → pairsOf n i w a b ≡ joined (n - suc i) 0 (pairPiece i w a b)
-pairs-of-joined n i w a b = in-turn-joined 5 w (n - suc i) (suc i) (λ j. pairOf i j) (pairWires isw 0 a b)
+pub all-pairs-joined : (n w : ℕ) (a b : List ℕ) → allPairs n w a b ≡ joined (tri n) 0 (pairPiece n w a b)
+all-pairs-joined n w a b =
+    let d = pairOf 0 0 in
+    let F = pairWires isw 0 a b in
+    let turns = in-turn-joined 5 w (length (pairs n)) 0 (λ c. getD (pairs n) c d) F in
+    ap {A = List Pair} {B = List ℕ} (λ ps. operandBytes (inTurn 5 w ps F)) (up-get (pairs n) d)
+    ∙ (simp zero-add at turns)
+    ∙ ap (λ (m : ℕ). joined m 0 (pairPiece n w a b)) (pairs-length n 0)
 
 -- the piece from the wires that are its operands
 pub pair-piece :
-    {ai bj aj bi : ℕ} (i j w c : ℕ) (a b : List ℕ) → j ≡ suc i + c → ai ≡ share a i → bj ≡ share b j → aj ≡ share a j
-    → bi ≡ share b i → pairBytes (map (iswGates (w + 5 * c) ai bj aj bi) allFive) ≡ pairPiece i w a b c
-pair-piece i j w c a b e p q r s = rw (p, q, r, s, e) refl
+    {ai bj aj bi n c : ℕ} {p : DQ.Pair} (w : ℕ) (a b : List ℕ) → PairNo n c p → ai ≡ share a (p .i) → bj ≡ share b (p .j)
+    → aj ≡ share a (p .j) → bi ≡ share b (p .i)
+    → pairBytes (map (iswGates (w + 5 * c) ai bj aj bi) allFive) ≡ pairPiece n w a b c
+pair-piece {n = n} {c = c} {p = p} w a b P q r s t =
+    let d = pairOf 0 0 in
+    let here : getD (pairs n) c d ≡ pairOf (p .i) (p .j) = rw (P .place) (pair-at n (p .i) (p .j) d (P .rising) (P .inside) .1) in
+    rw (here, q, r, s, t) refl
+
+-- the pairs one after another: those of share i, then those of the next share
+pub pair-first : (n : ℕ) → 0 < tri n → PairNo n 0 (record { i = 0; j = 1 })
+unfolding tri pairAt
+pair-first zero h = absurd (omega arith)
+pair-first (suc zero) h = absurd (omega arith)
+pair-first (suc (suc n)) h = record { rising = omega arith; inside = omega arith; place = refl }
+
+pub pair-next :
+    {n c : ℕ} {p : DQ.Pair} → PairNo n c p → p .j + 1 < n → PairNo n (suc c) (record { i = p .i; j = p .j + 1 })
+pair-next {n} {c} {p} P h = record {
+  rising = omega (arith, P .rising);
+  inside = h;
+  place =
+      omega (
+        arith,
+        P .place,
+        pair-closed n (p .i) (p .j) (P .rising) (P .inside),
+        pair-closed n (p .i) (p .j + 1) (omega (arith, P .rising)) h,
+      );
+}
+
+last-pair : (i : ℕ) → suc (pairAt (i + 2) i (i + 1)) ≡ tri (i + 2)
+last-pair i = omega (arith, pair-closed (i + 2) i (i + 1) (omega arith) (omega arith), tri-closed (i + 2))
+
+pub pair-turn :
+    {n c : ℕ} {p : DQ.Pair} → PairNo n c p → n ≤ p .j + 1 → suc c < tri n
+    → PairNo n (suc c) (record { i = p .i + 1; j = p .i + 2 })
+pair-turn {n} {c} {p} P h more =
+    let i = p .i in
+    let upper : p .j ≡ n - 1 = omega (arith, P .inside) in
+    let room : n ≤ i + 2 → ⊥ = λ k.
+    let e : n ≡ i + 2 = omega (arith, P .rising, P .inside) in
+    let f : p .j ≡ i + 1 = omega (arith, e) in
+    let place : c ≡ pairAt (i + 2) i (i + 1) = subst (λ (x : ℕ). c ≡ pairAt x i (i + 1)) e (subst (λ (x : ℕ). c ≡ pairAt n i x) f
+    (P .place)) in
+    let less : suc c < tri (i + 2) = subst (λ (x : ℕ). suc c < tri x) e more in
+    omega (arith, last-pair i, place, less) in
+    record {
+      rising = omega arith;
+      inside = omega (arith, room);
+      place =
+          omega (
+            arith,
+            P .place,
+            upper,
+            pair-closed n i (p .j) (P .rising) (P .inside),
+            pair-closed n (i + 1) (i + 2) (omega arith) (omega (arith, room)),
+          );
+    }
 
 pub in-turn-append :
     {A B : Type 0} (size w : ℕ) (xs ys : List A) (F : ℕ → A → List B)
@@ -84,59 +148,11 @@ in-turn-append size w (x ∷ xs) ys F =
     let e : w + size + size * length xs ≡ w + size * suc (length xs) = omega arith in
     rw (in-turn-append size (w + size) xs ys F, e) (sym (append-assoc (F w x) _ _))
 
-pub tri-mono : (c d : ℕ) → tri c ≤ tri (c + d)
+-- few pairs, few shares
+pub tri-more : (n : ℕ) → n ≤ suc (tri n)
 unfolding tri
-tri-mono c zero = rw add-zero (omega arith)
-tri-mono c (suc d) = rw add-suc (omega (arith, tri-mono c d))
-
-pub tri-below : (c n : ℕ) → c ≤ n → tri c ≤ tri n
-tri-below c n h = let e : c + (n - c) ≡ n = omega arith in rw e at (tri-mono c (n - c))
-
--- the pairs among the shares from i on are those of i and those among the later shares
-pub tri-turn :
-    (n i : ℕ) → i < n → (tri (n - i) ≡ n - suc i + tri (n - (i + 1))) × (tri (n - i) ≤ tri n)
-unfolding tri
-tri-turn n i h =
-    let e : n - i ≡ suc (n - suc i) = omega arith in
-    let k : n - (i + 1) ≡ n - suc i = omega arith in
-    (rw (e, k) refl, tri-below (n - i) n (omega arith))
-
-pub tri-none : (n i : ℕ) → n ≤ i → tri (n - i) ≡ 0
-unfolding tri
-tri-none n i h = let e : n - i ≡ 0 = omega arith in rw e refl
-
--- the pairs of share i, where the AND's first wire is w
-abbrev pub sharePairs : ℕ → ℕ → List ℕ → List ℕ → ℕ → List ℕ
-sharePairs n w a b i = pairsOf n i (w + 5 * (tri n - tri (n - i))) a b
-
-pairs-from :
-    (n w : ℕ) (a b : List ℕ) (c i : ℕ) → i + c ≡ n
-    → operandBytes (inTurn 5 (w + 5 * (tri n - tri c)) (pairsFrom c i) (pairWires isw 0 a b))
-    ≡ joined c i (sharePairs n w a b)
-unfolding joined pairsFrom inTurn pairBytes tri
-pairs-from n w a b zero i e = refl
-pairs-from n w a b (suc c) i e =
-    let F = pairWires isw 0 a b in
-    let v = w + 5 * (tri n - tri (suc c)) in
-    let first = upFrom c (suc i) (λ j. pairOf i j) in
-    let cut = in-turn-append 5 v first (pairsFrom c (suc i)) F in
-    let there : v + 5 * length first ≡ w + 5 * (tri n - tri c) =
-    omega (arith, up-length c (suc i) (λ j. pairOf i j), tri-below (suc c) n (omega arith)) in
-    let rest : n - suc i ≡ c = omega arith in
-    let here : n - i ≡ suc c = omega arith in
-    ap {A = List Wire} {B = List ℕ} operandBytes cut
-    ∙ operands-append (inTurn 5 v first F) (inTurn 5 (v + 5 * length first) (pairsFrom c (suc i)) F)
-    ∙ rw (there, here, rest, pairs-from n w a b c (suc i) (omega arith)) refl
-
-pub all-pairs-joined : (n w : ℕ) (a b : List ℕ) → allPairs n w a b ≡ joined n 0 (sharePairs n w a b)
-all-pairs-joined n w a b =
-    let e : w + 5 * (tri n - tri n) ≡ w = omega arith in
-    rw e at (pairs-from n w a b n 0 (omega arith))
-
-pub pairs-of-long : (n i w : ℕ) (a b : List ℕ) → length (pairsOf n i w a b) ≡ 20 * (n - suc i)
-pairs-of-long n i w a b =
-    ap length (pairs-of-joined n i w a b)
-    ∙ joined-long 20 (n - suc i) 0 (pairPiece i w a b) (pair-long i w a b)
+tri-more zero = omega arith
+tri-more (suc n) = omega (arith, tri-more n)
 
 pub all-pairs-long : (n w : ℕ) (a b : List ℕ) → length (allPairs n w a b) ≡ 20 * tri n
 all-pairs-long n w a b =

@@ -1,12 +1,14 @@
 -- How the code keeps the wires of a plain wire's shares: share 1 on one wire, the others evenly spaced. And what is written for
 -- the new wires of a plain gate: their operands' bytes and their kinds' bytes.
 -- Assumes nothing.
+use mathlib.Core.Path.{_≡_}
 use mathlib.Core.List.{List, [], _∷_, _++_, map}
 use Prim.Native.Nat.{ℕ, zero, suc, _+_, _-_, _*_, _≤_, _<_}
-use lib.ListN.{length, replicate}
+use lib.ListN.{length, drop, replicate}
 use Rattle.tables.specs.Tables.{kindOf, kindBytes, pairBytes, two}
 use Rattle.writing.specs.declared.Places as DP
-use Rattle.masks.specs.Shares.{upFrom, inTurn, pairOf, pairs, pairAt, row}
+use Rattle.writing.specs.declared.Pair as DQ
+use Rattle.masks.specs.Shares.{upFrom, inTurn, pairs, pairAt, row}
 use Rattle.masks.specs.Gadgets.{isw}
 use Rattle.masks.specs.Wires.{Wire, driverOf, share, pairWires, rowWires, pairWire, cost}
 
@@ -25,10 +27,6 @@ operandBytes xs = pairBytes (map driverOf xs)
 -- the kinds of wires, as bytes
 abbrev pub wireKinds : List Wire → List ℕ
 wireKinds xs = kindBytes (map driverOf xs)
-
--- the operands of the pairs (i, j), j rising, from wire w on
-abbrev pub pairsOf : ℕ → ℕ → ℕ → List ℕ → List ℕ → List ℕ
-pairsOf n i w a b = operandBytes (inTurn 5 w (upFrom (n - suc i) (suc i) (λ j. pairOf i j)) (pairWires isw 0 a b))
 
 -- the operands of all pairs, from wire w on
 abbrev pub allPairs : ℕ → ℕ → List ℕ → List ℕ → List ℕ
@@ -67,6 +65,10 @@ pairKinds = 3 ∷ 2 ∷ 1 ∷ 2 ∷ 1 ∷ []
 abbrev pub rowKinds : ℕ → List ℕ
 rowKinds n = 2 ∷ replicate (n - 1) 1
 
+-- from a place on, every byte is the kind of an XOR gate
+abbrev pub XorsFrom : ℕ → List ℕ → Type 0
+XorsFrom at b = drop at b ≡ replicate (length b - at) 1
+
 -- what writing the operands of a plain gate's new wires takes: wires that a field can hold, and room for them
 pub record OperandRoom (kind n w : ℕ) (a b : DP.Places) (at : ℕ) (ops : List ℕ) : Type 0 where
   pub some : 1 ≤ n
@@ -88,3 +90,9 @@ pub record ReadsShares (n i : ℕ) (a b : DP.Places) : Type 0 where
   pub inside : i < n
   pub left : LowShares n a
   pub right : LowShares n b
+
+-- a pair of shares i < j is number c of the pairs of n shares
+pub record PairNo (n c : ℕ) (p : DQ.Pair) : Type 0 where
+  pub rising : p .i < p .j
+  pub inside : p .j < n
+  pub place : c ≡ pairAt n (p .i) (p .j)

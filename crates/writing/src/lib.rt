@@ -5,8 +5,8 @@ ghost use lib.ListN.{length, replicate};
 ghost use Rattle.tables.specs.Tables.{kindOf, two, kindBytes, pairBytes, XOR, AND};
 ghost use Rattle.masks.specs.Shares.{tri, pairAt};
 ghost use Rattle.masks.specs.Wires.{cost, driverOf, share, pairWire, newWires};
-ghost use Rattle.writing.specs.Layout.{listed, LowShares, OperandRoom, PairRoom, ReadsShares, operandBytes, pairsOf, allPairs};
-ghost use Rattle.writing.specs.Layout.{sumBytes, times, highWires, lowWires, rowBytes, allRows, pairKinds, rowKinds};
+ghost use Rattle.writing.specs.Layout.{listed, LowShares, OperandRoom, PairRoom, ReadsShares, PairNo, operandBytes, allPairs};
+ghost use Rattle.writing.specs.Layout.{sumBytes, times, highWires, lowWires, rowBytes, allRows, pairKinds, rowKinds, XorsFrom};
 ghost use Rattle.tables.specs.Says.{putAt};
 ghost use mathlib.Core.List.{[], _++_, map};
 ghost use Rattle.masks.specs.Gadgets.{first, allFive, iswGates, isw};
@@ -59,23 +59,23 @@ fn write_pair(ops: &mut [u8], at: usize, w: usize, ai: usize, bj: usize, aj: usi
     put_gate(ops, at + 16, w + 2, w + 3);
 }
 
-// Writes the operands of the pairs (i, j), j rising, from wire w on.
-fn write_pairs_of(ops: &mut [u8], at: usize, w: usize, n: usize, i: usize, a: Places, b: Places)
-    requires { ⌜ ReadsShares n i a b
-        × (w + 5 * (n - suc i) ≤ 65536)
-        × (at + 20 * (n - suc i) ≤ length (now ops)) ⌝ }
-    ensures { λ _. ⌜ now (ops .exit) ≡ putAt at (pairsOf n i w (listed n a) (listed n b)) (now (ops .entry)) ⌝ }
+// A pair of shares i < j, counted from 0.
+struct Pair {
+    i: usize,
+    j: usize,
+}
+
+// The pair after a pair of n shares.
+fn next_pair(p: Pair, n: usize) -> Pair
+    requires { ⌜ (p .i < 65536) × (p .j < 65536) ⌝ }
+    ensures { λ r. ⌜ ((c : ℕ) → PairNo n c p → suc c < tri n → PairNo n (suc c) r) ⌝ }
 {
-    let ai = share_wire(a, i);
-    let bi = share_wire(b, i);
-    let m = n - 1 - i;
-    let mut c = 0;
-    while c < m {
-        let j = i + 1 + c;
-        let aj = later_wire(a, j);
-        let bj = later_wire(b, j);
-        write_pair(ops, at + 20 * c, w + 5 * c, ai, bj, aj, bi);
-        c += 1;
+    if p.j + 1 < n {
+        return Pair { i: p.i, j: p.j + 1 };
+    }
+    Pair {
+        i: p.i + 1,
+        j: p.i + 2,
     }
 }
 
@@ -85,17 +85,19 @@ fn write_pairs(ops: &mut [u8], at: usize, w: usize, n: usize, a: Places, b: Plac
     ensures { λ r. ⌜ (r ≡ w + 5 * tri n)
         × (now (ops .exit) ≡ putAt at (allPairs n w (listed n a) (listed n b)) (now (ops .entry))) ⌝ }
 {
-    let mut to = at;
-    let mut from = w;
-    let mut i = 0;
-    while i < n {
-        write_pairs_of(ops, to, from, n, i, a, b);
-        let m = n - 1 - i;
-        to += 20 * m;
-        from += 5 * m;
-        i += 1;
+    let m = (n * n - n) / 2;
+    let mut p = Pair { i: 0, j: 1 };
+    let mut c = 0;
+    while c < m {
+        let ai = share_wire(a, p.i);
+        let bi = share_wire(b, p.i);
+        let aj = later_wire(a, p.j);
+        let bj = later_wire(b, p.j);
+        write_pair(ops, at + 20 * c, w + 5 * c, ai, bj, aj, bi);
+        p = next_pair(p, n);
+        c += 1;
     }
-    from
+    w + 5 * m
 }
 
 // Writes the operands of a row's last m sums, the first of which reads wire last: they add one wire each of m pairs, from
@@ -246,7 +248,7 @@ fn write_pair_kinds(kinds: &mut [u8], at: usize, m: usize)
 }
 
 // Writes the kinds of m XOR gates.
-fn write_xor_kinds(kinds: &mut [u8], at: usize, m: usize)
+pub fn write_xor_kinds(kinds: &mut [u8], at: usize, m: usize)
     requires { ⌜ at + m ≤ length (now kinds) ⌝ }
     ensures { λ _. ⌜ now (kinds .exit) ≡ putAt at (replicate m 1) (now (kinds .entry)) ⌝ }
 {
@@ -257,18 +259,17 @@ fn write_xor_kinds(kinds: &mut [u8], at: usize, m: usize)
     }
 }
 
-// Writes the kinds of a row: its own product, then the sums.
+// Writes the kinds of a row: its own product, then the sums, where the kinds of XOR gates stand already.
 fn write_row_kinds(kinds: &mut [u8], at: usize, n: usize)
-    requires { ⌜ (1 ≤ n) × (at + n ≤ length (now kinds)) ⌝ }
+    requires { ⌜ (1 ≤ n) × (at + n ≤ length (now kinds)) × XorsFrom at (now kinds) ⌝ }
     ensures { λ _. ⌜ now (kinds .exit) ≡ putAt at (rowKinds n) (now (kinds .entry)) ⌝ }
 {
     kinds[at] = 2;
-    write_xor_kinds(kinds, at + 1, n - 1);
 }
 
 // Writes the kinds of all rows.
 fn write_rows_kinds(kinds: &mut [u8], at: usize, n: usize)
-    requires { ⌜ at + n * n ≤ length (now kinds) ⌝ }
+    requires { ⌜ (at + n * n ≤ length (now kinds)) × XorsFrom at (now kinds) ⌝ }
     ensures { λ _. ⌜ now (kinds .exit) ≡ putAt at (times n (rowKinds n)) (now (kinds .entry)) ⌝ }
 {
     let mut to = at;
@@ -282,7 +283,7 @@ fn write_rows_kinds(kinds: &mut [u8], at: usize, n: usize)
 
 // Writes the kinds of an AND's wires: the pairs, then the rows.
 fn write_and_kinds(kinds: &mut [u8], at: usize, n: usize)
-    requires { ⌜ at + cost AND n ≤ length (now kinds) ⌝ }
+    requires { ⌜ (at + cost AND n ≤ length (now kinds)) × XorsFrom at (now kinds) ⌝ }
     ensures { λ _. ⌜ now (kinds .exit)
         ≡ putAt at (times (tri n) pairKinds ++ times n (rowKinds n)) (now (kinds .entry)) ⌝ }
 {
@@ -291,19 +292,17 @@ fn write_and_kinds(kinds: &mut [u8], at: usize, n: usize)
     write_rows_kinds(kinds, at + 5 * m, n);
 }
 
-// Writes the kinds of a plain gate's new wires.
+// Writes the kinds of a plain gate's new wires, where the kinds of XOR gates stand already.
 pub fn write_kinds_of(kind: u8, n: usize, kinds: &mut [u8], at: usize)
-    requires { ⌜ at + cost (kindOf kind) n ≤ length (now kinds) ⌝ }
+    requires { ⌜ (kind < 3) × (1 ≤ n) × (at + cost (kindOf kind) n ≤ length (now kinds)) × XorsFrom at (now kinds) ⌝ }
     ensures { λ _. ⌜ now (kinds .exit)
         ≡ putAt at (kindBytes (map driverOf (newWires isw (kindOf kind) n 0 0 [] []))) (now (kinds .entry)) ⌝ }
 {
     if kind == 2 {
         write_and_kinds(kinds, at, n);
-    } else if kind == 1 {
-        write_xor_kinds(kinds, at, n);
-    } else if kind == 0 {
-        kinds[at] = 0;
+        return;
     }
+    kinds[at] = kind;
 }
 
 // Which of the five wires of a pair (i, j) the rows add: row i the first, row j the fifth.

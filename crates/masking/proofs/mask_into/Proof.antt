@@ -1,4 +1,4 @@
--- `masking::mask_into` meets its contract, for a small table and for a large one.
+-- `masking::mask_into` meets its contract, for a table of middle size and for a large one.
 -- Assumes nothing.
 use native.Mathlib.Omega.{arith}
 use borrow.Author.Needs.{needs}
@@ -9,14 +9,14 @@ use Rattle.masking.proofs.mask_into.Tie as tie
 add-if1 : tie.Need-add-if1
 add-if1 c = omega (arith, plan-plain (c .before .before .before .pre .0))
 
-mask-small-requires : tie.Need-mask-small-requires
-mask-small-requires c κs = let pre = c .before .before .before .before .before .pre in (pre .0, c .before .if1 .taken, pre .1)
+mask-middle-requires : tie.Need-mask-middle-requires
+mask-middle-requires c κs = let pre = c .before .before .before .before .before .pre in (pre .0, c .before .if1 .taken, pre .1)
 
 same-length : tie.Need-same-length
 same-length c = search needs
 
 returns : tie.Need-returns
-returns c = c .before .before .mask-small .ensures
+returns c = c .before .before .mask-middle .ensures
 
 mask-large-requires : tie.Need-mask-large-requires
 mask-large-requires c κs = let pre = c .before .before .before .before .before .pre in (pre .0, pre .1)
@@ -32,7 +32,7 @@ mask-into-spec =
     tie.close
     (tie.spec
     add-if1
-    mask-small-requires
+    mask-middle-requires
     same-length
     returns
     mask-large-requires

@@ -16,13 +16,17 @@ plan-table-requires c κs = search needs
 enum-known-planned : tie.Need-enum-known-planned
 enum-known-planned c = search needs
 
+refused-requires : tie.Need-refused-requires
+refused-requires c κs = tt
+
 returns : tie.Need-returns
 returns c =
-    mask-refused
-    (subst (λ (r : Planned). PlanSays (c .before .before .before .before .before .before .args .table .now)
-    (c .before .before .before .before .before .before .args .order) r)
-    (c .before .planned .given .1)
-    (c .before .before .before .plan-table .ensures))
+    let s = c .before .before .before .before .before .before .before in
+    rw (c .refused .ensures)
+    (mask-refused
+    (subst (λ (r : Planned). PlanSays (s .args .table .now) (s .args .order) r)
+    (c .before .before .planned .given .1)
+    (c .before .before .before .before .plan-table .ensures)))
 
 enum-known-planned-2 : tie.Need-enum-known-planned-2
 enum-known-planned-2 c = search needs
@@ -44,8 +48,8 @@ returns-2 c =
     (c .before .before .before .before .before .plan-table .ensures))
     (omega (arith, c .if1 .taken, c .before .plan-bytes .ensures))
 
-mask-into-requires : tie.Need-mask-into-requires
-mask-into-requires c κs = (
+mask-lean-requires : tie.Need-mask-lean-requires
+mask-lean-requires c κs = (
   plan-own
       (subst (λ (r : Planned). PlanSays (c .before .before .before .before .before .before .before .before .before .args .table .now)
       (c .before .before .before .before .before .before .before .before .before .args .order) r)
@@ -77,7 +81,7 @@ returns-3 c =
     (c .before .before .before .before .before .before .before .before .before .plan-table .ensures))
     (c .before .before .before .before .before .plan-bytes .ensures)
     (omega (arith, c .before .before .before .before .if1 .left, c .before .before .before .before .before .plan-bytes .ensures))
-    (c .before .before .mask-into .ensures)
+    (c .before .before .mask-lean .ensures)
 
 pub mask-table-spec : {M : Type 1} → statement M
 mask-table-spec =
@@ -85,11 +89,12 @@ mask-table-spec =
     (tie.spec
     plan-table-requires
     enum-known-planned
+    refused-requires
     returns
     enum-known-planned-2
     plan-bytes-requires
     returns-2
-    mask-into-requires
+    mask-lean-requires
     cast-t13
     same-length
     returns-3)

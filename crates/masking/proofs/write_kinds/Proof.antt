@@ -1,22 +1,31 @@
--- `masking::write_kinds` meets its contract: the kinds from gate g on are left to write.
+-- `masking::write_kinds` meets its contract: the kinds from gate g on are left to write, over those of XOR gates.
 -- Assumes nothing.
 use mathlib.Core.Path.{_∙_}
 use Prim.Native.Nat.{_-_}
 use native.Mathlib.Omega.{arith}
-use Rattle.tables.proofs.Put.{put-zero}
-use Rattle.masking.proofs.Shareable.{shareable-sized}
-use Rattle.masking.proofs.Stretches.{Kinds, kindsWhole, kinds-start, kinds-room, kinds-turn, kinds-end}
+use borrow.Author.Needs.{needs}
+use Rattle.masking.proofs.Shareable.{GateFine, gate-fine, shareable-sized}
+use Rattle.masking.proofs.Stretches.{Kinds, kindsWhole, kinds-start, kinds-over, kinds-room, kinds-turn, kinds-end}
 use Rattle.masking.proofs.write_kinds.Statement.{statement}
 use Rattle.masking.proofs.write_kinds.Tie as tie
 
 abbrev Inv-loop : tie.InvT-loop
-Inv-loop table from to n kinds₀ at₀ g₀ kinds at g = Kinds table n (kindsWhole table n from to kinds₀) kinds₀ to g at kinds
+Inv-loop table from to n kinds₀ room at₀ g₀ kinds at g =
+    Kinds table n (kindsWhole table n from to kinds₀) kinds₀ to g at kinds
 
 abbrev μ-loop : tie.MeasureT-loop
-μ-loop table from to n kinds₀ at₀ g₀ kinds at g = to - g
+μ-loop table from to n kinds₀ room at₀ g₀ kinds at g = to - g
+
+write-xor-kinds-requires : tie.Need-write-xor-kinds-requires Inv-loop μ-loop
+write-xor-kinds-requires c κs = search needs
 
 loop-holds : tie.Need-loop-holds Inv-loop μ-loop
-loop-holds c = let p = c .before .before .pre in kinds-start (p .0) (p .1) (p .2) (p .3)
+loop-holds c =
+    let s = c .before .before .before .before .before .before in
+    let a = s .args in
+    let p = s .pre in
+    kinds-start (a .table .now) (a .n) (a .from) (a .to) (a .kinds .now) (p .3) (c .before .before .write-xor-kinds .ensures) (p .0)
+    (p .1) (p .2)
 
 add-kind : tie.Need-add-kind Inv-loop μ-loop
 add-kind c =
@@ -29,36 +38,56 @@ shared-slice-read-kind c =
     omega (arith, c .before .loop-test .taken, c .before .before .loop .inv .ends)
 
 write-kinds-of-requires : tie.Need-write-kinds-of-requires Inv-loop μ-loop
-write-kinds-of-requires c κs = kinds-room (c .before .before .before .loop .inv) (c .before .before .loop-test .taken)
+write-kinds-of-requires c κs =
+    let head = c .before .before .before in
+    let more = c .before .before .loop-test .taken in
+    let P = head .loop .inv in
+    let fine = gate-fine (P .shareable) (head .loop .g) (omega (arith, more, P .ends)) in
+    (fine .kind, omega (arith, shareable-sized (P .shareable) .some-shares), kinds-room P more, P .xors)
 
 gate-cost-requires : tie.Need-gate-cost-requires Inv-loop μ-loop
 gate-cost-requires c κs = shareable-sized (c .before .before .before .before .before .before .loop .inv .shareable) .few-shares
 
 add-at : tie.Need-add-at Inv-loop μ-loop
 add-at c =
-    let room = kinds-room (c .before .before .before .before .before .before .before .loop .inv)
-    (c .before .before .before .before .before .before .loop-test .taken) in
-    omega (arith, c .gate-cost .ensures, c .before .before .before .before .before .before .before .loop .inv .left .long, c .before .before .before .before .before .before .before .before .before .before .good)
+    let test = c .before .before .before .before .before .before in
+    let head = test .before in
+    let start = head .before .before .before .before .before .before .before in
+    omega (
+      arith,
+      kinds-room (head .loop .inv) (test .loop-test .taken),
+      c .gate-cost .ensures,
+      head .loop .inv .left .long,
+      start .good,
+    )
 
 add-g : tie.Need-add-g Inv-loop μ-loop
 add-g c =
-    let z = shareable-sized (c .before .before .before .before .before .before .before .loop .inv .shareable) in
-    omega (arith, c .before .before .before .before .before .before .loop-test .taken, c .before .before .before .before .before .before .before .loop .inv .ends)
+    let test = c .before .before .before .before .before .before in
+    let P = test .before .loop .inv in
+    let z = shareable-sized (P .shareable) in
+    omega (arith, test .loop-test .taken, P .ends)
 
 loop-less : tie.Need-loop-less Inv-loop μ-loop
 loop-less c = omega (arith, c .before .before .before .before .before .before .loop-test .taken)
 
 loop-again : tie.Need-loop-again Inv-loop μ-loop
 loop-again c =
-    kinds-turn (c .before .before .before .before .before .before .before .loop .inv)
-    (c .before .before .before .before .before .before .loop-test .taken) (c .before .before .before .write-kinds-of .ensures)
+    let test = c .before .before .before .before .before .before in
+    kinds-turn (test .before .loop .inv) (test .loop-test .taken)
+    (c .before .before .before .write-kinds-of .ensures)
     (c .gate-cost .ensures)
 
 same-length : tie.Need-same-length Inv-loop μ-loop
-same-length c = c .before .loop .inv .left .long
+same-length c = search needs
 
 returns : tie.Need-returns Inv-loop μ-loop
-returns c = kinds-end (c .before .loop .inv) (c .loop-test .left) ∙ put-zero _ _
+returns c =
+    let call = c .before .before .before .before in
+    let s = call .before .before .before .before in
+    let a = s .args in
+    kinds-end (c .before .loop .inv) (c .loop-test .left)
+    ∙ kinds-over (a .table .now) (a .n) (a .from) (a .to) (a .kinds .now) (s .pre .3) (call .write-xor-kinds .ensures)
 
 pub write-kinds-spec : {M : Type 1} → statement M
 write-kinds-spec =
@@ -66,6 +95,7 @@ write-kinds-spec =
     (tie.spec
     Inv-loop
     μ-loop
+    write-xor-kinds-requires
     loop-holds
     add-kind
     shared-slice-read-kind

@@ -9,8 +9,12 @@ use Rattle.sizing.proofs.plan_table.Tie as tie
 table-fault-requires : tie.Need-table-fault-requires
 table-fault-requires c κs = search needs
 
+refuse-requires : tie.Need-refuse-requires
+refuse-requires c κs = tt
+
 returns : tie.Need-returns
-returns c = table-refused _ _ _ (c .before .before .table-fault .ensures) (c .if1 .taken)
+returns c =
+    rw (c .refuse .ensures) (table-refused _ _ _ (c .before .before .before .table-fault .ensures) (c .before .if1 .taken))
 
 field-requires : tie.Need-field-requires
 field-requires c κs = omega (arith, bytes-long _ (passes (c .before .before .table-fault .ensures) (c .if1 .left)))
@@ -25,14 +29,17 @@ order-fault-requires c κs = search needs
 first-of-requires : tie.Need-first-of-requires
 first-of-requires c κs = search needs
 
+refuse-requires-2 : tie.Need-refuse-requires-2
+refuse-requires-2 c κs = tt
+
 returns-2 : tie.Need-returns-2
 returns-2 c =
-    let f = c .before .before in
+    let f = c .before .before .before in
     let t = f .before .before .before .before .before .before in
     let p = t .before .before in
     let ok = passes (t .table-fault .ensures) (f .before .before .before .before .if1 .left) in
     let both = f .first-of .ensures _ _ (f .before .order-fault .ensures) (f .before .before .random-fault .ensures) in
-    chain-refused _ _ _ ok both (c .if2 .taken)
+    rw (c .refuse2 .ensures) (chain-refused _ _ _ ok both (c .before .if2 .taken))
 
 plan-sizes-requires : tie.Need-plan-sizes-requires
 plan-sizes-requires c κs =
@@ -51,11 +58,13 @@ plan-table-spec =
     tie.close
     (tie.spec
     table-fault-requires
+    refuse-requires
     returns
     field-requires
     random-fault-requires
     order-fault-requires
     first-of-requires
+    refuse-requires-2
     returns-2
     plan-sizes-requires
     returns-3)

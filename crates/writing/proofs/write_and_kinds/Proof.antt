@@ -10,6 +10,7 @@ use Rattle.masks.specs.Shares.{tri}
 use Rattle.writing.specs.Layout.{times, pairKinds, rowKinds}
 use Rattle.masks.proofs.Rows.{tri-closed}
 use Rattle.writing.proofs.Bytes.{times-long, put-then}
+use Rattle.writing.proofs.GateKinds.{xors-after}
 use Rattle.writing.proofs.write_and_kinds.Statement.{statement}
 use Rattle.writing.proofs.write_and_kinds.Tie as tie
 
@@ -29,7 +30,17 @@ add-write-rows-kinds : tie.Need-add-write-rows-kinds
 add-write-rows-kinds c = omega (arith, tri-closed (c .before .before .before .before .before .before .args .n))
 
 write-rows-kinds-requires : tie.Need-write-rows-kinds-requires
-write-rows-kinds-requires c κs = omega (arith, tri-closed (c .before .before .before .before .before .before .args .n))
+write-rows-kinds-requires c κs =
+    let pairs = c .before .before .before in
+    let s = pairs .before .before .before in
+    let n = s .args .n in
+    let m = (n * n - n) / 2 in
+    let long : length (times m pairKinds) ≡ m * 5 = times-long m pairKinds in (
+      omega (arith, tri-closed n, s .pre .0),
+      xors-after (s .args .at) (times m pairKinds) (s .args .kinds .now) (s .pre .1) (omega (arith, tri-closed n, long, s .pre .0))
+          (pairs .write-pair-kinds .ensures)
+          (omega (arith, long)),
+    )
 
 same-length : tie.Need-same-length
 same-length c = search needs
@@ -44,7 +55,7 @@ returns c =
     let long : length (times ((n * n - n) / 2) pairKinds) ≡ (n * n - n) / 2 * 5 = times-long ((n * n - n) / 2) pairKinds in
     rw count
     (put-then (s .args .at) (times ((n * n - n) / 2) pairKinds) (times n (rowKinds n)) (s .args .kinds .now)
-    (omega (arith, s .pre))
+    (omega (arith, s .pre .0))
     (pairs .write-pair-kinds .ensures)
     (omega arith)
     (rows .write-rows-kinds .ensures))
