@@ -22,10 +22,10 @@ use Rattle.maps.specs.Maps.{freeShare}
 use Rattle.maps.specs.Says.{mapFault, MapSays}
 use Rattle.maps.specs.Claims.{Free}
 use Rattle.maps.proofs.Free.{marks-two, free-laws}
-use Rattle.mapping.specs.Seeing.{Probes}
-use Rattle.mapping.specs.Faults.{MapRefused, MapReady}
+use Rattle.probing.specs.Seeing.{Probes}
+use Rattle.probing.specs.Faults.{MapRefused, MapReady}
 use Rattle.mapping.specs.Working.{WorkReady, WorkSays}
-use Rattle.mapping.proofs.Faults.{MapGood, map-good, clean-map}
+use Rattle.probing.proofs.Faults.{MapGood, map-good, clean-map}
 
 module _ (s : List ℕ) (o : ℕ) (xs ys ts ps a b c : List ℕ) where
   pub map-refused :

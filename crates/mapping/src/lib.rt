@@ -1,23 +1,17 @@
 // Mapping a tape from one secret to another: the free share of the probes, the mapped tape and both runs.
 ghost use mathlib.Core.Path.{_≡_};
-ghost use Prim.Native.Nat.{ℕ, _+_, _-_, _*_, _≤_, _<_};
+ghost use Prim.Native.Nat.{_+_, _-_, _*_, _≤_, _<_};
 ghost use lib.ListN.{length, take, drop};
-ghost use mathlib.Core.List.{List};
-ghost use Rattle.tables.specs.Tables.{tableOf};
 ghost use lib.Dec.{eqb};
-ghost use Rattle.tables.specs.Refusals.{pick, fault, badBit};
+ghost use Rattle.tables.specs.Refusals.{pick};
 ghost use Rattle.tables.specs.Runs.{xor};
-ghost use Rattle.tables.specs.Says.{over, putAt, Refused};
+ghost use Rattle.tables.specs.Says.{over, putAt};
 ghost use Rattle.tables.proofs.Lists.{Bits};
 ghost use Rattle.masks.specs.Shares.{upFrom, tri};
-ghost use Rattle.masks.specs.Gadgets.{isw};
-ghost use Rattle.masks.specs.Wires.{marks, origins};
-ghost use Rattle.sizing.specs.Plans.{PlanReady, PlanFits, planBytes};
+ghost use Rattle.sizing.specs.Plans.{PlanFits, planBytes};
 ghost use Rattle.marking.specs.Origins.{orderOf};
-ghost use Rattle.maps.specs.Maps.{flipped, inputFlips, carried, freeFrom, freeShare};
-ghost use Rattle.mapping.specs.Faults.{supplyFault, probesFault, roomFault, callFault, MapPlanSays};
+ghost use Rattle.maps.specs.Maps.{flipped, inputFlips};
 ghost use Rattle.mapping.specs.Working.{BeginReady, BegunSays, WorkReady, WorkSays};
-ghost use Rattle.mapping.specs.Seeing.{Seen, Probes, MarkReady};
 ghost use Rattle.mapping.specs.Flipping.{FlipReady};
 ghost use Rattle.maps.specs.Says.{MapSays};
 ghost use Rattle.maps.specs.Walk.{offset};
@@ -70,188 +64,6 @@ fn flip_inputs(order: usize, k: usize, first: &[u8], second: &[u8], tape: &[u8],
         flip_one(bits, k, (x + y) % 2, tape, at, mapped);
         at += bits;
         i += 1;
-    }
-}
-
-// The smallest number from 1 to n that is not seen, else n + 1.
-fn free_of(seen: &[u8; 256], n: usize) -> usize
-    requires { ⌜ n ≤ 31 ⌝ }
-    ensures { λ r. ⌜ ((cs : List ℕ) → Seen cs (now (seen .entry)) → r ≡ freeFrom n 1 cs) ⌝ }
-{
-    let mut k = 1;
-    while k <= n {
-        if seen[k] == 0 {
-            return k;
-        }
-        k += 1;
-    }
-    k
-}
-
-// Marks the share numbers that the probes carry.
-fn mark_probes(table: &[u8], p: sizing::Plan, probes: &[u32], seen: &mut [u8; 256])
-    requires { ⌜ PlanReady (now table) (orderOf p) p × MarkReady (now probes) (p .wires) (now seen) ⌝ }
-    ensures { λ _. ⌜ Seen
-        (carried (marks isw) (origins isw (orderOf p) (tableOf (now (table .entry)))) (now (probes .entry)))
-        (now (seen .exit)) ⌝ }
-{
-    let mut j = 0;
-    while j < probes.len() {
-        let c = marking::marks_at(table, p, probes[j] as usize);
-        let first = c.first as usize;
-        let second = c.second as usize;
-        seen[first] = 1;
-        seen[second] = 1;
-        j += 1;
-    }
-}
-
-// The smallest share number that no probe carries.
-fn free_share(table: &[u8], p: sizing::Plan, probes: &[u32]) -> usize
-    requires { ⌜ PlanReady (now table) (orderOf p) p × Probes (now probes) (p .wires) ⌝ }
-    ensures { λ r. ⌜ r ≡ freeShare isw (orderOf p) (tableOf (now (table .entry))) (now (probes .entry)) ⌝ }
-{
-    let mut seen = [0u8; 256];
-    mark_probes(table, p, probes, &mut seen);
-    free_of(&seen, p.shares)
-}
-
-// A refusal, or none where the number is 0.
-fn refused(number: u8, place: usize) -> tables::Refusal
-    requires { ⌜ place < 4294967296 ⌝ }
-    ensures { λ r. ⌜ Refused (fault number place) r ⌝ }
-{
-    tables::Refusal {
-        number,
-        place: place as u32,
-    }
-}
-
-// The first byte above 1, where the bits begin at a place of the call's bits joined.
-fn bits_fault(bits: &[u8], start: usize) -> tables::Refusal
-    requires { ⌜ start + length (now bits) < 4294967296 ⌝ }
-    ensures { λ r. ⌜ Refused (badBit start (now (bits .entry))) r ⌝ }
-{
-    let at = tables::first_bad(bits);
-    if at < bits.len() {
-        return refused(11, start + at);
-    }
-    refused(0, 0)
-}
-
-// What is supplied to a plan: wrong counts, then a byte above 1 of both secrets and the tape joined.
-fn supply_fault(p: sizing::Plan, first: &[u8], second: &[u8], tape: &[u8]) -> tables::Refusal
-    requires { ⌜ (p .inputs ≤ 65535) × (p .tape ≤ 65535) ⌝ }
-    ensures { λ r. ⌜ Refused (supplyFault p (now (first .entry)) (now (second .entry)) (now (tape .entry))) r ⌝ }
-{
-    if first.len() != p.inputs {
-        return refused(10, 0);
-    }
-    if second.len() != p.inputs {
-        return refused(10, 0);
-    }
-    if tape.len() != p.tape {
-        return refused(10, 0);
-    }
-    let found = bits_fault(first, 0);
-    if found.number != 0 {
-        return found;
-    }
-    let found = bits_fault(second, first.len());
-    if found.number != 0 {
-        return found;
-    }
-    bits_fault(tape, first.len() + second.len())
-}
-
-// The probes: more than the order, then one that is no wire of the masked table.
-fn probes_fault(order: u8, wires: usize, probes: &[u32]) -> tables::Refusal
-    ensures { λ r. ⌜ Refused (probesFault order wires (now (probes .entry))) r ⌝ }
-{
-    if probes.len() > order as usize {
-        return refused(12, 0);
-    }
-    let mut j = 0;
-    while j < probes.len() {
-        if probes[j] as usize >= wires {
-            return refused(13, j);
-        }
-        j += 1;
-    }
-    refused(0, 0)
-}
-
-// A buffer that is shorter than what is written into it.
-fn room_fault(p: sizing::Plan, mapped: usize, one: usize, other: usize) -> tables::Refusal
-    ensures { λ r. ⌜ Refused (roomFault p mapped one other) r ⌝ }
-{
-    if mapped < p.tape {
-        return refused(9, 0);
-    }
-    if one < p.wires {
-        return refused(9, 0);
-    }
-    if other < p.wires {
-        return refused(9, 0);
-    }
-    refused(0, 0)
-}
-
-// The refusals that follow those of the plan: 10 to 13, then 9.
-fn call_fault(
-    p: sizing::Plan,
-    order: u8,
-    first: &[u8],
-    second: &[u8],
-    tape: &[u8],
-    probes: &[u32],
-    mapped: usize,
-    one: usize,
-    other: usize,
-) -> tables::Refusal
-    requires { ⌜ (p .inputs ≤ 65535) × (p .tape ≤ 65535) ⌝ }
-    ensures { λ r. ⌜ Refused
-        (callFault order p (now (first .entry)) (now (second .entry)) (now (tape .entry)) (now (probes .entry)) mapped one other)
-        r ⌝ }
-{
-    let supplied = supply_fault(p, first, second, tape);
-    let probed = probes_fault(order, p.wires, probes);
-    let room = room_fault(p, mapped, one, other);
-    sizing::first_of(supplied, sizing::first_of(probed, room))
-}
-
-// Whether mapping is refused: the first refusal, or the sizes.
-fn map_fault(
-    table: &[u8],
-    order: u8,
-    first: &[u8],
-    second: &[u8],
-    tape: &[u8],
-    probes: &[u32],
-    mapped: usize,
-    one: usize,
-    other: usize,
-) -> sizing::Planned
-    ensures { λ r. ⌜ MapPlanSays (now (table .entry)) order
-        (now (first .entry))
-        (now (second .entry))
-        (now (tape .entry))
-        (now (probes .entry))
-        mapped
-        one
-        other
-        r ⌝ }
-{
-    let planned = sizing::plan_table(table, order);
-    match planned {
-        sizing::Planned::Refused(r) => sizing::Planned::Refused(r),
-        sizing::Planned::Ready(p) => {
-            let found = call_fault(p, order, first, second, tape, probes, mapped, one, other);
-            if found.number != 0 {
-                return sizing::Planned::Refused(found);
-            }
-            sizing::Planned::Ready(p)
-        }
     }
 }
 
@@ -515,7 +327,7 @@ pub fn map_tape(
         (now (other .exit))
         r ⌝ }
 {
-    let planned = map_fault(
+    let planned = probing::map_fault(
         table,
         order,
         first,
@@ -535,7 +347,7 @@ pub fn map_tape(
             };
         }
         sizing::Planned::Ready(p) => {
-            let k = free_share(table, p, probes);
+            let k = probing::free_share(table, p, probes);
             map_work(table, p, k, first, second, tape, mapped, one, other);
             return tables::Answer {
                 number: 0,

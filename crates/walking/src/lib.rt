@@ -4,6 +4,7 @@ ghost use Prim.Native.Nat.{_+_, _*_, _≤_, _<_};
 ghost use lib.ListN.{getD};
 ghost use Rattle.tables.specs.Tables.{kindOf};
 ghost use Rattle.tables.specs.Runs.{xor};
+ghost use Rattle.running.specs.Running.{GateReady, GateSays};
 ghost use Rattle.maps.specs.Walk.{inRow, gateDiffers, afterGate};
 ghost use Rattle.walking.specs.Walking.{gateOf, ProductReady, crossFlip, CrossReady, BitReady, bitPut, WalkReady, WalkSays};
 
@@ -88,6 +89,36 @@ fn next_pair(kind: u8, pair: usize, pairs: usize) -> usize
     pair + 1
 }
 
+// What a gate drives, as `running::gate_value` says, by branches: the kinds of a masked table follow a pattern, which a processor
+// foresees.
+fn gate_value(kind: u8, a: u8, b: u8, random: &[u8], at: usize) -> running::Drawn
+    requires { ⌜ GateReady kind a b (now random) at ⌝ }
+    ensures { λ r. ⌜ GateSays kind a b (now (random .entry)) at r ⌝ }
+{
+    if kind == 2 {
+        return running::Drawn {
+            value: a * b,
+            next: at,
+        };
+    }
+    if kind == 1 {
+        return running::Drawn {
+            value: (a + b) % 2,
+            next: at,
+        };
+    }
+    if kind == 3 {
+        return running::Drawn {
+            value: tables::tape_bit(random, at),
+            next: at + 1,
+        };
+    }
+    running::Drawn {
+        value: 1 - a,
+        next: at,
+    }
+}
+
 // One pass over a masked table's gates with both runs: the second run's random bits, and both runs' values.
 pub fn walk(
     masked: &[u8],
@@ -130,8 +161,8 @@ pub fn walk(
             other,
             mapped,
         );
-        let a = running::gate_value(kind, one[left], one[right], random, next);
-        let b = running::gate_value(kind, other[left], other[right], mapped, next);
+        let a = gate_value(kind, one[left], one[right], random, next);
+        let b = gate_value(kind, other[left], other[right], mapped, next);
         one[inputs + g] = a.value;
         other[inputs + g] = b.value;
         pair = next_pair(kind, pair, pairs);

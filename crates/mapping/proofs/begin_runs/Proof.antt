@@ -18,15 +18,26 @@ flip-inputs-requires : tie.Need-flip-inputs-requires
 flip-inputs-requires c κs = c .before .before .before .before .before .before .before .before .before .before .before .pre .flip
 
 slice-reshare-prefix-encode-all : tie.Need-slice-reshare-prefix-encode-all
-slice-reshare-prefix-encode-all c = omega (arith, c .before .mapped .given, c .before .before .before .before .before .before .before .before .before .before .before .before .before .before .pre .flip .room)
+slice-reshare-prefix-encode-all c =
+    omega (
+      arith,
+      c .before .mapped .given,
+      c .before .before .before .before .before .before .before .before .before .before
+          .before .before .before .before .pre .flip .room,
+    )
 
 slice-aggregate-encode-all : tie.Need-slice-aggregate-encode-all
-slice-aggregate-encode-all c = let b = c .before .before .before .before .before .before .before .before .before .before .before .before .before .before .before in taken-long (b .pre) (b .args .k) (c .before .before .before .flip-inputs .ensures)
+slice-aggregate-encode-all c =
+    let b =
+    c .before .before .before .before .before .before .before .before .before .before .before .before .before .before .before in
+    taken-long (b .pre) (b .args .k) (c .before .before .before .flip-inputs .ensures)
 
 encode-all-requires-2 : tie.Need-encode-all-requires-2
 encode-all-requires-2 c κs =
-    let b = c .before .before .before .before .before .before .before .before .before .before .before .before .before .before .before .before in
-    encode-second (b .pre) (b .args .k) (flips-taken (b .pre) (b .args .k) (c .before .before .before .before .flip-inputs .ensures))
+    let b = c .before .before .before .before .before .before .before .before .before .before .before .before .before .before
+    .before .before in
+    encode-second (b .pre) (b .args .k) (flips-taken (b .pre) (b .args .k)
+    (c .before .before .before .before .flip-inputs .ensures))
 
 same-length : tie.Need-same-length
 same-length c = c .before .before .before .before .before .before .mapped .given
@@ -39,9 +50,12 @@ same-length-3 c = c .before .other .given
 
 returns : tie.Need-returns
 returns c =
-    let b = c .before .before .before .before .before .before .before .before .before .before .before .before .before .before .before .before .before .before .before in
+    let b = c .before .before .before .before .before .before .before .before .before .before .before .before .before .before
+    .before .before .before .before .before in
     let mapped = c .before .before .before .before .before .before .before .flip-inputs .ensures in
-    begun-says (b .pre) (b .args .k) mapped (c .before .before .before .before .before .before .before .before .before .before .before .encode-all .ensures) (flips-taken (b .pre) (b .args .k) mapped)
+    begun-says (b .pre) (b .args .k) mapped
+    (c .before .before .before .before .before .before .before .before .before .before .before .encode-all .ensures) (flips-taken
+    (b .pre) (b .args .k) mapped)
     (c .before .before .encode-all2 .ensures)
 
 pub begin-runs-spec : {M : Type 1} → statement M

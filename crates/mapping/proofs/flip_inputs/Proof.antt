@@ -30,7 +30,8 @@ tape-bit-requires : tie.Need-tape-bit-requires Inv-loop μ-loop
 tape-bit-requires c κs = omega arith
 
 tape-bit-requires-2 : tie.Need-tape-bit-requires-2 Inv-loop μ-loop
-tape-bit-requires-2 c κs = omega (arith, c .before .loop-test .taken, c .before .before .before .before .before .before .before .pre .second)
+tape-bit-requires-2 c κs =
+    omega (arith, c .before .loop-test .taken, c .before .before .before .before .before .before .before .pre .second)
 
 add-flip-one : tie.Need-add-flip-one Inv-loop μ-loop
 add-flip-one c =
@@ -44,7 +45,12 @@ flip-one-requires c κs =
     (fits .0, fits .1, omega arith, c .before .before .before .before .before .before .before .before .before .pre .tape-bits)
 
 add-at : tie.Need-add-at Inv-loop μ-loop
-add-at c = omega (arith, flipping-fits (c .before .before .before .before .before .before .before .loop .inv) (c .before .before .before .before .before .before .loop-test .taken))
+add-at c =
+    omega (
+      arith,
+      flipping-fits (c .before .before .before .before .before .before .before .loop .inv)
+          (c .before .before .before .before .before .before .loop-test .taken),
+    )
 
 add-i : tie.Need-add-i Inv-loop μ-loop
 add-i c = omega arith
@@ -54,7 +60,9 @@ loop-less c = omega arith
 
 loop-again : tie.Need-loop-again Inv-loop μ-loop
 loop-again c =
-    flipping-turn (c .before .before .before .before .before .before .before .loop .inv) (c .before .before .before .before .before .before .loop-test .taken) (c .before .before .before .before .before .tape-bit .ensures) (c .before .before .before .before .tape-bit2 .ensures)
+    flipping-turn (c .before .before .before .before .before .before .before .loop .inv)
+    (c .before .before .before .before .before .before .loop-test .taken)
+    (c .before .before .before .before .before .tape-bit .ensures) (c .before .before .before .before .tape-bit2 .ensures)
     (c .before .before .flip-one .ensures)
 
 same-length : tie.Need-same-length Inv-loop μ-loop

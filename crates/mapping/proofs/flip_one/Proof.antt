@@ -45,7 +45,8 @@ loop-less c = omega arith
 loop-again : tie.Need-loop-again Inv-loop μ-loop
 loop-again c =
     let p = c .before .before .before .before .before .before .pre in
-    flipping-one-turn (c .before .before .before .loop .inv) (p .0) (c .before .before .loop-test .taken) (p .1) (c .before .tape-bit .ensures) (c .flip-bit .ensures)
+    flipping-one-turn (c .before .before .before .loop .inv) (p .0) (c .before .before .loop-test .taken) (p .1)
+    (c .before .tape-bit .ensures) (c .flip-bit .ensures)
 
 same-length : tie.Need-same-length Inv-loop μ-loop
 same-length c = omega arith

@@ -5,7 +5,7 @@ use native.Mathlib.Omega.{arith}
 use lib.ListN.{length}
 use borrow.Author.Needs.{needs}
 use Rattle.sizing.specs.declared.Planned.{Planned}
-use Rattle.mapping.specs.Faults.{MapPlanSays}
+use Rattle.probing.specs.Faults.{MapPlanSays}
 use Rattle.mapping.proofs.Mapping.{map-refused, free-ready, free-small, work-ready, map-done}
 use Rattle.mapping.proofs.map_tape.Statement.{statement}
 use Rattle.mapping.proofs.map_tape.Tie as tie
@@ -73,7 +73,8 @@ free-share-requires c κs =
 
 map-work-requires : tie.Need-map-work-requires
 map-work-requires c κs =
-    let x = c .before .before .before .before .before .before .before .before .before .before .before .before .before .before .before .before .args in
+    let x = c .before .before .before .before .before .before .before .before .before .before .before .before .before .before
+    .before .before .args in
     let found =
     subst
     (λ (r : Planned).
@@ -94,7 +95,8 @@ map-work-requires c κs =
 
 cast-t24 : tie.Need-cast-t24
 cast-t24 c =
-    let x = c .before .before .before .before .before .before .before .before .before .before .before .before .before .before .before .before .before .before .before .before .before .before .before .args in
+    let x = c .before .before .before .before .before .before .before .before .before .before .before .before .before .before
+    .before .before .before .before .before .before .before .before .before .args in
     let found =
     subst
     (λ (r : Planned).
@@ -110,8 +112,13 @@ cast-t24 c =
     (length (x .other .now))
     r)
     (c .before .before .before .before .before .before .before .before .before .before .before .before .planned2 .given .1)
-    (c .before .before .before .before .before .before .before .before .before .before .before .before .before .before .map-fault .ensures) in
-    omega (arith, free-small (x .mapped .now) (x .one .now) (x .other .now) found _ (c .before .before .before .before .before .before .before .before .before .before .free-share .ensures))
+    (c .before .before .before .before .before .before .before .before .before .before .before .before .before .before .map-fault
+    .ensures) in
+    omega (
+      arith,
+      free-small (x .mapped .now) (x .one .now) (x .other .now) found _
+          (c .before .before .before .before .before .before .before .before .before .before .free-share .ensures),
+    )
 
 same-length : tie.Need-same-length
 same-length c = search needs
@@ -124,7 +131,8 @@ same-length-3 c = search needs
 
 returns-2 : tie.Need-returns-2
 returns-2 c =
-    let x = c .before .before .before .before .before .before .before .before .before .before .before .before .before .before .before .before .before .before .before .before .before .before .before .args in
+    let x = c .before .before .before .before .before .before .before .before .before .before .before .before .before .before
+    .before .before .before .before .before .before .before .before .before .args in
     let found =
     subst
     (λ (r : Planned).
@@ -140,8 +148,11 @@ returns-2 c =
     (length (x .other .now))
     r)
     (c .before .before .before .before .before .before .before .before .before .before .before .before .planned2 .given .1)
-    (c .before .before .before .before .before .before .before .before .before .before .before .before .before .before .map-fault .ensures) in
-    map-done (x .mapped .now) (x .one .now) (x .other .now) found _ (c .before .before .before .before .before .before .before .before .before .before .free-share .ensures) (c .before .before .before .before .before .before .map-work .ensures)
+    (c .before .before .before .before .before .before .before .before .before .before .before .before .before .before .map-fault
+    .ensures) in
+    map-done (x .mapped .now) (x .one .now) (x .other .now) found _
+    (c .before .before .before .before .before .before .before .before .before .before .free-share .ensures)
+    (c .before .before .before .before .before .before .map-work .ensures)
 
 pub map-tape-spec : {M : Type 1} → statement M
 map-tape-spec =

@@ -37,34 +37,53 @@ mask-into-requires c κs =
 
 slice-aggregate-begin-runs : tie.Need-slice-aggregate-begin-runs
 slice-aggregate-begin-runs c =
-    let start = c .before .before .before .before .before .before .before .before .before .before .before .before .before .before .before .before in
+    let start = c .before .before .before .before .before .before .before .before .before .before .before .before .before .before
+    .before .before in
     let W = start .pre .0 in
     sym (length-take-le _ _ (place-fits W))
 
 begin-runs-requires : tie.Need-begin-runs-requires
 begin-runs-requires c κs =
-    let start = c .before .before .before .before .before .before .before .before .before .before .before .before .before .before .before .before .before .before .before in
+    let start = c .before .before .before .before .before .before .before .before .before .before .before .before .before .before
+    .before .before .before .before .before in
     let W = start .pre .0 in
     begin-ready W
 
 slice-reshare-prefix-walk-plan : tie.Need-slice-reshare-prefix-walk-plan
 slice-reshare-prefix-walk-plan c =
-    let start = c .before .before .before .before .before .before .before .before .before .before .before .before .before .before .before .before .before .before .before .before .before .before .before .before .before .before in
-    omega (arith, c .before .before .before .before .before .before .before .before .before .before .before .before .before .before .before .plan-bytes .ensures, c .before .before .before .before .before .before .before .before .before .before .before .before .masked .given, start .pre .1)
+    let start = c .before .before .before .before .before .before .before .before .before .before .before .before .before .before
+    .before .before .before .before .before .before .before .before .before .before .before .before in
+    omega (
+      arith,
+      c .before .before .before .before .before .before .before .before .before .before .before .before .before
+          .before .before .plan-bytes .ensures,
+      c .before .before .before .before .before .before .before .before .before .before .before .before .masked .given,
+      start .pre
+          .1,
+    )
 
 slice-aggregate-walk-plan : tie.Need-slice-aggregate-walk-plan
 slice-aggregate-walk-plan c =
-    let start = c .before .before .before .before .before .before .before .before .before .before .before .before .before .before .before .before .before .before .before .before .before .before .before .before .before .before .before in
-    sym (length-take-le _ _ (omega (arith, c .before .before .before .before .before .before .before .before .before .before .before .before .before .before .before .before .plan-bytes .ensures, c .before .before .before .before .before .before .before .before .before .before .before .before .before .masked .given, start .pre .1)))
+    let start = c .before .before .before .before .before .before .before .before .before .before .before .before .before .before
+    .before .before .before .before .before .before .before .before .before .before .before .before .before in
+    sym (length-take-le _ _ (omega (
+      arith,
+      c .before .before .before .before .before .before .before .before .before .before
+          .before .before .before .before .before .before .plan-bytes .ensures,
+      c .before .before .before .before .before .before .before .before .before .before .before .before .before .masked .given,
+      start .pre .1,
+    )))
 
 sub-walk-plan : tie.Need-sub-walk-plan
 sub-walk-plan c =
-    let start = c .before .before .before .before .before .before .before .before .before .before .before .before .before .before .before .before .before .before .before .before .before .before .before .before .before .before .before in
+    let start = c .before .before .before .before .before .before .before .before .before .before .before .before .before .before
+    .before .before .before .before .before .before .before .before .before .before .before .before .before in
     place-fits (start .pre .0)
 
 part-walk-plan-start : tie.Need-part-walk-plan-start
 part-walk-plan-start c =
-    let start = c .before .before .before .before .before .before .before .before .before .before .before .before .before .before .before .before .before .before .before .before .before .before .before .before .before .before .before in
+    let start = c .before .before .before .before .before .before .before .before .before .before .before .before .before .before
+    .before .before .before .before .before .before .before .before .before .before .before .before .before in
     place-fits (start .pre .0)
 
 part-walk-plan-end : tie.Need-part-walk-plan-end
@@ -73,13 +92,15 @@ part-walk-plan-end c =
 
 sub-walk-plan-2 : tie.Need-sub-walk-plan-2
 sub-walk-plan-2 c =
-    let start = c .before .before .before .before .before .before .before .before .before .before .before .before .before .before .before .before .before .before .before .before .before .before .before .before .before .before .before .before in
+    let start = c .before .before .before .before .before .before .before .before .before .before .before .before .before .before
+    .before .before .before .before .before .before .before .before .before .before .before .before .before .before in
     let W = start .pre .0 in
     omega (arith, place-fits W, W .tape, W .mapped, c .before .before .before .before .before .before .before .mapped .given)
 
 part-walk-plan-start-2 : tie.Need-part-walk-plan-start-2
 part-walk-plan-start-2 c =
-    let start = c .before .before .before .before .before .before .before .before .before .before .before .before .before .before .before .before .before .before .before .before .before .before .before .before .before .before .before .before in
+    let start = c .before .before .before .before .before .before .before .before .before .before .before .before .before .before
+    .before .before .before .before .before .before .before .before .before .before .before .before .before .before in
     let W = start .pre .0 in
     omega (arith, place-fits W, W .tape, W .mapped, c .before .before .before .before .before .before .before .mapped .given)
 
@@ -89,10 +110,15 @@ part-walk-plan-end-2 c =
 
 walk-plan-requires : tie.Need-walk-plan-requires
 walk-plan-requires c κs =
-    let start = c .before .before .before .before .before .before .before .before .before .before .before .before .before .before .before .before .before .before .before .before .before .before .before .before .before .before .before .before .before .before .before in
+    let start = c .before .before .before .before .before .before .before .before .before .before .before .before .before .before
+    .before .before .before .before .before .before .before .before .before .before .before .before .before .before .before
+    .before .before in
     let W = start .pre .0 in
     let begun = c .before .before .before .before .before .before .before .before .before .before .before .begin-runs .ensures in
-    let table = table-front (start .args .masked .now) (W .plan) (c .before .before .before .before .before .before .before .before .before .before .before .before .before .before .before .before .before .before .before .before .plan-bytes .ensures) (c .before .before .before .before .before .before .before .before .before .before .before .before .before .before .before .before .before .before .mask-into .ensures) in
+    let table = table-front (start .args .masked .now) (W .plan) (c .before .before .before .before .before .before .before
+    .before .before .before .before .before .before .before .before .before .before .before .before .before .plan-bytes .ensures)
+    (c .before .before .before .before .before .before .before .before .before .before .before .before .before .before .before
+    .before .before .before .mask-into .ensures) in
     (walk-ready W table (rest-part W) (begun .mapped) (begun .one) (begun .other), plan-fits (W .plan), W .from-1, W .to-n)
 
 same-length : tie.Need-same-length
@@ -113,11 +139,19 @@ same-length-4 c =
 
 returns : tie.Need-returns
 returns c =
-    let start = c .before .before .before .before .before .before .before .before .before .before .before .before .before .before .before .before .before .before .before .before .before .before .before .before .before .before .before .before .before .before .before .before .before .before .before .before .before .before in
+    let start = c .before .before .before .before .before .before .before .before .before .before .before .before .before .before
+    .before .before .before .before .before .before .before .before .before .before .before .before .before .before .before
+    .before .before .before .before .before .before .before .before .before in
     let W = start .pre .0 in
-    let begun = c .before .before .before .before .before .before .before .before .before .before .before .before .before .before .before .before .before .before .begin-runs .ensures in
-    let table = table-front (start .args .masked .now) (W .plan) (c .before .before .before .before .before .before .before .before .before .before .before .before .before .before .before .before .before .before .before .before .before .before .before .before .before .before .before .plan-bytes .ensures) (c .before .before .before .before .before .before .before .before .before .before .before .before .before .before .before .before .before .before .before .before .before .before .before .before .before .mask-into .ensures) in
-    work-done W table (rest-part W) (begun .mapped) (begun .one) (begun .other) (c .before .before .before .before .before .before .walk-plan .ensures) refl
+    let begun = c .before .before .before .before .before .before .before .before .before .before .before .before .before .before
+    .before .before .before .before .begin-runs .ensures in
+    let table = table-front (start .args .masked .now) (W .plan) (c .before .before .before .before .before .before .before
+    .before .before .before .before .before .before .before .before .before .before .before .before .before .before .before
+    .before .before .before .before .before .plan-bytes .ensures) (c .before .before .before .before .before .before .before
+    .before .before .before .before .before .before .before .before .before .before .before .before .before .before .before
+    .before .before .before .mask-into .ensures) in
+    work-done W table (rest-part W) (begun .mapped) (begun .one) (begun .other)
+    (c .before .before .before .before .before .before .walk-plan .ensures) refl
 
 pub map-with-spec : {M : Type 1} → statement M
 map-with-spec =

@@ -10,8 +10,14 @@ plan-bytes-requires : tie.Need-plan-bytes-requires
 plan-bytes-requires c κs = plan-fits (c .before .before .before .before .before .before .before .pre .plan)
 
 map-small-requires : tie.Need-map-small-requires
-map-small-requires c κs =
-    (c .before .before .before .before .before .before .before .before .before .before .before .before .pre, omega (arith, c .before .before .before .before .plan-bytes .ensures, c .before .before .before .if1 .taken))
+map-small-requires c κs = (
+  c .before .before .before .before .before .before .before .before .before .before .before .before .pre,
+  omega (
+    arith,
+    c .before .before .before .before .plan-bytes .ensures,
+    c .before .before .before .if1 .taken,
+  ),
+)
 
 same-length : tie.Need-same-length
 same-length c = search needs

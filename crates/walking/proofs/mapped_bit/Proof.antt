@@ -33,7 +33,8 @@ add-result-2 c = omega (arith, c .before .before .before .before .before .before
 
 returns-3 : tie.Need-returns-3
 returns-3 c =
-    bit-flipped _ _ _ _ _ _ _ _ (c .before .before .before .if1 .left) (c .before .before .if2 .left) (c .before .product-differs .ensures .0)
+    bit-flipped _ _ _ _ _ _ _ _ (c .before .before .before .if1 .left) (c .before .before .if2 .left)
+    (c .before .product-differs .ensures .0)
     (c .product-differs2 .ensures .0)
 
 pub mapped-bit-spec : {M : Type 1} → statement M

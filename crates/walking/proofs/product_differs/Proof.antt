@@ -38,7 +38,11 @@ shared-slice-read-result-2 c = search needs
 
 mul-result : tie.Need-mul-result
 mul-result c =
-    omega (arith, valued-product (c .before .before .before .before .before .before .before .pre .one) _ _ (c .before .before .before .field .ensures .0) (c .before .before .field2 .ensures .0))
+    omega (
+      arith,
+      valued-product (c .before .before .before .before .before .before .before .pre .one) _ _
+          (c .before .before .before .field .ensures .0) (c .before .before .field2 .ensures .0),
+    )
 
 shared-slice-read-result-3 : tie.Need-shared-slice-read-result-3
 shared-slice-read-result-3 c = search needs
@@ -48,17 +52,24 @@ shared-slice-read-result-4 c = search needs
 
 mul-result-2 : tie.Need-mul-result-2
 mul-result-2 c =
-    omega (arith, valued-product (c .before .before .before .before .before .before .before .before .before .pre .other) _ _ (c .before .before .before .before .before .field .ensures .0) (c .before .before .before .before .field2 .ensures .0))
+    omega (
+      arith,
+      valued-product (c .before .before .before .before .before .before .before .before .before .pre .other) _ _
+          (c .before .before .before .before .before .field .ensures .0) (c .before .before .before .before .field2 .ensures .0),
+    )
 
 add-result : tie.Need-add-result
 add-result c =
+    let start = c .before .before .before .before .before .before .before .before .before in
     let left = c .before .before .before .before .before .field .ensures .0 in
     let right = c .before .before .before .before .field2 .ensures .0 in
-    omega (arith, valued-product (c .before .before .before .before .before .before .before .before .before .pre .one) _ _ left right, valued-product (c .before .before .before .before .before .before .before .before .before .pre .other) _ _ left right)
+    omega (arith, valued-product (start .pre .one) _ _ left right, valued-product (start .pre .other) _ _ left right)
 
 returns : tie.Need-returns
-returns c =
-    (rw (c .before .before .before .before .before .field .ensures .0, c .before .before .before .before .field2 .ensures .0), omega arith)
+returns c = (
+  rw (c .before .before .before .before .before .field .ensures .0, c .before .before .before .before .field2 .ensures .0),
+  omega arith,
+)
 
 pub product-differs-spec : {M : Type 1} → statement M
 product-differs-spec =

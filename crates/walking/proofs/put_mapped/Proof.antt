@@ -22,7 +22,8 @@ mapped-bit-requires c κs =
     (ready .cross random, omega (arith, ready .random random .1, c .tape-bit .ensures))
 
 slice-write-mapped : tie.Need-slice-write-mapped
-slice-write-mapped c = c .before .before .before .before .before .before .before .before .before .pre .room (c .before .before .if1 .taken)
+slice-write-mapped c =
+    c .before .before .before .before .before .before .before .before .before .pre .room (c .before .before .if1 .taken)
 
 same-length : tie.Need-same-length
 same-length c = search needs

@@ -58,54 +58,135 @@ field-requires-2 : tie.Need-field-requires-2 Inv-loop μ-loop
 field-requires-2 c κs = search needs
 
 put-mapped-requires : tie.Need-put-mapped-requires Inv-loop μ-loop
-put-mapped-requires c κs = bit-ready (c .before .before .before .before .before .before .before .loop .inv) (c .before .before .before .before .before .before .loop-test .taken)
+put-mapped-requires c κs =
+    bit-ready (c .before .before .before .before .before .before .before .loop .inv)
+    (c .before .before .before .before .before .before .loop-test .taken)
 
 slice-read-gate-value : tie.Need-slice-read-gate-value Inv-loop μ-loop
-slice-read-gate-value c = left-there (c .before .before .before .before .before .before .before .before .before .before .before .loop .inv .one) (c .before .before .before .before .before .before .before .before .before .before .loop-test .taken) _ (c .before .before .before .before .before .before .before .before .field .ensures .0)
+slice-read-gate-value c =
+    left-there (c .before .before .before .before .before .before .before .before .before .before .before .loop .inv .one)
+    (c .before .before .before .before .before .before .before .before .before .before .loop-test .taken) _
+    (c .before .before .before .before .before .before .before .before .field .ensures .0)
 
 slice-read-gate-value-2 : tie.Need-slice-read-gate-value-2 Inv-loop μ-loop
-slice-read-gate-value-2 c = right-there (c .before .before .before .before .before .before .before .before .before .before .before .before .loop .inv .one) (c .before .before .before .before .before .before .before .before .before .before .before .loop-test .taken) _ (c .before .before .before .before .before .before .before .before .field2 .ensures .0)
+slice-read-gate-value-2 c =
+    right-there
+    (c .before .before .before .before .before .before .before .before .before .before .before .before .loop .inv .one)
+    (c .before .before .before .before .before .before .before .before .before .before .before .loop-test .taken) _
+    (c .before .before .before .before .before .before .before .before .field2 .ensures .0)
 
 gate-value-requires : tie.Need-gate-value-requires Inv-loop μ-loop
 gate-value-requires c κs =
-    gate-ready (c .before .before .before .before .before .before .before .before .before .before .before .before .loop .inv .one) (c .before .before .before .before .before .before .before .before .before .before .before .loop-test .taken) _ _ (c .before .before .before .before .before .before .before .before .before .field .ensures .0) (c .before .before .before .before .before .before .before .before .field2 .ensures .0)
+    gate-ready (c .before .before .before .before .before .before .before .before .before .before .before .before .loop .inv .one)
+    (c .before .before .before .before .before .before .before .before .before .before .before .loop-test .taken) _ _
+    (c .before .before .before .before .before .before .before .before .before .field .ensures .0)
+    (c .before .before .before .before .before .before .before .before .field2 .ensures .0)
 
 slice-read-gate-value-3 : tie.Need-slice-read-gate-value-3 Inv-loop μ-loop
-slice-read-gate-value-3 c = left-there (c .before .before .before .before .before .before .before .before .before .before .before .before .before .before .loop .inv .other) (c .before .before .before .before .before .before .before .before .before .before .before .before .before .loop-test .taken) _ (c .before .before .before .before .before .before .before .before .before .before .before .field .ensures .0)
+slice-read-gate-value-3 c =
+    left-there (c .before .before .before .before .before .before .before .before .before .before .before .before .before .before
+    .loop .inv .other)
+    (c .before .before .before .before .before .before .before .before .before .before .before .before .before .loop-test .taken)
+    _ (c .before .before .before .before .before .before .before .before .before .before .before .field .ensures .0)
 
 slice-read-gate-value-4 : tie.Need-slice-read-gate-value-4 Inv-loop μ-loop
-slice-read-gate-value-4 c = right-there (c .before .before .before .before .before .before .before .before .before .before .before .before .before .before .before .loop .inv .other) (c .before .before .before .before .before .before .before .before .before .before .before .before .before .before .loop-test .taken) _ (c .before .before .before .before .before .before .before .before .before .before .before .field2 .ensures .0)
+slice-read-gate-value-4 c =
+    right-there (c .before .before .before .before .before .before .before .before .before .before .before .before .before .before
+    .before .loop .inv .other) (c .before .before .before .before .before .before .before .before .before .before .before .before
+    .before .before .loop-test .taken) _
+    (c .before .before .before .before .before .before .before .before .before .before .before .field2 .ensures .0)
 
 gate-value-requires-2 : tie.Need-gate-value-requires-2 Inv-loop μ-loop
 gate-value-requires-2 c κs =
-    other-ready (c .before .before .before .before .before .before .before .before .before .before .before .before .before .before .before .before .loop .inv) (c .before .before .before .before .before .before .before .before .before .before .before .before .before .before .before .loop-test .taken) _ _ _ (c .before .before .before .before .before .before .before .before .before .before .before .before .before .field .ensures .0) (c .before .before .before .before .before .before .before .before .before .before .before .before .field2 .ensures .0)
+    other-ready (c .before .before .before .before .before .before .before .before .before .before .before .before .before .before
+    .before .before .loop .inv) (c .before .before .before .before .before .before .before .before .before .before .before .before
+    .before .before .before .loop-test .taken) _ _ _
+    (c .before .before .before .before .before .before .before .before .before .before .before .before .before .field .ensures .0)
+    (c .before .before .before .before .before .before .before .before .before .before .before .before .field2 .ensures .0)
     (c .before .before .before .before .before .before .before .before .put-mapped .ensures)
 
 add-one : tie.Need-add-one Inv-loop μ-loop
-add-one c = omega (arith, c .before .before .before .before .before .before .before .before .before .before .before .before .before .before .before .before .before .loop .inv .one .room, c .before .before .before .before .before .before .before .before .before .before .before .before .before .before .before .before .before .loop .inv .few, c .before .before .before .before .before .before .before .before .before .before .before .before .before .before .before .before .loop-test .taken)
+add-one c =
+    omega (
+      arith,
+      c .before .before .before .before .before .before .before .before .before .before .before .before .before
+          .before .before .before .before .loop .inv .one .room,
+      c .before .before .before .before .before .before .before .before
+          .before .before .before .before .before .before .before .before .before .loop .inv .few,
+      c .before .before .before .before
+          .before .before .before .before .before .before .before .before .before .before .before .before .loop-test .taken,
+    )
 
 slice-write-one : tie.Need-slice-write-one Inv-loop μ-loop
-slice-write-one c = omega (arith, c .before .before .before .before .before .before .before .before .before .before .before .before .before .before .before .before .before .loop .inv .one .room, c .before .before .before .before .before .before .before .before .before .before .before .before .before .before .before .before .before .loop .inv .few, c .before .before .before .before .before .before .before .before .before .before .before .before .before .before .before .before .loop-test .taken)
+slice-write-one c =
+    omega (
+      arith,
+      c .before .before .before .before .before .before .before .before .before .before .before .before .before
+          .before .before .before .before .loop .inv .one .room,
+      c .before .before .before .before .before .before .before .before
+          .before .before .before .before .before .before .before .before .before .loop .inv .few,
+      c .before .before .before .before
+          .before .before .before .before .before .before .before .before .before .before .before .before .loop-test .taken,
+    )
 
 add-other : tie.Need-add-other Inv-loop μ-loop
-add-other c = omega (arith, c .before .before .before .before .before .before .before .before .before .before .before .before .before .before .before .before .before .loop .inv .one .room, c .before .before .before .before .before .before .before .before .before .before .before .before .before .before .before .before .before .loop .inv .few, c .before .before .before .before .before .before .before .before .before .before .before .before .before .before .before .before .loop-test .taken)
+add-other c =
+    omega (
+      arith,
+      c .before .before .before .before .before .before .before .before .before .before .before .before .before
+          .before .before .before .before .loop .inv .one .room,
+      c .before .before .before .before .before .before .before .before
+          .before .before .before .before .before .before .before .before .before .loop .inv .few,
+      c .before .before .before .before
+          .before .before .before .before .before .before .before .before .before .before .before .before .loop-test .taken,
+    )
 
 slice-write-other : tie.Need-slice-write-other Inv-loop μ-loop
-slice-write-other c = omega (arith, c .before .before .before .before .before .before .before .before .before .before .before .before .before .before .before .before .before .loop .inv .other .room, c .before .before .before .before .before .before .before .before .before .before .before .before .before .before .before .before .loop-test .taken)
+slice-write-other c =
+    omega (
+      arith,
+      c .before .before .before .before .before .before .before .before .before .before .before .before .before
+          .before .before .before .before .loop .inv .other .room,
+      c .before .before .before .before .before .before .before .before
+          .before .before .before .before .before .before .before .before .loop-test .taken,
+    )
 
 next-pair-requires : tie.Need-next-pair-requires Inv-loop μ-loop
-next-pair-requires c κs = omega (arith, c .before .before .before .before .before .before .before .before .before .before .before .before .before .before .before .before .before .loop .inv .count, c .before .before .before .before .before .before .before .before .before .before .before .before .before .before .before .before .before .loop .inv .few, c .before .before .before .before .before .before .before .before .before .before .before .before .before .before .before .before .loop-test .taken)
+next-pair-requires c κs =
+    omega (
+      arith,
+      c .before .before .before .before .before .before .before .before .before .before .before .before .before
+          .before .before .before .before .loop .inv .count,
+      c .before .before .before .before .before .before .before .before .before
+          .before .before .before .before .before .before .before .before .loop .inv .few,
+      c .before .before .before .before .before
+          .before .before .before .before .before .before .before .before .before .before .before .loop-test .taken,
+    )
 
 add-g : tie.Need-add-g Inv-loop μ-loop
-add-g c = omega (arith, c .before .before .before .before .before .before .before .before .before .before .before .before .before .before .before .before .before .loop-test .taken)
+add-g c =
+    omega (
+      arith,
+      c .before .before .before .before .before .before .before .before .before .before .before .before .before
+          .before .before .before .before .loop-test .taken,
+    )
 
 loop-less : tie.Need-loop-less Inv-loop μ-loop
-loop-less c = omega (arith, c .before .before .before .before .before .before .before .before .before .before .before .before .before .before .before .before .before .loop-test .taken)
+loop-less c =
+    omega (
+      arith,
+      c .before .before .before .before .before .before .before .before .before .before .before .before .before
+          .before .before .before .before .loop-test .taken,
+    )
 
 loop-again : tie.Need-loop-again Inv-loop μ-loop
 loop-again c =
     rw num.add-one
-    (walking-turn (c .before .before .before .before .before .before .before .before .before .before .before .before .before .before .before .before .before .before .loop .inv) (c .before .before .before .before .before .before .before .before .before .before .before .before .before .before .before .before .before .loop-test .taken) (c .before .before .before .before .before .before .before .before .before .before .before .before .before .before .before .field .ensures .0) (c .before .before .before .before .before .before .before .before .before .before .before .before .before .before .field2 .ensures .0)
+    (walking-turn (c .before .before .before .before .before .before .before .before .before .before .before .before .before
+    .before .before .before .before .before .loop .inv) (c .before .before .before .before .before .before .before .before .before
+    .before .before .before .before .before .before .before .before .loop-test .taken) (c .before .before .before .before .before
+    .before .before .before .before .before .before .before .before .before .before .field .ensures .0) (c .before .before .before
+    .before .before .before .before .before .before .before .before .before .before .before .field2 .ensures .0)
     (c .before .before .before .before .before .before .before .before .before .before .put-mapped .ensures)
     (c .before .before .before .before .before .gate-value .ensures)
     (c .before .gate-value2 .ensures)

@@ -1,4 +1,4 @@
--- `mapping::mark_probes` meets its contract. The loop's invariant: the numbers of the probes from j on are left to mark.
+-- `probing::mark_probes` meets its contract. The loop's invariant: the numbers of the probes from j on are left to mark.
 -- Assumes nothing.
 use Prim.Native.Nat.{_-_}
 use native.Mathlib.Numerals.{add-one}
@@ -8,10 +8,10 @@ use Rattle.tables.specs.Tables.{tableOf}
 use Rattle.masks.specs.Gadgets.{isw}
 use Rattle.masks.specs.Wires.{origins}
 use Rattle.marking.specs.Origins.{orderOf}
-use Rattle.mapping.proofs.Seeing.{Marking, marking-start, marking-turn, marking-end}
+use Rattle.probing.proofs.Seeing.{Marking, marking-start, marking-turn, marking-end}
 use borrow.Author.Needs.{needs}
-use Rattle.mapping.proofs.mark_probes.Statement.{statement}
-use Rattle.mapping.proofs.mark_probes.Tie as tie
+use Rattle.probing.proofs.mark_probes.Statement.{statement}
+use Rattle.probing.proofs.mark_probes.Tie as tie
 
 abbrev Inv-loop : tie.InvT-loop
 Inv-loop table p probes seen₀ j₀ seen j =
@@ -35,7 +35,9 @@ cast-marks-at : tie.Need-cast-marks-at Inv-loop μ-loop
 cast-marks-at c = omega (arith, c .shared-slice-known3 .given (c .before .before .loop .j))
 
 marks-at-requires : tie.Need-marks-at-requires Inv-loop μ-loop
-marks-at-requires c κs = (c .before .before .before .before .before .pre .0, c .before .before .before .before .before .pre .1 .probes _ (c .before .loop-test .taken))
+marks-at-requires c κs =
+    let start = c .before .before .before .before .before in
+    (start .pre .0, start .pre .1 .probes _ (c .before .loop-test .taken))
 
 cast-first : tie.Need-cast-first Inv-loop μ-loop
 cast-first c = search needs
@@ -57,7 +59,9 @@ loop-less c = search needs
 
 loop-again : tie.Need-loop-again Inv-loop μ-loop
 loop-again c =
-    rw add-one (marking-turn (c .before .before .before .before .before .loop .inv) (c .before .before .before .before .loop-test .taken) (c .before .before .marks-at .ensures .first) (c .before .before .marks-at .ensures .second))
+    rw add-one (marking-turn (c .before .before .before .before .before .loop .inv)
+    (c .before .before .before .before .loop-test .taken) (c .before .before .marks-at .ensures .first)
+    (c .before .before .marks-at .ensures .second))
 
 returns : tie.Need-returns Inv-loop μ-loop
 returns c = marking-end (c .before .loop .inv) (c .loop-test .left)

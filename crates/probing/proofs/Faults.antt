@@ -38,8 +38,8 @@ use Rattle.sizing.specs.declared.Plan as DP
 use Rattle.sizing.specs.Plans.{PlanRefused, PlanReady}
 use Rattle.sizing.proofs.Planning.{plain-none, plan-fits}
 use Rattle.maps.specs.Says.{badProbe, mapFault}
-use Rattle.mapping.specs.Seeing.{Probes}
-use Rattle.mapping.specs.Faults.{
+use Rattle.probing.specs.Seeing.{Probes}
+use Rattle.probing.specs.Faults.{
   supplyFault,
   probesFault,
   roomFault,

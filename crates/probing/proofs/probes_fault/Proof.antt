@@ -1,11 +1,11 @@
--- `mapping::probes_fault` meets its contract. The loop's invariant: the probes before j are wires.
+-- `probing::probes_fault` meets its contract. The loop's invariant: the probes before j are wires.
 -- Assumes nothing.
 use Prim.Native.Nat.{_-_}
 use native.Mathlib.Numerals.{add-one}
 use native.Mathlib.Omega.{arith}
 use mathlib.Core.Path.{_∙_}
 use lib.ListN.{length}
-use Rattle.mapping.proofs.Faults.{
+use Rattle.probing.proofs.Faults.{
   by-fault,
   probes-many,
   probes-few,
@@ -16,8 +16,8 @@ use Rattle.mapping.proofs.Faults.{
   probing-end,
 }
 use borrow.Author.Needs.{needs}
-use Rattle.mapping.proofs.probes_fault.Statement.{statement}
-use Rattle.mapping.proofs.probes_fault.Tie as tie
+use Rattle.probing.proofs.probes_fault.Statement.{statement}
+use Rattle.probing.proofs.probes_fault.Tie as tie
 
 abbrev Inv-loop : tie.InvT-loop
 Inv-loop order wires probes j₀ j =
@@ -49,7 +49,8 @@ refused-requires-2 c κs = search needs
 
 returns-2 : tie.Need-returns-2 Inv-loop μ-loop
 returns-2 c =
-    by-fault (probes-few _ _ _ (c .before .before .before .before .before .if1 .left) ∙ probing-found (c .before .before .before .before .loop .inv) (c .before .before .before .loop-test .taken) (c .before .if2 .taken))
+    by-fault (probes-few _ _ _ (c .before .before .before .before .before .if1 .left) ∙ probing-found
+    (c .before .before .before .before .loop .inv) (c .before .before .before .loop-test .taken) (c .before .if2 .taken))
     (c .refused2 .ensures)
 
 add-j : tie.Need-add-j Inv-loop μ-loop
@@ -59,14 +60,16 @@ loop-less : tie.Need-loop-less Inv-loop μ-loop
 loop-less c = search needs
 
 loop-again : tie.Need-loop-again Inv-loop μ-loop
-loop-again c = rw add-one (probing-turn (c .before .before .before .loop .inv) (c .before .before .loop-test .taken) (c .if2 .left))
+loop-again c =
+    rw add-one (probing-turn (c .before .before .before .loop .inv) (c .before .before .loop-test .taken) (c .if2 .left))
 
 refused-requires-3 : tie.Need-refused-requires-3 Inv-loop μ-loop
 refused-requires-3 c κs = search needs
 
 returns-3 : tie.Need-returns-3 Inv-loop μ-loop
 returns-3 c =
-    by-fault (probes-few _ _ _ (c .before .before .before .if1 .left) ∙ probing-end (c .before .before .loop .inv) (c .before .loop-test .left)) (c .refused3 .ensures)
+    by-fault (probes-few _ _ _ (c .before .before .before .if1 .left) ∙ probing-end (c .before .before .loop .inv)
+    (c .before .loop-test .left)) (c .refused3 .ensures)
 
 pub probes-fault-spec : {M : Type 1} → statement M
 probes-fault-spec =

@@ -19,7 +19,7 @@ use Rattle.sizing.specs.declared.Plan as DP
 use Rattle.sizing.specs.Plans.{PlanReady}
 use Rattle.maps.specs.Maps.{carried, freeFrom, freeShare}
 use Rattle.maps.proofs.Free.{free-past, free-here, isIn-join, marks-two}
-use Rattle.mapping.specs.Seeing.{Seen, Probes, MarkReady}
+use Rattle.probing.specs.Seeing.{Seen, Probes, MarkReady}
 
 -- what a byte of the numbers seen says
 seen-false : (t : Bool) → _≡_ {A = ℕ} (pick t 1 0) 0 → t ≡ false

@@ -1,9 +1,9 @@
--- `mapping::call_fault` meets its contract: of the three parts of the chain, the first that refuses.
+-- `probing::call_fault` meets its contract: of the three parts of the chain, the first that refuses.
 -- Assumes nothing.
 use borrow.Author.Needs.{needs}
-use Rattle.mapping.proofs.Faults.{by-fault, call-chain}
-use Rattle.mapping.proofs.call_fault.Statement.{statement}
-use Rattle.mapping.proofs.call_fault.Tie as tie
+use Rattle.probing.proofs.Faults.{by-fault, call-chain}
+use Rattle.probing.proofs.call_fault.Statement.{statement}
+use Rattle.probing.proofs.call_fault.Tie as tie
 
 supply-fault-requires : tie.Need-supply-fault-requires
 supply-fault-requires c κs = c .before .before .before .before .pre

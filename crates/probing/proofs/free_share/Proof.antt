@@ -1,9 +1,9 @@
--- `mapping::free_share` meets its contract: the smallest number that is not among those that the probes carry.
+-- `probing::free_share` meets its contract: the smallest number that is not among those that the probes carry.
 -- Assumes nothing.
 use Rattle.marking.proofs.Ready.{ready-shares}
-use Rattle.mapping.proofs.Seeing.{mark-ready, free-share-is}
-use Rattle.mapping.proofs.free_share.Statement.{statement}
-use Rattle.mapping.proofs.free_share.Tie as tie
+use Rattle.probing.proofs.Seeing.{mark-ready, free-share-is}
+use Rattle.probing.proofs.free_share.Statement.{statement}
+use Rattle.probing.proofs.free_share.Tie as tie
 
 mark-probes-requires : tie.Need-mark-probes-requires
 mark-probes-requires c κs = (c .before .before .before .pre .0, mark-ready _ _ (c .before .before .before .pre .1))
@@ -12,7 +12,9 @@ free-of-requires : tie.Need-free-of-requires
 free-of-requires c κs = ready-shares _ _ _ (c .before .before .before .before .before .pre .0)
 
 returns : tie.Need-returns
-returns c = free-share-is _ (c .before .before .before .before .before .before .pre .0) (c .before .before .mark-probes .ensures) (c .free-of .ensures)
+returns c =
+    free-share-is _ (c .before .before .before .before .before .before .pre .0) (c .before .before .mark-probes .ensures)
+    (c .free-of .ensures)
 
 pub free-share-spec : {M : Type 1} → statement M
 free-share-spec = tie.close (tie.spec mark-probes-requires free-of-requires returns)

@@ -1,12 +1,12 @@
--- `mapping::free_of` meets its contract. The loop's invariant: looking from k on finds what looking from 1 on finds.
+-- `probing::free_of` meets its contract. The loop's invariant: looking from k on finds what looking from 1 on finds.
 -- Assumes nothing.
 use Prim.Native.Nat.{suc, _-_}
 use native.Mathlib.Numerals.{add-one}
 use native.Mathlib.Omega.{arith}
-use Rattle.mapping.proofs.Seeing.{Looking, looking-start, looking-turn, looking-found, looking-end}
+use Rattle.probing.proofs.Seeing.{Looking, looking-start, looking-turn, looking-found, looking-end}
 use borrow.Author.Needs.{needs}
-use Rattle.mapping.proofs.free_of.Statement.{statement}
-use Rattle.mapping.proofs.free_of.Tie as tie
+use Rattle.probing.proofs.free_of.Statement.{statement}
+use Rattle.probing.proofs.free_of.Tie as tie
 
 abbrev Inv-loop : tie.InvT-loop
 Inv-loop seen n k₀ k =
@@ -22,7 +22,9 @@ element-copy-out-if1 : tie.Need-element-copy-out-if1 Inv-loop μ-loop
 element-copy-out-if1 c = search needs
 
 returns : tie.Need-returns Inv-loop μ-loop
-returns c = looking-found (c .before .before .before .loop .inv) (c .before .before .before .before .pre) (c .before .before .loop-test .taken) (c .if1 .taken)
+returns c =
+    looking-found (c .before .before .before .loop .inv) (c .before .before .before .before .pre)
+    (c .before .before .loop-test .taken) (c .if1 .taken)
 
 add-k : tie.Need-add-k Inv-loop μ-loop
 add-k c = search needs
@@ -31,7 +33,9 @@ loop-less : tie.Need-loop-less Inv-loop μ-loop
 loop-less c = search needs
 
 loop-again : tie.Need-loop-again Inv-loop μ-loop
-loop-again c = rw add-one (looking-turn (c .before .before .before .loop .inv) (c .before .before .before .before .pre) (c .before .before .loop-test .taken) (c .if1 .left))
+loop-again c =
+    rw add-one (looking-turn (c .before .before .before .loop .inv) (c .before .before .before .before .pre)
+    (c .before .before .loop-test .taken) (c .if1 .left))
 
 returns-2 : tie.Need-returns-2 Inv-loop μ-loop
 returns-2 c = looking-end (c .before .loop .inv) (c .before .before .pre) (c .loop-test .left)

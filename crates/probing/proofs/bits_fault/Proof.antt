@@ -1,9 +1,9 @@
--- `mapping::bits_fault` meets its contract.
+-- `probing::bits_fault` meets its contract.
 -- Assumes nothing.
-use Rattle.mapping.proofs.Faults.{by-fault, bits-bad, bits-good}
+use Rattle.probing.proofs.Faults.{by-fault, bits-bad, bits-good}
 use borrow.Author.Needs.{needs}
-use Rattle.mapping.proofs.bits_fault.Statement.{statement}
-use Rattle.mapping.proofs.bits_fault.Tie as tie
+use Rattle.probing.proofs.bits_fault.Statement.{statement}
+use Rattle.probing.proofs.bits_fault.Tie as tie
 
 first-bad-requires : tie.Need-first-bad-requires
 first-bad-requires c κs = search needs

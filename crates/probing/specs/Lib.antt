@@ -1,0 +1,3 @@
+-- What the refusals of mapping and the free share take and give.
+pub mod Faults
+pub mod Seeing
