@@ -288,7 +288,7 @@ fn mask_with(
 }
 
 // Masks a table of at most 256 wires.
-fn mask_small(table: &[u8], p: sizing::Plan, out: &mut [u8])
+fn mask_tiny(table: &[u8], p: sizing::Plan, out: &mut [u8])
     requires { ⌜ PlanReady (now table) (p .shares / 2) p × (p .inputs + p .gates ≤ 256) × (planBytes p ≤ length (now out)) ⌝ }
     ensures { λ _. ⌜ now (out .exit)
         ≡ over (tableBytes (maskedTable isw (p .shares / 2) (tableOf (now (table .entry))))) (now (out .entry)) ⌝ }
@@ -299,15 +299,27 @@ fn mask_small(table: &[u8], p: sizing::Plan, out: &mut [u8])
     mask_with(table, p, &mut first, &mut base, &mut step, out);
 }
 
-// Masks a table of at most 8,192 wires.
-fn mask_middle(table: &[u8], p: sizing::Plan, out: &mut [u8])
-    requires { ⌜ PlanReady (now table) (p .shares / 2) p × (p .inputs + p .gates ≤ 8192) × (planBytes p ≤ length (now out)) ⌝ }
+// Masks a table of at most 2,048 wires.
+fn mask_small(table: &[u8], p: sizing::Plan, out: &mut [u8])
+    requires { ⌜ PlanReady (now table) (p .shares / 2) p × (p .inputs + p .gates ≤ 2048) × (planBytes p ≤ length (now out)) ⌝ }
     ensures { λ _. ⌜ now (out .exit)
         ≡ over (tableBytes (maskedTable isw (p .shares / 2) (tableOf (now (table .entry))))) (now (out .entry)) ⌝ }
 {
-    let mut first = [0u16; 8192];
-    let mut base = [0u16; 8192];
-    let mut step = [0u16; 8192];
+    let mut first = [0u16; 2048];
+    let mut base = [0u16; 2048];
+    let mut step = [0u16; 2048];
+    mask_with(table, p, &mut first, &mut base, &mut step, out);
+}
+
+// Masks a table of at most 16,384 wires.
+fn mask_middle(table: &[u8], p: sizing::Plan, out: &mut [u8])
+    requires { ⌜ PlanReady (now table) (p .shares / 2) p × (p .inputs + p .gates ≤ 16384) × (planBytes p ≤ length (now out)) ⌝ }
+    ensures { λ _. ⌜ now (out .exit)
+        ≡ over (tableBytes (maskedTable isw (p .shares / 2) (tableOf (now (table .entry))))) (now (out .entry)) ⌝ }
+{
+    let mut first = [0u16; 16384];
+    let mut base = [0u16; 16384];
+    let mut step = [0u16; 16384];
     mask_with(table, p, &mut first, &mut base, &mut step, out);
 }
 
@@ -329,21 +341,25 @@ pub fn mask_into(table: &[u8], p: sizing::Plan, out: &mut [u8])
     ensures { λ _. ⌜ now (out .exit)
         ≡ over (tableBytes (maskedTable isw (p .shares / 2) (tableOf (now (table .entry))))) (now (out .entry)) ⌝ }
 {
-    if p.inputs + p.gates <= 8192 {
+    if p.inputs + p.gates <= 2048 {
+        mask_small(table, p, out);
+        return;
+    }
+    if p.inputs + p.gates <= 16384 {
         mask_middle(table, p, out);
         return;
     }
     mask_large(table, p, out);
 }
 
-// The same, with little stack for a small table: to reserve that of a large one takes time even where it is not used.
+// The same, with little stack for a tiny table: to reserve that of a large one takes time even where it is not used.
 fn mask_lean(table: &[u8], p: sizing::Plan, out: &mut [u8])
     requires { ⌜ PlanReady (now table) (p .shares / 2) p × (planBytes p ≤ length (now out)) ⌝ }
     ensures { λ _. ⌜ now (out .exit)
         ≡ over (tableBytes (maskedTable isw (p .shares / 2) (tableOf (now (table .entry))))) (now (out .entry)) ⌝ }
 {
     if p.inputs + p.gates <= 256 {
-        mask_small(table, p, out);
+        mask_tiny(table, p, out);
         return;
     }
     mask_into(table, p, out);

@@ -1,4 +1,4 @@
--- `masking::mask_lean` meets its contract, for a small table and for any other.
+-- `masking::mask_lean` meets its contract, for a tiny table and for any other.
 -- Assumes nothing.
 use native.Mathlib.Omega.{arith}
 use borrow.Author.Needs.{needs}
@@ -9,14 +9,14 @@ use Rattle.masking.proofs.mask_lean.Tie as tie
 add-if1 : tie.Need-add-if1
 add-if1 c = omega (arith, plan-plain (c .before .before .before .pre .0))
 
-mask-small-requires : tie.Need-mask-small-requires
-mask-small-requires c κs = let pre = c .before .before .before .before .before .pre in (pre .0, c .before .if1 .taken, pre .1)
+mask-tiny-requires : tie.Need-mask-tiny-requires
+mask-tiny-requires c κs = let pre = c .before .before .before .before .before .pre in (pre .0, c .before .if1 .taken, pre .1)
 
 same-length : tie.Need-same-length
 same-length c = search needs
 
 returns : tie.Need-returns
-returns c = c .before .before .mask-small .ensures
+returns c = c .before .before .mask-tiny .ensures
 
 mask-into-requires : tie.Need-mask-into-requires
 mask-into-requires c κs = let pre = c .before .before .before .before .before .pre in (pre .0, pre .1)
@@ -32,7 +32,7 @@ mask-lean-spec =
     tie.close
     (tie.spec
     add-if1
-    mask-small-requires
+    mask-tiny-requires
     same-length
     returns
     mask-into-requires

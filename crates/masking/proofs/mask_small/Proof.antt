@@ -10,16 +10,16 @@ use Rattle.masking.proofs.mask_small.Statement.{statement}
 use Rattle.masking.proofs.mask_small.Tie as tie
 
 slice-aggregate-mask-with : tie.Need-slice-aggregate-mask-with
-slice-aggregate-mask-with c = sym (length-replicate {A = ℕ} 256 0)
+slice-aggregate-mask-with c = sym (length-replicate {A = ℕ} 2048 0)
 
 slice-aggregate-mask-with-2 : tie.Need-slice-aggregate-mask-with-2
-slice-aggregate-mask-with-2 c = sym (length-replicate {A = ℕ} 256 0)
+slice-aggregate-mask-with-2 c = sym (length-replicate {A = ℕ} 2048 0)
 
 slice-aggregate-mask-with-3 : tie.Need-slice-aggregate-mask-with-3
-slice-aggregate-mask-with-3 c = sym (length-replicate {A = ℕ} 256 0)
+slice-aggregate-mask-with-3 c = sym (length-replicate {A = ℕ} 2048 0)
 
 mask-with-requires : tie.Need-mask-with-requires
-mask-with-requires c κs = let pre = c .before .before .before .before .before .before .pre in (pre .0, room-of _ 256 (pre .1), pre .2)
+mask-with-requires c κs = let pre = c .before .before .before .before .before .before .pre in (pre .0, room-of _ 2048 (pre .1), pre .2)
 
 same-length : tie.Need-same-length
 same-length c = search needs
