@@ -191,7 +191,7 @@ fn map_with(
     );
 }
 
-// Maps where the masked table has few bytes.
+// Maps where the masked table has at most 8,192 bytes.
 fn map_small(
     table: &[u8],
     p: sizing::Plan,
@@ -217,6 +217,46 @@ fn map_small(
         (now (other .exit)) ⌝ }
 {
     let mut masked = [0u8; 8192];
+    map_with(
+        table,
+        p,
+        k,
+        first,
+        second,
+        tape,
+        &mut masked,
+        mapped,
+        one,
+        other,
+    );
+}
+
+// Maps where the masked table has at most 65,536 bytes.
+fn map_middle(
+    table: &[u8],
+    p: sizing::Plan,
+    k: usize,
+    first: &[u8],
+    second: &[u8],
+    tape: &[u8],
+    mapped: &mut [u8],
+    one: &mut [u8],
+    other: &mut [u8],
+)
+    requires { ⌜ WorkReady (now table) p k (now first) (now second) (now tape) (now mapped) (now one) (now other)
+        × (planBytes p ≤ 65536) ⌝ }
+    ensures { λ _. ⌜ WorkSays (now (table .entry)) (orderOf p) k
+        (now (first .entry))
+        (now (second .entry))
+        (now (tape .entry))
+        (now (mapped .entry))
+        (now (mapped .exit))
+        (now (one .entry))
+        (now (one .exit))
+        (now (other .entry))
+        (now (other .exit)) ⌝ }
+{
+    let mut masked = [0u8; 65536];
     map_with(
         table,
         p,
@@ -294,8 +334,13 @@ fn map_work(
         (now (other .entry))
         (now (other .exit)) ⌝ }
 {
-    if sizing::plan_bytes(p) <= 8192 {
+    let bytes = sizing::plan_bytes(p);
+    if bytes <= 8192 {
         map_small(table, p, k, first, second, tape, mapped, one, other);
+        return;
+    }
+    if bytes <= 65536 {
+        map_middle(table, p, k, first, second, tape, mapped, one, other);
         return;
     }
     map_large(table, p, k, first, second, tape, mapped, one, other);
