@@ -335,8 +335,8 @@ fn mask_large(table: &[u8], p: sizing::Plan, out: &mut [u8])
     mask_with(table, p, &mut first, &mut base, &mut step, out);
 }
 
-// Masks a table that is not tiny, with arrays of its size.
-fn mask_sized(table: &[u8], p: sizing::Plan, out: &mut [u8])
+// Writes the masked table of a plan into a buffer that has room for it.
+pub fn mask_into(table: &[u8], p: sizing::Plan, out: &mut [u8])
     requires { ⌜ PlanReady (now table) (p .shares / 2) p × (planBytes p ≤ length (now out)) ⌝ }
     ensures { λ _. ⌜ now (out .exit)
         ≡ over (tableBytes (maskedTable isw (p .shares / 2) (tableOf (now (table .entry))))) (now (out .entry)) ⌝ }
@@ -352,9 +352,8 @@ fn mask_sized(table: &[u8], p: sizing::Plan, out: &mut [u8])
     mask_large(table, p, out);
 }
 
-// Writes the masked table of a plan into a buffer that has room for it. A tiny table takes little stack: to reserve that of a
-// large one takes time even where it is not used.
-pub fn mask_into(table: &[u8], p: sizing::Plan, out: &mut [u8])
+// The same, with little stack for a tiny table: to reserve that of a large one takes time even where it is not used.
+fn mask_lean(table: &[u8], p: sizing::Plan, out: &mut [u8])
     requires { ⌜ PlanReady (now table) (p .shares / 2) p × (planBytes p ≤ length (now out)) ⌝ }
     ensures { λ _. ⌜ now (out .exit)
         ≡ over (tableBytes (maskedTable isw (p .shares / 2) (tableOf (now (table .entry))))) (now (out .entry)) ⌝ }
@@ -363,7 +362,7 @@ pub fn mask_into(table: &[u8], p: sizing::Plan, out: &mut [u8])
         mask_tiny(table, p, out);
         return;
     }
-    mask_sized(table, p, out);
+    mask_into(table, p, out);
 }
 
 // Masks a plain table at an order; the bytes written.
@@ -384,7 +383,7 @@ pub fn mask_table(table: &[u8], order: u8, out: &mut [u8]) -> tables::Answer
                     value: 0,
                 };
             }
-            mask_into(table, p, out);
+            mask_lean(table, p, out);
             return tables::Answer {
                 number: 0,
                 place: 0,

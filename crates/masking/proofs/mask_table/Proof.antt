@@ -48,8 +48,8 @@ returns-2 c =
     (c .before .before .before .before .before .plan-table .ensures))
     (omega (arith, c .if1 .taken, c .before .plan-bytes .ensures))
 
-mask-into-requires : tie.Need-mask-into-requires
-mask-into-requires c κs = (
+mask-lean-requires : tie.Need-mask-lean-requires
+mask-lean-requires c κs = (
   plan-own
       (subst (λ (r : Planned). PlanSays (c .before .before .before .before .before .before .before .before .before .args .table .now)
       (c .before .before .before .before .before .before .before .before .before .args .order) r)
@@ -81,7 +81,7 @@ returns-3 c =
     (c .before .before .before .before .before .before .before .before .before .plan-table .ensures))
     (c .before .before .before .before .before .plan-bytes .ensures)
     (omega (arith, c .before .before .before .before .if1 .left, c .before .before .before .before .before .plan-bytes .ensures))
-    (c .before .before .mask-into .ensures)
+    (c .before .before .mask-lean .ensures)
 
 pub mask-table-spec : {M : Type 1} → statement M
 mask-table-spec =
@@ -94,7 +94,7 @@ mask-table-spec =
     enum-known-planned-2
     plan-bytes-requires
     returns-2
-    mask-into-requires
+    mask-lean-requires
     cast-t13
     same-length
     returns-3)
