@@ -24,15 +24,19 @@ outName o = 111 ∷ 117 ∷ 116 ∷ decimal o
 abbrev pub equalsWord : List ℕ
 equalsWord = 61 ∷ []
 
+-- `NOT`
 abbrev pub notWord : List ℕ
 notWord = 78 ∷ 79 ∷ 84 ∷ []
 
+-- `XOR`
 abbrev pub xorWord : List ℕ
 xorWord = 88 ∷ 79 ∷ 82 ∷ []
 
+-- `AND`
 abbrev pub andWord : List ℕ
 andWord = 65 ∷ 78 ∷ 68 ∷ []
 
+-- `RANDOM`
 abbrev pub randomWord : List ℕ
 randomWord = 82 ∷ 65 ∷ 78 ∷ 68 ∷ 79 ∷ 77 ∷ []
 

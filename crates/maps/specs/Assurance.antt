@@ -70,6 +70,7 @@ pub record Calls (s : List ℕ) (o : ℕ) (xs ys ts ps : List ℕ) : Type 0 wher
   pub first : Way o (written table masked) xs ts
   pub second : Way o (written table masked) ys (take (length ts) (tape .after))
 
+-- what then holds of the bytes that the calls left
 pub record Assured (s : List ℕ) (o : ℕ) (xs ys ts ps : List ℕ) (c : Calls s o xs ys ts ps) : Type 0 where
   -- each of the probed wires has the same value in both runs
   pub same-read : readAll (c .second .values .after) ps ≡ readAll (c .first .values .after) ps

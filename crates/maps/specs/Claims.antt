@@ -30,9 +30,11 @@ accepted s o = passed (tableFault s) && (orderOk o && passed (randomFault 0 (tab
 abbrev pub isTape : Gadget → ℕ → Table → List ℕ → Bool
 isTape G o t ts = eqb (length ts) (tapeLong G o t) && allBits ts
 
+-- the secrets that neither 10 nor 11 refuses
 abbrev pub areSecrets : Table → List ℕ → Bool
 areSecrets t xs = eqb (length xs) (t .inputs) && allBits xs
 
+-- every number is below w
 abbrev pub allBelow : ℕ → List ℕ → Bool
 allBelow w [] = true
 allBelow w (p ∷ ps) = ltb p w && allBelow w ps
@@ -46,6 +48,7 @@ unfoldable pub allTapes : ℕ → List (List ℕ)
 allTapes zero = [] ∷ []
 allTapes (suc n) = map (λ ts. 0 ∷ ts) (allTapes n) ++ map (λ ts. 1 ∷ ts) (allTapes n)
 
+-- whether two lists are equal
 abbrev pub same : List ℕ → List ℕ → Bool
 same [] [] = true
 same [] (y ∷ ys) = false

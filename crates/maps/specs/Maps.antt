@@ -91,6 +91,7 @@ mappedAt G o t k xs ys tape =
     (encode o xs (take m tape))
     (encode o ys first)
 
+-- the mapped tape of a probe list
 abbrev pub mapped : Gadget → ℕ → Table → List ℕ → List ℕ → List ℕ → List ℕ → List ℕ
 mapped G o t xs ys tape ps = mappedAt G o t (freeShare G o t ps) xs ys tape
 
@@ -103,6 +104,7 @@ gatesFlips G n k w S (x ∷ xs) v u =
     gateFlips G (x .kind) n k a b v u
     ++ gatesFlips G n k (w + cost (x .kind) n) (S ++ (newShares (x .kind) n w a ∷ [])) xs v u
 
+-- the inputs' flips, then those of the ANDs in table order
 unfoldable pub tapeFlips : Gadget → ℕ → Table → ℕ → List ℕ → List ℕ → List ℕ → List ℕ → List ℕ
 tapeFlips G o t k xs ys vs us =
     let n = sharesOf o in

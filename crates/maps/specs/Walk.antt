@@ -38,6 +38,7 @@ afterGate (UNKNOWN k) m q = q
 abbrev pub gateDiffers : (ℕ → ℕ) → (ℕ → ℕ) → Gate → ℕ
 gateDiffers v u g = differs v u (g .left) (g .right)
 
+-- a gate where a list has none
 abbrev pub noGate : Gate
 noGate = gate RANDOM 0 0
 
@@ -68,6 +69,7 @@ pub record Crosses (w : ℕ) (gs : List Gate) : Type 0 where
   pub one : (getD gs 0 noGate .left < w) × (getD gs 0 noGate .right < w)
   pub other : (getD gs 2 noGate .left < w) × (getD gs 2 noGate .right < w)
 
+-- that, of a random gate; of any other gate nothing
 abbrev pub CrossOf : Kind → ℕ → List Gate → Type 0
 CrossOf NOT w gs = Unit {0}
 CrossOf XOR w gs = Unit {0}

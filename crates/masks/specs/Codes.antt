@@ -10,6 +10,7 @@ use Rattle.masks.specs.Shares.{sharesOf}
 use Rattle.masks.specs.Gadgets.{Gadget}
 use Rattle.masks.specs.Wires.{maskedTable}
 
+-- the XOR of a bit and all bits of a list
 unfoldable pub xorAll : ℕ → List ℕ → ℕ
 xorAll v [] = v
 xorAll v (b ∷ bs) = xorAll (xor v b) bs
@@ -25,6 +26,7 @@ unfoldable pub decodeFrom : ℕ → ℕ → List ℕ → List ℕ
 decodeFrom zero n bs = []
 decodeFrom (suc c) n bs = xorAll 0 (take n bs) ∷ decodeFrom c n (drop n bs)
 
+-- "Decoding XORs n neighbouring outputs"
 unfoldable pub decode : ℕ → List ℕ → List ℕ
 decode o bs = decodeFrom (length bs / suc (2 * o)) (sharesOf o) bs
 

@@ -13,6 +13,7 @@ use Rattle.tables.specs.Runs.{xor}
 pub data Five : Type 0 where
   first second third fourth fifth : Five
 
+-- the five, in order
 abbrev pub allFive : List Five
 allFive = first ∷ second ∷ third ∷ fourth ∷ fifth ∷ []
 
@@ -33,6 +34,7 @@ isIn k (m ∷ ms) = eqb k m || isIn k ms
 abbrev pub differs : (ℕ → ℕ) → (ℕ → ℕ) → ℕ → ℕ → ℕ
 differs v u a b = xor (v a * v b) (u a * u b)
 
+-- what sets one AND apart from another, for a pair i < j
 pub record Gadget : Type 0 where
   -- the gates, from the pair's first wire and the wires of a_i, b_j, a_j and b_i
   pub gates : ℕ → ℕ → ℕ → ℕ → ℕ → Five → Gate

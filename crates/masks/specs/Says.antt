@@ -22,6 +22,7 @@ use Rattle.masks.specs.Codes.{encode, decode}
 abbrev pub orderOk : ℕ → Bool
 orderOk o = leb 1 o && leb o 15
 
+-- 6 where the order is not 1 to 15
 abbrev pub orderFault : ℕ → Fault
 orderFault o = refusedIf (not (orderOk o)) 6
 

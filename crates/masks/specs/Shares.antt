@@ -23,6 +23,7 @@ pub record Pair : Type 0 where
   pub lower : ℕ
   pub upper : ℕ
 
+-- the pair of two shares
 abbrev pub pairOf : ℕ → ℕ → Pair
 pairOf i j = record { lower = i; upper = j }
 
@@ -31,6 +32,7 @@ unfoldable pub pairsFrom : ℕ → ℕ → List Pair
 pairsFrom zero i = []
 pairsFrom (suc c) i = upFrom c (suc i) (λ j. pairOf i j) ++ pairsFrom c (suc i)
 
+-- "ordered (1,2), (1,3), .., (n−1,n)"
 abbrev pub pairs : ℕ → List Pair
 pairs n = pairsFrom n 0
 

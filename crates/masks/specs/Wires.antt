@@ -36,12 +36,15 @@ pub record Wire : Type 0 where
   pub driver : Gate
   pub origin : Origin
 
+-- a wire by its gate and where it comes from
 abbrev pub wire : Gate → Origin → Wire
 wire g o = record { driver = g; origin = o }
 
+-- the gate that drives a wire
 abbrev pub driverOf : Wire → Gate
 driverOf x = x .driver
 
+-- where a wire comes from
 abbrev pub originOf : Wire → Origin
 originOf x = x .origin
 
@@ -126,6 +129,7 @@ newShares (UNKNOWN k) n w a = []
 abbrev pub inputShares : ℕ → ℕ → List (List ℕ)
 inputShares n m = upFrom m 0 (λ i. upFrom n (n * i) (λ w. w))
 
+-- where the inputs' wires come from
 unfoldable pub inputOrigins : ℕ → ℕ → List Origin
 inputOrigins n m = inTurn n 0 (upFrom m 0 (λ i. i)) (λ w i. upFrom n 0 (λ s. inputShare i s))
 
@@ -155,6 +159,7 @@ unfoldable pub outputShares : List (List ℕ) → List ℕ → List ℕ
 outputShares S [] = []
 outputShares S (o ∷ os) = getD S o [] ++ outputShares S os
 
+-- the masked table of a plain one
 unfoldable pub maskedTable : Gadget → ℕ → Table → Table
 maskedTable G o t =
     let n = sharesOf o in

@@ -15,6 +15,7 @@ pub record Fault : Type 0 where
   pub number : ℕ
   pub place : ℕ
 
+-- a fault by its number and place
 abbrev pub fault : ℕ → ℕ → Fault
 fault n p = record { number = n; place = p }
 

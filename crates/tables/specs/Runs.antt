@@ -6,6 +6,7 @@ use Prim.Native.Nat.{ℕ, zero, suc, _+_, _-_, _*_, _%_}
 use lib.ListN.{getD, drop, length}
 use Rattle.tables.specs.Tables.{Kind, NOT, XOR, AND, RANDOM, UNKNOWN, Gate, Table}
 
+-- the XOR of two bits
 abbrev pub xor : ℕ → ℕ → ℕ
 xor a b = (a + b) % 2
 
@@ -32,6 +33,7 @@ runFrom (g ∷ gs) rs vs =
     runFrom gs (drop (drawn (g .kind)) rs)
     (vs ++ (driven (g .kind) (g .left) (g .right) (λ w. getD vs w 0) (getD rs 0 0) ∷ []))
 
+-- a run of a table on its inputs and random bits
 unfoldable pub run : Table → List ℕ → List ℕ → List ℕ
 run t xs rs = runFrom (t .gates) rs xs
 
@@ -40,6 +42,7 @@ unfoldable pub readAll : List ℕ → List ℕ → List ℕ
 readAll vs [] = []
 readAll vs (w ∷ ws) = getD vs w 0 ∷ readAll vs ws
 
+-- the values of a table's outputs
 abbrev pub outputsOf : Table → List ℕ → List ℕ
 outputsOf t vs = readAll vs (t .outputs)
 

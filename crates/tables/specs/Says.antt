@@ -64,6 +64,7 @@ leftLimit AND w = w
 leftLimit RANDOM w = 1
 leftLimit (UNKNOWN k) w = w
 
+-- the same of the right operand
 abbrev pub rightLimit : Kind → ℕ → ℕ
 rightLimit NOT w = 1
 rightLimit XOR w = w

@@ -14,6 +14,7 @@ pub data Kind : Type 0 where
   NOT XOR AND RANDOM : Kind
   UNKNOWN : ℕ → Kind
 
+-- the kind that a byte states
 abbrev pub kindOf : ℕ → Kind
 kindOf zero = NOT
 kindOf (suc zero) = XOR
@@ -21,6 +22,7 @@ kindOf (suc (suc zero)) = AND
 kindOf (suc (suc (suc zero))) = RANDOM
 kindOf (suc (suc (suc (suc k)))) = UNKNOWN (suc (suc (suc (suc k))))
 
+-- the byte of a kind
 abbrev pub kindByte : Kind → ℕ
 kindByte NOT = 0
 kindByte XOR = 1
@@ -34,15 +36,17 @@ pub record Gate : Type 0 where
   pub left : ℕ
   pub right : ℕ
 
+-- a gate by its kind and operands
 abbrev pub gate : Kind → ℕ → ℕ → Gate
 gate k l r = record { kind = k; left = l; right = r }
 
--- "Inputs are wires 0 to I−1; gate g (from 0) drives wire I+g"
+-- how many wires a table has: "Inputs are wires 0 to I−1; gate g (from 0) drives wire I+g"
 pub record Table : Type 0 where
   pub inputs : ℕ
   pub gates : List Gate
   pub outputs : List ℕ
 
+-- how many wires a table has: "Inputs are wires 0 to I−1; gate g (from 0) drives wire I+g"
 abbrev pub wires : Table → ℕ
 wires t = t .inputs + length (t .gates)
 
@@ -50,6 +54,7 @@ wires t = t .inputs + length (t .gates)
 abbrev pub word : List ℕ → ℕ → ℕ
 word s i = getD s i 0 + 256 * getD s (suc i) 0
 
+-- "All fields of two bytes have the low byte first"
 abbrev pub two : ℕ → List ℕ
 two v = v % 256 ∷ v / 256 ∷ []
 
@@ -74,18 +79,22 @@ tableOf s =
       outputs = wordsFrom (word s 4) (drop (6 + 5 * g) s);
     }
 
+-- "G kinds of one byte"
 unfoldable pub kindBytes : List Gate → List ℕ
 kindBytes [] = []
 kindBytes (g ∷ gs) = kindByte (g .kind) ∷ kindBytes gs
 
+-- "then G operand pairs (left, right), two bytes each"
 unfoldable pub pairBytes : List Gate → List ℕ
 pairBytes [] = []
 pairBytes (g ∷ gs) = two (g .left) ++ (two (g .right) ++ pairBytes gs)
 
+-- "O output wires, two bytes each"
 unfoldable pub wordBytes : List ℕ → List ℕ
 wordBytes [] = []
 wordBytes (w ∷ ws) = two w ++ wordBytes ws
 
+-- a table as bytes
 unfoldable pub tableBytes : Table → List ℕ
 tableBytes t =
     two (t .inputs)
@@ -118,6 +127,7 @@ abbrev pub gateFault : ℕ → ℕ → Gate → Fault
 gateFault i w g =
     pick (known (g .kind)) (pick (operandsOk w (g .kind) (g .left) (g .right)) none (fault 4 i)) (fault 3 i)
 
+-- the first faulty gate, where the gates drive the wires from w on
 unfoldable pub gatesFault : ℕ → ℕ → List Gate → Fault
 gatesFault i w [] = none
 gatesFault i w (g ∷ gs) = orElse (gateFault i w g) (gatesFault (suc i) (suc w) gs)
@@ -153,6 +163,7 @@ isRandom AND = false
 isRandom RANDOM = true
 isRandom (UNKNOWN k) = false
 
+-- 7 at the first random gate
 unfoldable pub randomFault : ℕ → List Gate → Fault
 randomFault i [] = none
 randomFault i (g ∷ gs) = pick (isRandom (g .kind)) (fault 7 i) (randomFault (suc i) gs)
@@ -165,6 +176,7 @@ ofKind b AND = pick (eqb b 2) 1 0
 ofKind b RANDOM = pick (eqb b 3) 1 0
 ofKind b (UNKNOWN k) = 0
 
+-- how many gates are of a kind
 unfoldable pub countKind : ℕ → List Gate → ℕ
 countKind b [] = 0
 countKind b (g ∷ gs) = ofKind b (g .kind) + countKind b gs

@@ -41,6 +41,7 @@ sumBytes last (z ∷ zs) = (two last ++ two z) ++ sumBytes (suc last) zs
 abbrev pub highWires : ℕ → ℕ → ℕ → List ℕ
 highWires n w i = upFrom i 0 (λ j. pairWire w (isw .high) (pairAt n j i))
 
+-- the wires that a row adds of pairs of which it is the lower share
 abbrev pub lowWires : ℕ → ℕ → List ℕ
 lowWires m z = upFrom m 0 (pairWire z (isw .low))
 
@@ -48,6 +49,7 @@ lowWires m z = upFrom m 0 (pairWire z (isw .low))
 abbrev pub rowBytes : ℕ → ℕ → ℕ → List ℕ → List ℕ → ℕ → List ℕ
 rowBytes n w v a b i = operandBytes (rowWires 0 a b (row n (pairWire w (isw .low)) (pairWire w (isw .high))) v i)
 
+-- the operands of all rows
 abbrev pub allRows : ℕ → ℕ → ℕ → List ℕ → List ℕ → List ℕ
 allRows n w v a b =
     operandBytes
@@ -62,6 +64,7 @@ times (suc c) xs = xs ++ times c xs
 abbrev pub pairKinds : List ℕ
 pairKinds = 3 ∷ 2 ∷ 1 ∷ 2 ∷ 1 ∷ []
 
+-- the kinds of a row: its own product, then the sums
 abbrev pub rowKinds : ℕ → List ℕ
 rowKinds n = 2 ∷ replicate (n - 1) 1
 
