@@ -93,16 +93,19 @@ write-outputs-requires c κs =
     let x = c .before .before .before .before .before .before .before .write-kinds .last .1 .1 .1 .1 .0 in
     let y = c .before .before .before .write-operands .last .1 .1 .1 .1 .1 .1 .1 .1 .1 .0 in
     outputs-asked (pre .0) (pre .1) (operandsBack p (kindsBack p
-    (c .before .before .before .before .before .before .before .before .before .before .before .before .before .before .before .before .args .out .now) x) y) kept₂
+    (c .before .before .before .before .before .before .before .before .before .before .before .before .before .before .before .before
+    .args .out .now) x) y) kept₂
 
 same-length : tie.Need-same-length
 same-length c = search needs
 
 returns : tie.Need-returns
 returns c =
-    let pre = c .before .before .before .before .before .before .before .before .before .before .before .before .before .before .before .before .before .before .before .pre in
+    let pre = c .before .before .before .before .before .before .before .before .before .before .before .before .before .before .before
+    .before .before .before .before .pre in
     parts-back (pre .0) (pre .1)
-    (c .before .before .before .before .before .before .before .before .before .before .before .before .before .before .before .before .before .before .before .args .out .now)
+    (c .before .before .before .before .before .before .before .before .before .before .before .before .before .before .before .before
+    .before .before .before .args .out .now)
     (pre .2)
     (c .before .before .before .before .before .before .before .before .before .before .write-kinds .ensures)
     (c .before .before .before .before .before .before .write-operands .ensures) (c .before .before .write-outputs .ensures)

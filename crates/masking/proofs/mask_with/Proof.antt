@@ -16,25 +16,35 @@ mul-inputs c = let m = plan-numbers
 
 sub-put-sizes : tie.Need-sub-put-sizes
 sub-put-sizes c = plan-numbers
-    (c .before .before .before .before .before .before .before .before .before .before .before .before .before .before .before .before .before .before .pre .0) .inputs
+    (c .before .before .before .before .before .before .before .before .before .before .before .before .before .before .before .before
+    .before .before .pre .0) .inputs
 
 mul-put-sizes : tie.Need-mul-put-sizes
 mul-put-sizes c = let m = plan-numbers
-    (c .before .before .before .before .before .before .before .before .before .before .before .before .before .before .before .before .before .before .before .pre .0) in omega
+    (c .before .before .before .before .before .before .before .before .before .before .before .before .before .before .before .before
+    .before .before .before .pre .0) in omega
     (arith, m .outputs)
 
 put-sizes-requires : tie.Need-put-sizes-requires
 put-sizes-requires c κs = let m = plan-numbers
-    (c .before .before .before .before .before .before .before .before .before .before .before .before .before .before .before .before .before .before .before .pre .0) in omega
-    (arith, m .inputs, m .wires, m .outputs, c .before .before .before .before .before .before .before .before .before .before .before .before .before .before .before .before .before .before .before .pre .2)
+    (c .before .before .before .before .before .before .before .before .before .before .before .before .before .before .before .before
+    .before .before .before .pre .0) in omega (
+      arith,
+      m .inputs,
+      m .wires,
+      m .outputs,
+      c .before .before .before .before .before .before .before .before .before .before .before
+          .before .before .before .before .before .before .before .before .pre .2,
+    )
 
 mask-gates-requires : tie.Need-mask-gates-requires
-mask-gates-requires c κs = let pre = c .before .before .before .before .before .before .before .before .before .before .before .before .before .before .before .before .before .before .before .before .before .before .before .before .before .before .pre in (
-  pre .0,
-  c .before .before .before .before .before .before .before .before .before .before .before .before .before .before .before .before .before .locate .ensures,
-  omega
-      (arith, pre .2, c .before .before .before .before .before .before .put-sizes .kept .0),
-)
+mask-gates-requires c κs = let pre = c .before .before .before .before .before .before .before .before .before .before .before .before
+    .before .before .before .before .before .before .before .before .before .before .before .before .before .before .pre in (
+      pre .0,
+      c .before .before .before .before .before .before .before .before .before .before .before .before .before .before .before .before .before .locate .ensures,
+      omega
+          (arith, pre .2, c .before .before .before .before .before .before .put-sizes .kept .0),
+    )
 
 same-length : tie.Need-same-length
 same-length c = search needs
@@ -49,7 +59,8 @@ same-length-4 : tie.Need-same-length-4
 same-length-4 c = search needs
 
 returns : tie.Need-returns
-returns c = let pre = c .before .before .before .before .before .before .before .before .before .before .before .before .before .before .before .before .before .before .before .before .before .before .before .before .before .before .before .before .before .pre in whole-back
+returns c = let pre = c .before .before .before .before .before .before .before .before .before .before .before .before .before .before
+    .before .before .before .before .before .before .before .before .before .before .before .before .before .before .before .pre in whole-back
     (pre .0) _ (pre .2) (c .before .before .before .before .before .before .before .before .before .put-sizes .ensures)
     (c .before .before .mask-gates .ensures)
 

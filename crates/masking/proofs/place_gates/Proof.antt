@@ -96,19 +96,23 @@ add-w c = let f = facts
 
 add-g : tie.Need-add-g Inv-loop μ-loop
 add-g c = let f = facts
-    (c .before .before .before .before .before .before .before .before .before .before .before .before .before .before .before .before .before .before) in omega arith
+    (c .before .before .before .before .before .before .before .before .before .before .before .before .before .before .before .before
+    .before .before) in omega arith
 
 loop-less : tie.Need-loop-less Inv-loop μ-loop
 loop-less c = let f = facts
-    (c .before .before .before .before .before .before .before .before .before .before .before .before .before .before .before .before .before .before) in omega arith
+    (c .before .before .before .before .before .before .before .before .before .before .before .before .before .before .before .before
+    .before .before) in omega arith
 
 loop-again : tie.Need-loop-again Inv-loop μ-loop
 loop-again c =
     let put = c .before .before .before .before .before .before .before .put-places .ensures in
     let new = c .before .before .before .before .before .before .before .before .before .before .before .new-places .ensures .0 in
     let old = c .before .before .before .before .before .before .before .before .before .before .before .before .places-at .ensures .0 in
-    let left = c .before .before .before .before .before .before .before .before .before .before .before .before .before .before .before .before .field .ensures .0 in
-    let at = c .before .before .before .before .before .before .before .before .before .before .before .before .before .before .before .before .before .before in
+    let left = c .before .before .before .before .before .before .before .before .before .before .before .before .before .before
+    .before .before .field .ensures .0 in
+    let at = c .before .before .before .before .before .before .before .before .before .before .before .before .before .before .before
+    .before .before .before in
     let inv = at .before .loop .inv in
     (placing-turn (inv .0) (at .loop-test .taken) left old new put (c .gate-cost .ensures), same-put (inv .1) put)
 

@@ -46,7 +46,7 @@ write-kinds-of-requires c κs =
     (fine .kind, omega (arith, shareable-sized (P .shareable) .some-shares), kinds-room P more, P .xors)
 
 gate-cost-requires : tie.Need-gate-cost-requires Inv-loop μ-loop
-gate-cost-requires c κs = shareable-sized (c .before .before .before .before .before .before .loop .inv .shareable) .few-shares
+gate-cost-requires c κs = omega (arith, shareable-sized (c .before .before .before .before .before .before .loop .inv .shareable) .few-shares)
 
 add-at : tie.Need-add-at Inv-loop μ-loop
 add-at c =

@@ -114,7 +114,14 @@ add-at : tie.Need-add-at Inv-loop μ-loop
 add-at c =
     let room = operands-room (c .before .before .before .before .before .before .before .before .before .before .before .loop .inv)
     (c .before .before .before .before .before .before .before .before .before .before .loop-test .taken) in
-    omega (arith, c .gate-cost .ensures, c .before .before .before .before .before .before .before .before .before .before .before .loop .inv .left .long, c .before .before .before .before .before .before .before .before .before .before .before .before .before .before .before .before .before .good)
+    omega (
+      arith,
+      c .gate-cost .ensures,
+      c .before .before .before .before .before .before .before .before .before .before .before
+          .loop .inv .left .long,
+      c .before .before .before .before .before .before .before .before .before .before .before .before
+          .before .before .before .before .before .good,
+    )
 
 add-g : tie.Need-add-g Inv-loop μ-loop
 add-g c = let f = facts (c .before .before .before .before .before .before .before .before .before .before) in omega arith

@@ -91,7 +91,8 @@ field-requires-2 c κs = omega (
 
 read-outputs-requires : tie.Need-read-outputs-requires
 read-outputs-requires c κs =
-    let args = c .before .before .before .before .before .before .before .before .before .before .before .before .before .before .before .before .before .before .before .before .args in
+    let args = c .before .before .before .before .before .before .before .before .before .before .before .before .before .before
+    .before .before .before .before .before .before .args in
     outputs-ready _ _ _ (args .values .now) (args .outputs .now) (good
     (c .before .before .before .before .before .before .before .before .before .before .before .before)) _ _ _
     (values-are (c .before .before .before .before .before))
@@ -100,7 +101,8 @@ read-outputs-requires c κs =
 
 add-t16 : tie.Need-add-t16
 add-t16 c =
-    let args = c .before .before .before .before .before .before .before .before .before .before .before .before .before .before .before .before .before .before .before .before .before .before .before .args in
+    let args = c .before .before .before .before .before .before .before .before .before .before .before .before .before .before
+    .before .before .before .before .before .before .before .before .before .args in
     omega (
       arith,
       few-wires _ _ _ (args .values .now) (args .outputs .now) (good
@@ -110,7 +112,8 @@ add-t16 c =
 
 cast-t21 : tie.Need-cast-t21
 cast-t21 c =
-    let args = c .before .before .before .before .before .before .before .before .before .before .before .before .before .before .before .before .before .before .before .before .before .before .before .args in
+    let args = c .before .before .before .before .before .before .before .before .before .before .before .before .before .before
+    .before .before .before .before .before .before .before .before .before .args in
     omega (
       arith,
       few-wires _ _ _ (args .values .now) (args .outputs .now) (good
@@ -119,18 +122,21 @@ cast-t21 c =
     )
 
 same-length : tie.Need-same-length
-same-length c = c .before .before .before .before .before .before .before .before .run-gates .kept .1 .1 .1 .1 .0 ∙ c .before .before .before .before .before .before .before .before .before .before .before .before .copy-bits .kept .1 .0
+same-length c = c .before .before .before .before .before .before .before .before .run-gates .kept .1 .1 .1 .1 .0 ∙ c .before .before
+    .before .before .before .before .before .before .before .before .before .before .copy-bits .kept .1 .0
 
 same-length-2 : tie.Need-same-length-2
 same-length-2 c = c .before .before .read-outputs .kept .1 .1 .1 .1 .0
 
 returns-2 : tie.Need-returns-2
 returns-2 c =
-    let args = c .before .before .before .before .before .before .before .before .before .before .before .before .before .before .before .before .before .before .before .before .before .before .before .args in
+    let args = c .before .before .before .before .before .before .before .before .before .before .before .before .before .before
+    .before .before .before .before .before .before .before .before .before .args in
     let gates = c .before .before .before .before .before .before .before .before .before .before .before .before .before .before .field .ensures .0 in
     let values = values-are (c .before .before .before .before .before .before .before .before) in
     run-done _ _ _ (args .values .now) _ (args .outputs .now) _ _
-    (refused-passed _ _ (c .before .before .before .before .before .before .before .before .before .before .before .before .before .before .before .before .before .run-fault .ensures)
+    (refused-passed _ _ (c .before .before .before .before .before .before .before .before .before .before .before .before .before
+    .before .before .before .before .run-fault .ensures)
     (c .before .before .before .before .before .before .before .before .before .before .before .before .before .before .before .if1 .left))
     values
     (run-outputs _ _ _ (args .values .now) (args .outputs .now) (good
