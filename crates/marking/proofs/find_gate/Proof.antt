@@ -1,4 +1,4 @@
--- `masks::find_gate` meets its contract. The invariant, `Seeking`, says that the wire is among the new wires of the gates left.
+-- `marking::find_gate` meets its contract. The invariant, `Seeking`, says that the wire is among the new wires of the gates left.
 -- Assumes nothing.
 use Prim.Native.Nat.{_+_, _-_, _/_}
 use native.Mathlib.Omega.{arith}

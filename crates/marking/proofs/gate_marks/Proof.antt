@@ -1,4 +1,4 @@
--- `masks::gate_marks` meets its contract, kind by kind.
+-- `marking::gate_marks` meets its contract, kind by kind.
 -- Assumes nothing.
 use native.Mathlib.Omega.{arith}
 use Rattle.marking.proofs.Carrying.{not-marks, xor-below, xor-marks, and-below, and-marks, among-more}

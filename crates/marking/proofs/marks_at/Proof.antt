@@ -1,4 +1,4 @@
--- `masks::marks_at` meets its contract: an input share by its number, any other wire by its gate.
+-- `marking::marks_at` meets its contract: an input share by its number, any other wire by its gate.
 -- Assumes nothing.
 use native.Mathlib.Nat.{mod-lt}
 use native.Mathlib.Omega.{arith}

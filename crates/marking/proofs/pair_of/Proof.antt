@@ -1,4 +1,4 @@
--- `masks::pair_of` meets its contract. The invariant, `PairLeft`, says where the pair stands among the pairs left to pass.
+-- `marking::pair_of` meets its contract. The invariant, `PairLeft`, says where the pair stands among the pairs left to pass.
 -- Assumes nothing.
 use native.Mathlib.Omega.{arith}
 use Rattle.marking.proofs.Finding.{PairLeft, pair-start, pair-some, pair-turn, pair-end}

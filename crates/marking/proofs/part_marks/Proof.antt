@@ -1,4 +1,4 @@
--- `masks::part_marks` meets its contract, case by case.
+-- `marking::part_marks` meets its contract, case by case.
 -- Assumes nothing.
 use native.Mathlib.Omega.{arith}
 use borrow.Author.Needs.{needs}

@@ -1,4 +1,4 @@
--- `masks::wire_marks` meets its contract: the plan's refusal, 13, or the share numbers.
+-- `marking::wire_marks` meets its contract: the plan's refusal, 13, or the share numbers.
 -- Assumes nothing.
 use borrow.Author.Needs.{needs}
 use Rattle.marking.proofs.Ready.{ready-own}
