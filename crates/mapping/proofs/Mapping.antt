@@ -11,7 +11,7 @@ use Rattle.tables.specs.Tables.{tableOf, tableBytes}
 use Rattle.tables.specs.Says.{over}
 use Rattle.masks.specs.Gadgets.{isw}
 use Rattle.masks.specs.Wires.{maskedTable}
-use Rattle.masking.proofs.Masked.{bytes-are}
+use Rattle.assembling.proofs.Fitting.{bytes-are}
 use Rattle.sizing.specs.declared.Plan as DP
 use Rattle.sizing.specs.Plans.{PlanReady, planBytes}
 use Rattle.sizing.proofs.Planning.{plan-fits}

@@ -178,7 +178,7 @@ fn map_with(
     let order = p.shares / 2;
     let place = 2 * order * p.inputs;
     let bytes = sizing::plan_bytes(p);
-    masking::mask_into(table, p, masked);
+    assembling::mask_into(table, p, masked);
     begin_runs(order, k, first, second, &tape[..place], mapped, one, other);
     walk_plan(
         &masked[..bytes],

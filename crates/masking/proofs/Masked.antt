@@ -1,62 +1,23 @@
 -- From a plan to masking's answer: the plan's refusal, 9, or the masked table written.
 -- Assumes nothing.
-use mathlib.Core.Path.{_≡_, refl, sym, ap, _∙_, subst}
+use mathlib.Core.Path.{_≡_, sym, ap, _∙_}
 use mathlib.Core.Bool.{true, false}
 use mathlib.Core.List.{List}
-use Prim.Native.Nat.{ℕ, _+_, _/_, _≤_, _<_}
+use Prim.Native.Nat.{ℕ, _/_, _≤_, _<_}
 use native.Mathlib.Omega.{arith}
 use borrow.Author.Tests.{lt-ltb, le-ltb}
 use lib.Dec.{ltb}
-use lib.ListN.{length, replicate, length-replicate}
+use lib.ListN.{length}
 use Rattle.tables.specs.declared.Refusal as DR
-use Rattle.tables.specs.Refusals.{fault, none, passed, orElse, refusedIf}
-use Rattle.tables.specs.Tables.{tableOf, tableFault, randomFault, tableBytes}
+use Rattle.tables.specs.Refusals.{fault, none}
+use Rattle.tables.specs.Tables.{tableOf, tableBytes}
 use Rattle.tables.specs.Says.{over}
-use Rattle.tables.proofs.Tests.{both-passed}
-use Rattle.tables.proofs.Accept.{accepted-sized}
 use Rattle.masks.specs.Gadgets.{isw}
 use Rattle.masks.specs.Wires.{maskedTable}
-use Rattle.masks.specs.Says.{orderFault, tooMany, plainFault, maskFault, MaskSays}
+use Rattle.masks.specs.Says.{plainFault, maskFault, MaskSays}
 use Rattle.sizing.specs.declared.Plan as DP
 use Rattle.sizing.specs.Plans.{PlanRefused, PlanReady, planBytes}
-use Rattle.masking.specs.Masking.{Room}
-use Rattle.masking.proofs.Assembled.{masked-bytes, bytes-long, plan-numbers}
-
--- three cleared arrays have room
-pub room-of : (c k : ℕ) → c ≤ k → Room c (replicate k 0) (replicate k 0) (replicate k 0)
-room-of c k h =
-    let l = length-replicate {A = ℕ} k 0 in
-    record { firsts = omega arith; bases = omega arith; steps = omega arith }
-
-table-passed : (s : List ℕ) (o : ℕ) → passed (plainFault s o) ≡ true → passed (tableFault s) ≡ true
-unfolding plainFault
-table-passed s o h =
-    let t = tableOf s in
-    both-passed (tableFault s)
-    (orElse (orderFault o) (orElse (randomFault 0 (t .gates)) (refusedIf (tooMany o t) 8)))
-    h
-    .0
-
--- a plan's plain wires
-pub plan-plain : {s : List ℕ} {o : ℕ} {p : DP.Plan} → PlanReady s o p → p .inputs + p .gates ≤ 65535
-plan-plain {s} {o} {p} R =
-    let few = accepted-sized s (table-passed s o (R .passes)) .0 in omega (arith, R .inputs, R .gates)
-
--- a plan states its order by its shares
-own-order : {s : List ℕ} {o : ℕ} {p : DP.Plan} → PlanReady s o p → p .shares / 2 ≡ o
-own-order R = omega (arith, R .shares)
-
-pub plan-own : {s : List ℕ} {o : ℕ} {p : DP.Plan} → PlanReady s o p → PlanReady s (p .shares / 2) p
-plan-own {s} {o} {p} R = subst (λ (y : ℕ). PlanReady s y p) (sym (own-order R)) R
-
-pub bytes-are :
-    {s : List ℕ} {o : ℕ} {p : DP.Plan} → PlanReady s o p
-    → length (tableBytes (maskedTable isw o (tableOf s))) ≡ planBytes p
-bytes-are {s} {o} {p} R =
-    let t = tableOf s in
-    let Q = plan-own R in
-    subst (λ (y : ℕ). length (tableBytes (maskedTable isw y t)) ≡ planBytes p) (own-order R)
-    (ap length (masked-bytes (p .shares) t (Q .shares)) ∙ bytes-long (plan-numbers Q .counts))
+use Rattle.assembling.proofs.Fitting.{own-order, bytes-are}
 
 pub mask-refused :
     {s : List ℕ} {o : ℕ} {b : List ℕ} {r : DR.Refusal} → PlanRefused s o r

@@ -6,7 +6,8 @@ use borrow.Author.Needs.{needs}
 use Rattle.sizing.specs.declared.Planned.{Planned}
 use Rattle.sizing.specs.Plans.{PlanSays}
 use Rattle.sizing.proofs.Planning.{plan-fits}
-use Rattle.masking.proofs.Masked.{plan-own, mask-refused, mask-short, mask-done}
+use Rattle.assembling.proofs.Fitting.{plan-own}
+use Rattle.masking.proofs.Masked.{mask-refused, mask-short, mask-done}
 use Rattle.masking.proofs.mask_table.Statement.{statement}
 use Rattle.masking.proofs.mask_table.Tie as tie
 

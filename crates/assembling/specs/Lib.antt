@@ -1,0 +1,2 @@
+-- What the parts of masking take and give.
+pub mod Masking

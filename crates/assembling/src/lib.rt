@@ -1,0 +1,364 @@
+// The masked table of a plan: where the shares of every wire are, and its bytes.
+ghost use mathlib.Core.Path.{_≡_};
+ghost use Prim.Native.Nat.{_+_, _*_, _/_, _≤_, _<_, _-_};
+ghost use lib.ListN.{length};
+ghost use Rattle.tables.specs.Tables.{kindOf, wordBytes, word, tableOf, two, kindBytes, pairBytes, tableBytes};
+ghost use Rattle.masks.specs.Wires.{cost, totalOf, newShares, inputShares, outputShares, maskedTable};
+ghost use Rattle.writing.specs.Layout.{listed, LowShares};
+ghost use Rattle.assembling.specs.Masking.{Shareable, placesAt, Small, sharesBy, Room, Put};
+ghost use Rattle.assembling.specs.Masking.{Located, allShares, gateWire, stretch, maskedGates, afterSizes};
+ghost use Rattle.tables.specs.Refusals.{pick};
+ghost use Rattle.tables.specs.Says.{putAt, over};
+ghost use Rattle.sizing.specs.Plans.{PlanReady, planBytes};
+ghost use mathlib.Core.List.{[], _++_};
+ghost use Rattle.masks.specs.Gadgets.{isw};
+
+// Where the shares of plain wire p are.
+fn places_at(first: &[u16], base: &[u16], step: &[u16], p: usize) -> writing::Places
+    requires { ⌜ Room (p + 1) (now first) (now base) (now step) ⌝ }
+    ensures { λ r. ⌜ (r ≡ placesAt (now (first .entry)) (now (base .entry)) (now (step .entry)) p) × Small r ⌝ }
+{
+    writing::Places {
+        first: first[p] as usize,
+        base: base[p] as usize,
+        step: step[p] as usize,
+    }
+}
+
+// One of two numbers, by a test.
+fn either(test: bool, yes: usize, no: usize) -> usize
+    ensures { λ r. ⌜ r ≡ pick test yes no ⌝ }
+{
+    if test {
+        return yes;
+    }
+    no
+}
+
+// Where the shares of a plain gate's result are, where its first wire is w and its left operand's shares are at a.
+fn new_places(kind: u8, n: usize, w: usize, a: writing::Places) -> writing::Places
+    requires { ⌜ (kind < 3) × (1 ≤ n) × (n ≤ 31) × (w + cost (kindOf kind) n ≤ 65535) × Small a ⌝ }
+    ensures { λ r. ⌜ (listed n r ≡ newShares (kindOf kind) n w (listed n a)) × Small r ⌝ }
+{
+    let last = w + 5 * sizing::pair_count(n) + (n - 1);
+    let base = either(kind == 1, w + 1, last + n);
+    let step = either(kind == 1, 1, n);
+    writing::Places {
+        first: either(kind == 2, last, w),
+        base: either(kind == 0, a.base, base),
+        step: either(kind == 0, a.step, step),
+    }
+}
+
+// Notes where the shares of plain wire p are.
+fn put_places(first: &mut [u16], base: &mut [u16], step: &mut [u16], p: usize, a: writing::Places)
+    requires { ⌜ Room (p + 1) (now first) (now base) (now step) × Small a ⌝ }
+    ensures { λ _. ⌜ Put p a (now (first .entry)) (now (base .entry)) (now (step .entry)) (now (first .exit)) (now (base .exit))
+        (now (step .exit)) ⌝ }
+{
+    first[p] = a.first as u16;
+    base[p] = a.base as u16;
+    step[p] = a.step as u16;
+}
+
+// Share s of input i is on wire n·i + s − 1.
+fn place_inputs(n: usize, inputs: usize, first: &mut [u16], base: &mut [u16], step: &mut [u16])
+    requires { ⌜ (1 ≤ n) × (n * inputs ≤ 65535) × Room inputs (now first) (now base) (now step) ⌝ }
+    ensures { λ _. ⌜ sharesBy n (now (first .exit)) (now (base .exit)) (now (step .exit)) inputs ≡ inputShares n inputs ⌝ }
+{
+    let mut w = 0;
+    let mut i = 0;
+    while i < inputs {
+        let a = writing::Places {
+            first: w,
+            base: w + 1,
+            step: 1,
+        };
+        put_places(first, base, step, i, a);
+        w += n;
+        i += 1;
+    }
+}
+
+// Where the shares of every gate's result are, gate by gate.
+fn place_gates(
+    table: &[u8],
+    inputs: usize,
+    gates: usize,
+    n: usize,
+    first: &mut [u16],
+    base: &mut [u16],
+    step: &mut [u16],
+)
+    requires { ⌜ Shareable (now table) n × (inputs ≡ word (now table) 0) × (gates ≡ word (now table) 2)
+        × Room (inputs + gates) (now first) (now base) (now step)
+        × (sharesBy n (now first) (now base) (now step) inputs ≡ inputShares n inputs) ⌝ }
+    ensures { λ _. ⌜ Located (tableOf (now (table .entry))) n (now (first .exit)) (now (base .exit)) (now (step .exit)) ⌝ }
+{
+    let mut w = n * inputs;
+    let mut g = 0;
+    while g < gates {
+        let kind = table[6 + g];
+        let left = tables::field(table, 6 + gates + 4 * g);
+        let a = places_at(first, base, step, left);
+        let r = new_places(kind, n, w, a);
+        put_places(first, base, step, inputs + g, r);
+        w += sizing::gate_cost(kind, n);
+        g += 1;
+    }
+}
+
+// Writes the kinds of the masked gates of the plain gates from..to: those of XOR gates everywhere, then what is none.
+fn write_kinds(table: &[u8], from: usize, to: usize, n: usize, kinds: &mut [u8])
+    requires { ⌜ Shareable (now table) n × (from ≤ to) × (to ≤ word (now table) 2)
+        × (totalOf (λ k. cost k n) (stretch (tableOf (now table)) from to) ≡ length (now kinds)) ⌝ }
+    ensures { λ _. ⌜ now (kinds .exit)
+        ≡ over (kindBytes (maskedGates n 0 [] (stretch (tableOf (now (table .entry))) from to))) (now (kinds .entry)) ⌝ }
+{
+    let room = kinds.len();
+    writing::write_xor_kinds(kinds, 0, room);
+    let mut at = 0;
+    let mut g = from;
+    while g < to {
+        let kind = table[6 + g];
+        writing::write_kinds_of(kind, n, kinds, at);
+        at += sizing::gate_cost(kind, n);
+        g += 1;
+    }
+}
+
+// Writes the operands of the masked gates of the plain gates from..to, the first of which begins at wire w.
+fn write_operands(
+    table: &[u8],
+    gates: usize,
+    from: usize,
+    to: usize,
+    n: usize,
+    w: usize,
+    first: &[u16],
+    base: &[u16],
+    step: &[u16],
+    ops: &mut [u8],
+)
+    requires { ⌜ Shareable (now table) n × (gates ≡ word (now table) 2) × (from ≤ to) × (to ≤ gates)
+        × (w ≡ gateWire n (tableOf (now table)) from) × Located (tableOf (now table)) n (now first) (now base) (now step)
+        × (4 * totalOf (λ k. cost k n) (stretch (tableOf (now table)) from to) ≤ length (now ops)) ⌝ }
+    ensures { λ _. ⌜ now (ops .exit) ≡ over (pairBytes (maskedGates n w
+        (sharesBy n (now (first .entry)) (now (base .entry)) (now (step .entry)) (tableOf (now (table .entry)) .inputs + from))
+        (stretch (tableOf (now (table .entry))) from to))) (now (ops .entry)) ⌝ }
+{
+    let mut next = w;
+    let mut at = 0;
+    let mut g = from;
+    while g < to {
+        let kind = table[6 + g];
+        let left = tables::field(table, 6 + gates + 4 * g);
+        let right = tables::field(table, 8 + gates + 4 * g);
+        let a = places_at(first, base, step, left);
+        let b = places_at(first, base, step, right);
+        writing::write_operands_of(kind, n, next, a, b, ops, at);
+        let new = sizing::gate_cost(kind, n);
+        next += new;
+        at += 4 * new;
+        g += 1;
+    }
+}
+
+// Writes the wires of n shares, a field each.
+fn write_shares(a: writing::Places, n: usize, outs: &mut [u8], at: usize)
+    requires { ⌜ (1 ≤ n) × (n ≤ 31) × LowShares n a × (at + 2 * n ≤ length (now outs)) ⌝ }
+    ensures { λ _. ⌜ now (outs .exit) ≡ putAt at (wordBytes (listed n a)) (now (outs .entry)) ⌝ }
+{
+    let mut i = 0;
+    while i < n {
+        tables::put_field(outs, at + 2 * i, writing::share_wire(a, i));
+        i += 1;
+    }
+}
+
+// Writes the outputs: for each of the plain table's, the wires of its n shares.
+fn write_outputs(
+    table: &[u8],
+    gates: usize,
+    outputs: usize,
+    n: usize,
+    first: &[u16],
+    base: &[u16],
+    step: &[u16],
+    outs: &mut [u8],
+)
+    requires { ⌜ Shareable (now table) n × (gates ≡ word (now table) 2) × (outputs ≡ word (now table) 4)
+        × Located (tableOf (now table)) n (now first) (now base) (now step) × (2 * (n * outputs) ≤ length (now outs)) ⌝ }
+    ensures { λ _. ⌜ now (outs .exit) ≡ over (wordBytes (outputShares (allShares n (tableOf (now (table .entry)))) (tableOf (now
+        (table .entry)) .outputs))) (now (outs .entry)) ⌝ }
+{
+    let mut at = 0;
+    let mut o = 0;
+    while o < outputs {
+        let p = tables::field(table, 6 + 5 * gates + 2 * o);
+        let a = places_at(first, base, step, p);
+        write_shares(a, n, outs, at);
+        at += 2 * n;
+        o += 1;
+    }
+}
+
+// Where the shares of every plain wire are.
+fn locate(table: &[u8], p: sizing::Plan, first: &mut [u16], base: &mut [u16], step: &mut [u16])
+    requires { ⌜ PlanReady (now table) (p .shares / 2) p × Room (p .inputs + p .gates) (now first) (now base) (now step) ⌝ }
+    ensures { λ _. ⌜ Located (tableOf (now (table .entry))) (p .shares) (now (first .exit)) (now (base .exit)) (now (step .exit)) ⌝ }
+{
+    place_inputs(p.shares, p.inputs, first, base, step);
+    place_gates(table, p.inputs, p.gates, p.shares, first, base, step);
+}
+
+// Writes the six bytes of sizes.
+fn put_sizes(out: &mut [u8], inputs: usize, gates: usize, outputs: usize)
+    requires { ⌜ (6 ≤ length (now out)) × (inputs < 65536) × (gates < 65536) × (outputs < 65536) ⌝ }
+    ensures { λ _. ⌜ now (out .exit) ≡ putAt 0 (two inputs ++ (two gates ++ two outputs)) (now (out .entry)) ⌝ }
+{
+    tables::put_field(out, 0, inputs);
+    tables::put_field(out, 2, gates);
+    tables::put_field(out, 4, outputs);
+}
+
+// Writes what follows the sizes: lends the kinds part, then the operands part, then the outputs part of the buffer to the
+// function that writes it.
+fn mask_gates(
+    table: &[u8],
+    p: sizing::Plan,
+    first: &[u16],
+    base: &[u16],
+    step: &[u16],
+    out: &mut [u8],
+)
+    requires { ⌜ PlanReady (now table) (p .shares / 2) p × Located (tableOf (now table)) (p .shares) (now first) (now base) (now step)
+        × (planBytes p ≤ length (now out)) ⌝ }
+    ensures { λ _. ⌜ now (out .exit)
+        ≡ putAt 6 (afterSizes (maskedTable isw (p .shares / 2) (tableOf (now (table .entry))))) (now (out .entry)) ⌝ }
+{
+    let n = p.shares;
+    let w = n * p.inputs;
+    let g = p.wires - w;
+    write_kinds(table, 0, p.gates, n, &mut out[6..6 + g]);
+    write_operands(
+        table,
+        p.gates,
+        0,
+        p.gates,
+        n,
+        w,
+        first,
+        base,
+        step,
+        &mut out[6 + g..6 + 5 * g],
+    );
+    write_outputs(
+        table,
+        p.gates,
+        p.outputs,
+        n,
+        first,
+        base,
+        step,
+        &mut out[6 + 5 * g..],
+    );
+}
+
+// Writes the masked table of a plan; the three arrays are lent to note where shares are.
+fn mask_with(
+    table: &[u8],
+    p: sizing::Plan,
+    first: &mut [u16],
+    base: &mut [u16],
+    step: &mut [u16],
+    out: &mut [u8],
+)
+    requires { ⌜ PlanReady (now table) (p .shares / 2) p × Room (p .inputs + p .gates) (now first) (now base) (now step)
+        × (planBytes p ≤ length (now out)) ⌝ }
+    ensures { λ _. ⌜ now (out .exit)
+        ≡ over (tableBytes (maskedTable isw (p .shares / 2) (tableOf (now (table .entry))))) (now (out .entry)) ⌝ }
+{
+    locate(table, p, first, base, step);
+    let inputs = p.shares * p.inputs;
+    put_sizes(out, inputs, p.wires - inputs, p.shares * p.outputs);
+    mask_gates(table, p, first, base, step, out);
+}
+
+// Masks a table of at most 256 wires.
+fn mask_tiny(table: &[u8], p: sizing::Plan, out: &mut [u8])
+    requires { ⌜ PlanReady (now table) (p .shares / 2) p × (p .inputs + p .gates ≤ 256) × (planBytes p ≤ length (now out)) ⌝ }
+    ensures { λ _. ⌜ now (out .exit)
+        ≡ over (tableBytes (maskedTable isw (p .shares / 2) (tableOf (now (table .entry))))) (now (out .entry)) ⌝ }
+{
+    let mut first = [0u16; 256];
+    let mut base = [0u16; 256];
+    let mut step = [0u16; 256];
+    mask_with(table, p, &mut first, &mut base, &mut step, out);
+}
+
+// Masks a table of at most 2,048 wires.
+fn mask_small(table: &[u8], p: sizing::Plan, out: &mut [u8])
+    requires { ⌜ PlanReady (now table) (p .shares / 2) p × (p .inputs + p .gates ≤ 2048) × (planBytes p ≤ length (now out)) ⌝ }
+    ensures { λ _. ⌜ now (out .exit)
+        ≡ over (tableBytes (maskedTable isw (p .shares / 2) (tableOf (now (table .entry))))) (now (out .entry)) ⌝ }
+{
+    let mut first = [0u16; 2048];
+    let mut base = [0u16; 2048];
+    let mut step = [0u16; 2048];
+    mask_with(table, p, &mut first, &mut base, &mut step, out);
+}
+
+// Masks a table of at most 16,384 wires.
+fn mask_middle(table: &[u8], p: sizing::Plan, out: &mut [u8])
+    requires { ⌜ PlanReady (now table) (p .shares / 2) p × (p .inputs + p .gates ≤ 16384) × (planBytes p ≤ length (now out)) ⌝ }
+    ensures { λ _. ⌜ now (out .exit)
+        ≡ over (tableBytes (maskedTable isw (p .shares / 2) (tableOf (now (table .entry))))) (now (out .entry)) ⌝ }
+{
+    let mut first = [0u16; 16384];
+    let mut base = [0u16; 16384];
+    let mut step = [0u16; 16384];
+    mask_with(table, p, &mut first, &mut base, &mut step, out);
+}
+
+// Masks a table of any number of wires.
+fn mask_large(table: &[u8], p: sizing::Plan, out: &mut [u8])
+    requires { ⌜ PlanReady (now table) (p .shares / 2) p × (planBytes p ≤ length (now out)) ⌝ }
+    ensures { λ _. ⌜ now (out .exit)
+        ≡ over (tableBytes (maskedTable isw (p .shares / 2) (tableOf (now (table .entry))))) (now (out .entry)) ⌝ }
+{
+    let mut first = [0u16; 65536];
+    let mut base = [0u16; 65536];
+    let mut step = [0u16; 65536];
+    mask_with(table, p, &mut first, &mut base, &mut step, out);
+}
+
+// Writes the masked table of a plan into a buffer that has room for it.
+pub fn mask_into(table: &[u8], p: sizing::Plan, out: &mut [u8])
+    requires { ⌜ PlanReady (now table) (p .shares / 2) p × (planBytes p ≤ length (now out)) ⌝ }
+    ensures { λ _. ⌜ now (out .exit)
+        ≡ over (tableBytes (maskedTable isw (p .shares / 2) (tableOf (now (table .entry))))) (now (out .entry)) ⌝ }
+{
+    if p.inputs + p.gates <= 2048 {
+        mask_small(table, p, out);
+        return;
+    }
+    if p.inputs + p.gates <= 16384 {
+        mask_middle(table, p, out);
+        return;
+    }
+    mask_large(table, p, out);
+}
+
+// The same, with little stack for a tiny table: to reserve that of a large one takes time even where it is not used.
+pub fn mask_lean(table: &[u8], p: sizing::Plan, out: &mut [u8])
+    requires { ⌜ PlanReady (now table) (p .shares / 2) p × (planBytes p ≤ length (now out)) ⌝ }
+    ensures { λ _. ⌜ now (out .exit)
+        ≡ over (tableBytes (maskedTable isw (p .shares / 2) (tableOf (now (table .entry))))) (now (out .entry)) ⌝ }
+{
+    if p.inputs + p.gates <= 256 {
+        mask_tiny(table, p, out);
+        return;
+    }
+    mask_into(table, p, out);
+}
