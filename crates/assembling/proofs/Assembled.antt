@@ -12,7 +12,7 @@ use Rattle.tables.specs.Tables.{Gate, Table, wires, word, two, tableOf, kindByt
 use Rattle.tables.specs.Says.{putAt, over}
 use Rattle.tables.proofs.Accept.{inputs-of, gates-of-length, outputs-of-length}
 use Rattle.tables.proofs.Format.{kinds-long, pairs-long, words-long, table-long}
-use Rattle.tables.proofs.Put.{put-zero, put-append, put-length, put-part}
+use Rattle.tables.proofs.Put.{put-zero, put-append, put-length, part-put}
 use Rattle.sizing.specs.declared.Plan as DP
 use Rattle.sizing.specs.Plans.{PlanReady, planBytes}
 use Rattle.masks.specs.Shares.{sharesOf}
@@ -179,17 +179,6 @@ plan-numbers {s} {p} R =
             outputs = ap (λ (o : ℕ). n * o) (R .outputs) ∙ sym (outputs-long (w .shareable));
           };
     }
-
--- a lent part that comes back with a piece at its front
-pub part-put :
-    (a e : ℕ) (xs b : List ℕ) {x : List ℕ} → a ≤ e → e ≤ length b → length xs ≤ e - a → x ≡ over xs (midOf a (e - a) b)
-    → putMid a (e - a) b x ≡ putAt a xs b
-part-put a e xs b {x} h k l put =
-    let part = midOf a (e - a) b in
-    let front : x ≡ putAt 0 xs part = put ∙ sym (put-zero xs part) in
-    ap {A = List ℕ} {B = List ℕ} (putMid a (e - a) b) front
-    ∙ put-part a e 0 xs b h k (omega arith)
-    ∙ ap {A = ℕ} {B = List ℕ} (λ c. putAt c xs b) (add-zero a)
 
 -- the masked gates of a plan
 abbrev pub gatesOf : DP.Plan → ℕ

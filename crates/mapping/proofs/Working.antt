@@ -5,7 +5,7 @@ use mathlib.Core.Path.{_≡_, refl, sym, ap, ap₂, subst, _∙_}
 use mathlib.Core.Bool.{true}
 use mathlib.Core.List.{List, [], _∷_, _++_, map}
 use Prim.Native.Nat.{ℕ, zero, suc, _+_, _-_, _*_, _/_, _≤_, _<_}
-use native.Mathlib.Nat.{add-zero, mul-le-mul}
+use native.Mathlib.Nat.{mul-le-mul}
 use native.Mathlib.Omega.{arith}
 use lib.ListN.{length, getD, take, drop, length-append, length-drop, List·getD-append, take-append-drop}
 use lib.Seq.{length-take-le, take-append-seam, take-at, drop-at}
@@ -19,7 +19,7 @@ use Rattle.tables.proofs.Lists.{Bits, bits-take, bits-drop}
 use Rattle.tables.proofs.Run.{run-length}
 use Rattle.tables.proofs.Accept.{Plain, PlainGates}
 use Rattle.tables.proofs.Format.{inputs-written, gates-written}
-use Rattle.tables.proofs.Put.{put-zero, put-append, put-part}
+use Rattle.tables.proofs.Put.{put-zero, put-append, part-put}
 use Rattle.running.specs.Running.{RunReady}
 use Rattle.running.proofs.RunTable.{over-take, over-length, over-over}
 use Rattle.masks.specs.Shares.{sharesOf, tri}
@@ -98,17 +98,6 @@ pub walk-as :
     {s rs : List ℕ} {n from to pairs from′ to′ pairs′ : ℕ} {m m′ a a′ b b′ : List ℕ} → from ≡ from′ → to ≡ to′
     → pairs ≡ pairs′ → WalkSays s rs n from to pairs m m′ a a′ b b′ → WalkSays s rs n from′ to′ pairs′ m m′ a a′ b b′
 walk-as ef et ep w = rw (← ef, ← et, ← ep) w
-
--- what is written at the front of a part that was lent is written at the part's place
-part-back :
-    (a e : ℕ) (xs b x : List ℕ) → a ≤ e → e ≤ length b → length xs ≤ e - a → x ≡ over xs (midOf a (e - a) b)
-    → putMid a (e - a) b x ≡ putAt a xs b
-part-back a e xs b x h k l ex =
-    let part = midOf a (e - a) b in
-    let front : x ≡ putAt 0 xs part = ex ∙ sym (put-zero xs part) in
-    ap {A = List ℕ} {B = List ℕ} (putMid a (e - a) b) front
-    ∙ put-part a e 0 xs b h k (omega arith)
-    ∙ ap (λ (y : ℕ). putAt y xs b) (add-zero a)
 
 module _ {s : List ℕ} {p : DP.Plan} {k : ℕ} {xs ys ts m a b : List ℕ} (W : WorkReady s p k xs ys ts m a b) where
   abbrev o : ℕ
@@ -413,7 +402,7 @@ module _ {s : List ℕ} {p : DP.Plan} {k : ℕ} {xs ys ts m a b : List ℕ} (W :
         let fits = rest-fits in
         let room = W .mapped in
         let here : m₂ ≡ putAt place rest m₁ =
-        put ∙ part-back place (length m₁) rest m₁ part (omega arith) (omega arith) (omega arith) written in
+        put ∙ part-put place (length m₁) rest m₁ (omega arith) (omega arith) (omega arith) written in
         let begun : m₁ ≡ putAt 0 F m = em ∙ sym (put-zero F m) in
         let at : place ≡ 0 + length F = omega (arith, F-long) in
         here

@@ -1,13 +1,12 @@
 -- What the sizes of an accepted table and order say of the numbers that code computes from them.
 -- Assumes nothing.
-use mathlib.Core.Path.{_≡_, sym, _∙_, subst}
+use mathlib.Core.Path.{_≡_, sym, subst}
 use mathlib.Core.List.{List}
 use Prim.Native.Nat.{ℕ, _+_, _*_, _≤_, _<_}
 use native.Mathlib.Omega.{arith}
 use lib.ListN.{length}
 use Rattle.tables.specs.Tables.{word, tableOf, tableFault}
 use Rattle.tables.proofs.Tests.{both-passed}
-use Rattle.tables.proofs.Accept.{gates-of-length}
 use Rattle.sizing.specs.declared.Plan as DP
 use Rattle.masks.specs.Shares.{sharesOf}
 use Rattle.masks.specs.Gadgets.{isw}
@@ -38,9 +37,6 @@ module _ (s : List ℕ) (o : ℕ) (p : DP.Plan) (R : PlanReady s o p) where
   ready-inputs =
       let shares : p .shares * p .inputs ≡ sharesOf o * tableOf s .inputs = rw (R .shares, R .inputs) in
       omega (arith, R .wires, masked-wires isw o (tableOf s))
-
-  pub ready-gates : p .gates ≡ word s 2
-  ready-gates = R .gates ∙ gates-of-length s
 
   -- the bytes hold all kinds
   pub ready-kinds : 6 + word s 2 ≤ length s

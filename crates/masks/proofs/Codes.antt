@@ -120,16 +120,6 @@ module _ (o : ℕ) (xs ts : List ℕ) (i : ℕ) (long : length ts ≡ 2 * o * le
   pub encode-group : take (sharesOf o) (drop (sharesOf o * i) (encode o xs ts)) ≡ group (getD xs i 0) (bitsOf o ts i)
   encode-group = rw encode-at (take-at (group (getD xs i 0) (bitsOf o ts i)) _ (sharesOf o) group-long-at)
 
--- share s of input i, s < 2t, is a tape bit
-pub encode-share :
-    (o : ℕ) (xs ts : List ℕ) (i s : ℕ) → length ts ≡ 2 * o * length xs → i < length xs → s < 2 * o
-    → getD (encode o xs ts) (sharesOf o * i + s) 0 ≡ getD ts (2 * o * i + s) 0
-encode-share o xs ts i s long h hs =
-    encode-get o xs ts i long h s (omega arith)
-    ∙ List·getD-append (bitsOf o ts i) _ 0 s (omega (arith, bits-long o xs ts i long h))
-    ∙ getD-take (2 * o) (drop (2 * o * i) ts) s 0 hs
-    ∙ getD-drop (2 * o * i) ts s 0
-
 -- the n shares of input i add up to the secret, modulo 2
 pub encode-adds :
     (o : ℕ) (xs ts : List ℕ) (i : ℕ) → length ts ≡ 2 * o * length xs → Bits xs → i < length xs

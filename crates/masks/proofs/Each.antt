@@ -157,12 +157,3 @@ solves-in-turn size d w c (x ∷ xs) f e r v a b s q h =
         (omega arith)
         (omega arith)
         (ss q (omega arith))
-
-pub solves-rows :
-    (size d n w c : ℕ) (f : ℕ → ℕ → List Wire) (r v : ℕ → ℕ) → All (Spans size f) (upFrom n 0 (λ i. i))
-    → All (Draws d f) (upFrom n 0 (λ i. i)) → Solves w c (map driverOf (inTurn size w (upFrom n 0 (λ i. i)) f)) r v
-    → (i : ℕ) → i < n → Solves (w + size * i) (c + d * i) (map driverOf (f (w + size * i) i)) r v
-solves-rows size d n w c f r v a b s i h =
-    subst (λ (y : ℕ). Solves (w + size * i) (c + d * i) (map driverOf (f (w + size * i) y)) r v)
-    (up-at n 0 (λ (y : ℕ). y) i 0 h ∙ omega arith)
-    (solves-in-turn size d w c (upFrom n 0 (λ y. y)) f 0 r v a b s i (omega (arith, up-length n 0 (λ (y : ℕ). y))))

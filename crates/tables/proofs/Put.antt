@@ -1,6 +1,6 @@
 -- A piece put at a place of a buffer: lengths, pieces one after the other, single bytes, and a part that was lent.
 -- Assumes nothing.
-use mathlib.Core.Path.{_≡_, refl, sym, _∙_}
+use mathlib.Core.Path.{_≡_, refl, sym, ap, _∙_}
 use mathlib.Core.List.{List, [], _∷_, _++_, append-assoc}
 use Prim.Native.Nat.{ℕ, _+_, _-_, _≤_, _<_}
 use native.Mathlib.Nat.{zero-add, add-zero, add-assoc}
@@ -73,18 +73,16 @@ put-part a e at xs b h k l =
     let far : drop n d ≡ drop (a + at + length xs) b = rw (drop-drop, add-assoc) refl in
     rw (front, take-add) (simp (append-assoc, tail, far))
 
--- a piece put into the front part, lent
-pub put-front :
-    (k at : ℕ) (xs b : List ℕ) → k ≤ length b → at + length xs ≤ k
-    → putAt at xs (take k b) ++ drop k b ≡ putAt at xs b
-unfolding putAt
-put-front k at xs b h l =
-    let n = at + length xs in
-    let long : length (take k b) ≡ k = length-take-le k b h in
-    let front : take at (take k b) ≡ take at b = take-take at k b (omega arith) in
-    let tail : drop n (take k b) ++ drop k b ≡ drop n b =
-    sym (drop-append-le n (take k b) (drop k b) (omega arith)) ∙ rw (take-append-drop k b) refl in
-    rw front (simp (append-assoc, tail))
+-- a lent part that comes back with a piece at its front
+pub part-put :
+    (a e : ℕ) (xs b : List ℕ) {x : List ℕ} → a ≤ e → e ≤ length b → length xs ≤ e - a → x ≡ over xs (midOf a (e - a) b)
+    → putMid a (e - a) b x ≡ putAt a xs b
+part-put a e xs b {x} h k l put =
+    let part = midOf a (e - a) b in
+    let front : x ≡ putAt 0 xs part = put ∙ sym (put-zero xs part) in
+    ap {A = List ℕ} {B = List ℕ} (putMid a (e - a) b) front
+    ∙ put-part a e 0 xs b h k (omega arith)
+    ∙ ap {A = ℕ} {B = List ℕ} (λ c. putAt c xs b) (add-zero a)
 
 -- two bytes, one after the other
 pub put-two :

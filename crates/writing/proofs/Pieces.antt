@@ -292,11 +292,6 @@ pub and-bytes :
 unfolding andWires
 and-bytes n w a b = operands-append (inTurn 5 w (pairs n) (pairWires isw 0 a b)) _
 
-pub not-bytes :
-    (n w : ℕ) (a b : List ℕ) → operandBytes (newWires isw NOT n 0 w a b) ≡ two (share a 0) ++ two 0
-unfolding pairBytes
-not-bytes n w a b = refl
-
 -- a byte that is no kind of a plain gate has no new wires
 pub no-wires :
     (G : Gadget) (k n g w : ℕ) (a b : List ℕ) → (k ≡ 0 → ⊥) → (k ≡ 1 → ⊥) → (k ≡ 2 → ⊥)
