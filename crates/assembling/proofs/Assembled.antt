@@ -1,18 +1,17 @@
 -- A masked table put together: the sizes, then the kinds, the operands and the outputs, each at its place.
 -- Assumes nothing.
-use mathlib.Core.Path.{_≡_, refl, sym, ap, ap₂, _∙_, subst}
-use mathlib.Core.List.{List, [], _∷_, _++_, map, append-assoc}
-use Prim.Native.Nat.{ℕ, zero, suc, _+_, _-_, _*_, _/_, _≤_, _<_}
-use native.Mathlib.Nat.{add-zero, zero-add}
+use mathlib.Core.Path.{_≡_, refl, sym, ap, ap₂, _∙_}
+use mathlib.Core.List.{List, [], _++_, append-assoc}
+use Prim.Native.Nat.{ℕ, _+_, _-_, _*_, _/_, _≤_}
 use native.Mathlib.Omega.{arith}
-use lib.ListN.{length, getD, take, drop, length-append, length-map}
+use lib.ListN.{length, length-append, length-map}
 use lib.Seq.{take-length}
-use borrow.Rule.Slice.PartMut.{midOf, putMid, mid-len, same-len-mid}
-use Rattle.tables.specs.Tables.{Gate, Table, wires, word, two, tableOf, kindBytes, pairBytes, wordBytes, tableBytes, tableLong}
+use borrow.Rule.Slice.PartMut.{midOf, putMid, mid-len}
+use Rattle.tables.specs.Tables.{Gate, Table, wires, word, two, tableOf, kindBytes, pairBytes, wordBytes, tableBytes}
 use Rattle.tables.specs.Says.{putAt, over}
 use Rattle.tables.proofs.Accept.{inputs-of, gates-of-length, outputs-of-length}
-use Rattle.tables.proofs.Format.{kinds-long, pairs-long, words-long, table-long}
-use Rattle.tables.proofs.Put.{put-zero, put-append, put-length, part-put}
+use Rattle.tables.proofs.Format.{kinds-long, pairs-long, words-long}
+use Rattle.tables.proofs.Put.{put-zero, put-length, part-put}
 use Rattle.sizing.specs.declared.Plan as DP
 use Rattle.sizing.specs.Plans.{PlanReady, planBytes}
 use Rattle.masks.specs.Shares.{sharesOf}

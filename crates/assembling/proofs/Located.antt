@@ -1,14 +1,13 @@
 -- Where the code keeps shares: the share lists are a function of the three arrays, so writing one wire's numbers adds one list.
 -- Assumes nothing.
 use mathlib.Core.Path.{_≡_, refl, sym, ap, ap₂, _∙_, subst}
-use mathlib.Core.List.{List, [], _∷_, _++_, append-assoc}
+use mathlib.Core.List.{List, [], _∷_, _++_}
 use Prim.Native.Nat.{ℕ, zero, suc, _+_, _-_, _*_, _≤_, _<_}
 use native.Mathlib.Nat.{zero-add, add-zero}
-use native.Mathlib.Numerals.{add-one}
 use native.Mathlib.Omega.{arith}
-use lib.ListN.{length, getD, take, drop, set, length-append, length-drop, length-set, take-append-drop}
-use lib.Seq.{getD-set-same, getD-set-other, length-take-le, take-suc, take-at, take-take, take-append-seam, drop-cons, take-length}
-use Rattle.tables.specs.Tables.{Kind, NOT, XOR, AND, RANDOM, UNKNOWN, kindOf, Gate, gate, Table, wires, word, gatesFrom, wordsFrom, tableOf}
+use lib.ListN.{length, getD, take, drop, set, length-append, take-append-drop}
+use lib.Seq.{getD-set-same, getD-set-other, length-take-le, take-suc, take-at, take-take, take-append-seam, take-length}
+use Rattle.tables.specs.Tables.{Kind, NOT, kindOf, Gate, gate, Table, wires}
 use lib.Dec.{eqb}
 use Rattle.tables.specs.Refusals.{pick}
 use Rattle.tables.proofs.Accept.{PlainGate, PlainGates}

@@ -2,19 +2,19 @@
 -- Assumes nothing.
 use mathlib.Core.Path.{_≡_, refl, sym, ap, _∙_, subst}
 use mathlib.Core.List.{List, [], _∷_, _++_}
-use Prim.Native.Nat.{ℕ, zero, suc, _+_, _-_, _*_, _/_, _≤_, _<_}
+use Prim.Native.Nat.{ℕ, suc, _+_, _-_, _*_, _≤_, _<_}
 use native.Mathlib.Nat.{zero-add, add-zero, mul-le-mul-left}
 use native.Mathlib.Numerals.{add-one}
 use native.Mathlib.Omega.{arith}
-use lib.ListN.{length, getD, set, length-set}
-use Rattle.tables.specs.Tables.{kindOf, Gate, word, tableOf, wires}
-use Rattle.tables.proofs.Accept.{inputs-of, gates-of-length, wires-of}
+use lib.ListN.{length, getD, length-set}
+use Rattle.tables.specs.Tables.{kindOf, word, tableOf, wires}
+use Rattle.tables.proofs.Accept.{inputs-of, wires-of}
 use Rattle.tables.proofs.Loops.{gatesAt, gateAt, gates-at-table, gates-at-step, gates-at-end}
 use Rattle.writing.specs.declared.Places as DP
 use Rattle.masks.specs.Shares.{upFrom}
 use Rattle.masks.specs.Wires.{cost, totalOf, newShares, inputShares, sharesAfter}
 use Rattle.writing.specs.Layout.{listed}
-use Rattle.assembling.specs.Masking.{Shareable, placesAt, Small, sharesBy, Room, Put, Located}
+use Rattle.assembling.specs.Masking.{Shareable, placesAt, sharesBy, Room, Put, Located}
 use Rattle.masks.proofs.Sum.{up-append}
 use Rattle.assembling.proofs.Located.{placesOf, listed-run, by-at, by-set}
 use Rattle.assembling.proofs.Shareable.{shareable-sized, Turn, turn}

@@ -1,51 +1,31 @@
 -- What it says of a table's bytes that it can be masked with n shares: sizes, and each gate's kind and operands.
 -- Assumes nothing.
 use mathlib.Core.Path.{_≡_, refl, sym, ap, _∙_, subst}
-use mathlib.Core.Bool.{true, false, _&&_}
+use mathlib.Core.Bool.{true}
 use mathlib.Core.List.{List, [], _∷_}
 use Prim.Native.Nat.{ℕ, zero, suc, _+_, _*_, _/_, _≤_, _<_}
 use native.Mathlib.Nat.{add-zero}
 use native.Mathlib.Numerals.{add-one}
 use native.Mathlib.Omega.{arith}
 use lib.Dec.{eqb, ltb, leb}
-use lib.ListN.{length, getD, take, drop}
+use lib.ListN.{length, getD, drop}
 use lib.Seq.{drop-cons, drop-drop}
-use borrow.Author.Tests.{ltb-true, eqb-true, leb-true}
+use borrow.Author.Tests.{eqb-true, leb-true}
 use mir.Syntax.{w64}
 use mir.Val.{Fits}
 use Rattle.tables.specs.Refusals.{passed, orElse, refusedIf}
-use Rattle.tables.specs.Tables.{
-  Kind,
-  NOT,
-  XOR,
-  AND,
-  RANDOM,
-  UNKNOWN,
-  kindOf,
-  Gate,
-  gate,
-  Table,
-  wires,
-  word,
-  tableOf,
-  tableLong,
-  tableFault,
-  randomFault,
-  operandsOk,
-}
+use Rattle.tables.specs.Tables.{Kind, NOT, XOR, AND, RANDOM, UNKNOWN, kindOf, Gate, word, tableOf, tableFault, randomFault, operandsOk}
 use Rattle.tables.proofs.Tests.{and-true, both-passed}
-use Rattle.tables.proofs.Lists.{All}
-use Rattle.tables.proofs.Accept.{PlainGate, PlainGates, Accepted, accepted, inputs-of, gates-of-length, outputs-of-length}
+use Rattle.tables.proofs.Accept.{PlainGate, accepted, inputs-of, gates-of-length, outputs-of-length}
 use Rattle.tables.proofs.Format.{SoundGates, passed-sound-gates}
 use Rattle.tables.proofs.Loops.{gatesAt, gateAt, gates-at-table, gates-at-step}
-use Rattle.masks.specs.Shares.{sharesOf, tri}
 use Rattle.masks.specs.Gadgets.{isw}
-use Rattle.masks.specs.Wires.{cost, totalOf, maskedTable}
-use Rattle.masks.specs.Says.{orderOk, orderFault, tooMany, plainFault}
-use Rattle.assembling.specs.Masking.{Shareable, gateWire}
+use Rattle.masks.specs.Wires.{cost, totalOf}
+use Rattle.masks.specs.Says.{orderFault, tooMany, plainFault}
+use Rattle.assembling.specs.Masking.{Shareable}
 use Rattle.masks.proofs.Costs.{masked-wires}
 use Rattle.masks.proofs.Passed.{PlainPassed, plain-passed}
-use Rattle.assembling.proofs.Located.{noGate, gateOf, plain-at, gate-wire-left, gate-wire-suc}
+use Rattle.assembling.proofs.Located.{noGate, gateOf, plain-at}
 
 -- the gates from number g on
 pub gates-drop : (s : List ℕ) (g : ℕ) → g ≤ word s 2 → drop g (tableOf s .gates) ≡ gatesAt s (word s 2) g

@@ -2,21 +2,19 @@
 -- Assumes nothing.
 use mathlib.Core.Path.{_≡_, refl, sym, ap, ap₂, _∙_, subst}
 use mathlib.Core.List.{List, [], _∷_, _++_, map, append-nil}
-use Prim.Native.Nat.{ℕ, zero, suc, _+_, _-_, _*_, _/_, _≤_, _<_}
-use native.Mathlib.Nat.{add-zero, zero-add}
+use Prim.Native.Nat.{ℕ, suc, _+_, _-_, _*_, _≤_, _<_}
 use native.Mathlib.Numerals.{add-one}
 use native.Mathlib.Omega.{arith}
-use lib.ListN.{length, getD, take, drop, replicate, length-replicate, length-append, drop-of-length-le}
+use lib.ListN.{length, getD, drop, replicate, length-replicate, length-append, drop-of-length-le}
 use lib.Seq.{drop-cons}
 use Rattle.tables.specs.Tables.{kindOf, Gate, Table, wires, word, two, tableOf, wordBytes, pairBytes, kindBytes}
 use Rattle.tables.specs.Says.{putAt, over}
 use Rattle.tables.proofs.Lists.{All, all-map}
 use Rattle.tables.proofs.Accept.{PlainGates, inputs-of, gates-of-length, wires-of, outputs-of-length}
 use Rattle.tables.proofs.Format.{words-long}
-use Rattle.tables.proofs.Loops.{gatesAt, gateAt, gates-at-step, wordsAt, words-at-table, words-at-step, words-at-end}
+use Rattle.tables.proofs.Loops.{gateAt, wordsAt, words-at-table, words-at-step, words-at-end}
 use Rattle.tables.proofs.Put.{put-length, put-zero, put-nil, put-append}
 use Rattle.writing.specs.declared.Places as DP
-use Rattle.masks.specs.Shares.{upFrom}
 use Rattle.masks.specs.Wires.{cost, totalOf, share, newShares, inputShares, masked, outputShares, driverOf, newWires}
 use Rattle.masks.specs.Gadgets.{isw}
 use Rattle.writing.specs.Layout.{listed, LowShares, operandBytes, wireKinds, XorsFrom}
@@ -39,7 +37,7 @@ use Rattle.assembling.proofs.Located.{
   located-placed,
   gate-wire-left,
 }
-use Rattle.assembling.proofs.Shareable.{Sized, Turn, turn, gate-at, shareable-sized, shareable-passed}
+use Rattle.assembling.proofs.Shareable.{Turn, turn, gate-at, shareable-sized, shareable-passed}
 
 -- a buffer where the rest is still to be put at a place, after which it is what it shall become
 pub record Left (whole b₀ : List ℕ) (at : ℕ) (rest b : List ℕ) : Type 0 where

@@ -8,11 +8,11 @@ use native.Mathlib.Nat.{zero-add, add-zero, add-suc}
 use native.Mathlib.Numerals.{add-one}
 use native.Mathlib.Omega.{arith}
 use borrow.Author.Tests.{lt-ltb, le-ltb, eq-eqb, ne-eqb}
-use lib.Dec.{ltb, eqb}
+use lib.Dec.{ltb}
 use lib.ListN.{length, getD, drop, length-append, length-drop}
 use Rattle.tables.specs.declared.Refusal as DR
 use Rattle.tables.specs.Refusals.{passed}
-use Rattle.tables.specs.Tables.{kindOf, gate, word, known, tableOf, tableLong, tableFault}
+use Rattle.tables.specs.Tables.{kindOf, gate, word, known, tableOf, tableFault}
 use Rattle.tables.specs.Says.{Refused, over}
 use Rattle.tables.proofs.Put.{put-zero, put-nil}
 use Rattle.tables.proofs.Accept.{accepted, inputs-of, gates-of-length, outputs-of-length, wires-of}

@@ -1,20 +1,18 @@
 -- Mapping the inputs' tape bits: what is left of one input's bits while they are copied, and of all bits between two inputs.
 -- Assumes nothing.
 use mathlib.Core.Path.{_≡_, refl, sym, ap, ap₂, subst, _∙_}
-use mathlib.Core.Bool.{Bool}
 use mathlib.Core.List.{List, [], _∷_, _++_}
-use Prim.Native.Nat.{ℕ, zero, suc, _+_, _-_, _*_, _%_, _≤_, _<_}
+use Prim.Native.Nat.{ℕ, suc, _+_, _-_, _*_, _%_, _≤_, _<_}
 use native.Mathlib.Nat.{add-zero, add-suc}
 use native.Mathlib.Numerals.{add-one}
 use native.Mathlib.Omega.{arith}
 use lib.Dec.{eqb}
-use lib.ListN.{length, getD, take, drop, set, length-set, length-drop, drop-of-length-le, take-append-drop}
+use lib.ListN.{length, getD, drop, set, length-set, length-drop, drop-of-length-le, take-append-drop}
 use lib.Seq.{length-take-le, drop-cons, drop-drop}
 use borrow.Author.Tests.{eq-eqb, ne-eqb}
 use Rattle.tables.specs.Refusals.{pick}
 use Rattle.tables.specs.Runs.{xor}
 use Rattle.tables.specs.Says.{over, putAt}
-use Rattle.tables.proofs.Lists.{Bits}
 use Rattle.tables.proofs.Put.{put-length, put-zero, put-nil, put-append}
 use Rattle.masks.specs.Shares.{upFrom}
 use Rattle.encoding.proofs.Encoding.{part, part-next, part-end, put-cons}

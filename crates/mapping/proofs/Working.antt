@@ -3,16 +3,16 @@
 -- Assumes nothing.
 use mathlib.Core.Path.{_≡_, refl, sym, ap, ap₂, subst, _∙_}
 use mathlib.Core.Bool.{true}
-use mathlib.Core.List.{List, [], _∷_, _++_, map}
-use Prim.Native.Nat.{ℕ, zero, suc, _+_, _-_, _*_, _/_, _≤_, _<_}
+use mathlib.Core.List.{List, _++_, map}
+use Prim.Native.Nat.{ℕ, suc, _+_, _-_, _*_, _≤_, _<_}
 use native.Mathlib.Nat.{mul-le-mul}
 use native.Mathlib.Omega.{arith}
-use lib.ListN.{length, getD, take, drop, length-append, length-drop, List·getD-append, take-append-drop}
-use lib.Seq.{length-take-le, take-append-seam, take-at, drop-at}
+use lib.ListN.{length, take, drop, length-append, length-drop, List·getD-append}
+use lib.Seq.{length-take-le, take-at, drop-at}
 use borrow.Rule.Slice.PartAt.{part-to-end}
 use borrow.Rule.Slice.PartMut.{midOf, putMid, mid-len}
 use Rattle.tables.specs.Refusals.{passed}
-use Rattle.tables.specs.Tables.{Gate, Table, wires, word, tableOf, tableBytes, tableFault}
+use Rattle.tables.specs.Tables.{Gate, Table, wires, tableOf, tableBytes, tableFault}
 use Rattle.tables.specs.Runs.{run, runFrom, randoms}
 use Rattle.tables.specs.Says.{over, putAt}
 use Rattle.tables.proofs.Lists.{Bits, bits-take, bits-drop}
@@ -21,12 +21,11 @@ use Rattle.tables.proofs.Accept.{Plain, PlainGates}
 use Rattle.tables.proofs.Format.{inputs-written, gates-written}
 use Rattle.tables.proofs.Put.{put-zero, put-append, part-put}
 use Rattle.running.specs.Running.{RunReady}
-use Rattle.running.proofs.RunTable.{over-take, over-length, over-over}
+use Rattle.running.proofs.RunTable.{over-length, over-over}
 use Rattle.masks.specs.Shares.{sharesOf, tri}
 use Rattle.masks.specs.Gadgets.{isw}
 use Rattle.masks.specs.Wires.{driverOf, inputShares, masked, draws, totalOf, maskedTable, tapeLong}
 use Rattle.masks.specs.Codes.{encode, maskedRun}
-use Rattle.masks.specs.Says.{plainFault}
 use Rattle.masks.proofs.Sum.{up-length}
 use Rattle.masks.proofs.Lawful.{isw-lawful}
 use Rattle.masks.proofs.Costs.{masked-tape}
@@ -34,7 +33,7 @@ use Rattle.masks.proofs.Placed.{placed-inputs}
 use Rattle.masks.proofs.Passed.{plain-passed}
 use Rattle.masks.proofs.Codes.{encode-length, encode-bits}
 use Rattle.sizing.specs.declared.Plan as DP
-use Rattle.sizing.specs.Plans.{PlanReady, PlanFits}
+use Rattle.sizing.specs.Plans.{PlanReady}
 use Rattle.sizing.proofs.Planning.{order-range, plan-inputs, plan-fits}
 use Rattle.marking.specs.Origins.{orderOf}
 use Rattle.maps.specs.Maps.{flipped, inputFlips, mapGates, mappedAt}
@@ -45,7 +44,6 @@ use Rattle.maps.proofs.TwoRuns.{mapped-length}
 use Rattle.maps.proofs.Walked.{crossing-masked, walked-mapped}
 use Rattle.maps.proofs.Written.{written}
 use Rattle.walking.specs.Walking.{WalkReady, walkedBits, WalkSays}
-use Rattle.mapping.specs.Flipping.{FlipReady}
 use Rattle.mapping.specs.Working.{BeginReady, BegunSays, WorkReady, WorkSays}
 
 -- products of small numbers

@@ -2,20 +2,20 @@
 -- demands say the rest.
 -- Assumes nothing.
 use mathlib.Core.Path.{_≡_, refl, sym, ap, ap₂, _∙_, subst}
-use mathlib.Core.Bool.{Bool, true, false, _&&_, _||_, not}
+use mathlib.Core.Bool.{Bool, true, _&&_, _||_, not}
 use mathlib.Core.List.{List, [], _∷_, _++_}
-use Prim.Native.Nat.{ℕ, zero, suc, _+_, _*_, _/_, _≤_, _<_}
+use Prim.Native.Nat.{ℕ, suc, _+_, _*_, _/_, _≤_, _<_}
 use native.Mathlib.Omega.{arith}
 use borrow.Author.Tests.{eq-eqb, eqb-true, ltb-false, le-leb, not-false}
 use lib.Dec.{eqb, ltb, leb}
-use lib.ListN.{length, getD, take, drop, List·getD-append}
+use lib.ListN.{length, take, drop, List·getD-append}
 use lib.Seq.{take-at}
 use Rattle.tables.specs.declared.Answer as DA
-use Rattle.tables.specs.Refusals.{pick, Fault, fault, none, passed, orElse, refusedIf, badBit}
-use Rattle.tables.specs.Tables.{Table, wires, tableOf, tableBytes, tableFault, word}
-use Rattle.tables.specs.Runs.{run, readAll, outputsOf, randoms}
-use Rattle.tables.specs.Says.{Answered, over, left, runFault, RunSays}
-use Rattle.tables.proofs.Tests.{both-passed, not-refused, and-true, and-intro, or-false}
+use Rattle.tables.specs.Refusals.{pick, Fault, passed, orElse, refusedIf, badBit}
+use Rattle.tables.specs.Tables.{Table, wires, tableOf, tableBytes, word}
+use Rattle.tables.specs.Runs.{run, readAll, outputsOf}
+use Rattle.tables.specs.Says.{Answered, over, left, runFault}
+use Rattle.tables.proofs.Tests.{both-passed, not-refused, and-true, and-intro}
 use Rattle.tables.proofs.Lists.{All}
 use Rattle.tables.proofs.Accept.{pick-passed}
 use Rattle.tables.proofs.Format.{outputs-written}
@@ -23,15 +23,15 @@ use Rattle.masks.specs.Shares.{sharesOf}
 use Rattle.masks.specs.Gadgets.{isw}
 use Rattle.masks.specs.Wires.{maskedTable, tapeLong}
 use Rattle.masks.specs.Codes.{encode, decode, maskedRun}
-use Rattle.masks.specs.Says.{orderFault, plainFault, maskFault, MaskSays, encodeFault, EncodeSays, decodeFault, DecodeSays}
+use Rattle.masks.specs.Says.{orderFault, plainFault, maskFault, encodeFault, decodeFault}
 use Rattle.masks.proofs.Codes.{encode-length, decode-length}
 use Rattle.masks.proofs.Lawful.{isw-lawful}
 use Rattle.masks.proofs.Hiding.{isw-hiding}
 use Rattle.masks.proofs.Passed.{plain-passed}
 use Rattle.maps.specs.Maps.{freeShare, mapped}
 use Rattle.maps.specs.Claims.{allBits, allBelow, isTape, areSecrets, areProbes}
-use Rattle.maps.specs.Says.{badProbe, mapFault, MapSays}
-use Rattle.maps.specs.Assurance.{Lent, written, Way, Calls, Assured, Assurance}
+use Rattle.maps.specs.Says.{badProbe, mapFault}
+use Rattle.maps.specs.Assurance.{Lent, written, Way, Assurance}
 use Rattle.maps.proofs.Bits.{all-below}
 use Rattle.maps.proofs.Begun.{tape-is, secrets-are, values-long}
 use Rattle.maps.proofs.Computing.{computes}

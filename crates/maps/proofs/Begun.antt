@@ -2,31 +2,29 @@
 -- Assumes nothing.
 use mathlib.Core.Path.{_≡_, refl, sym, ap, _∙_, subst}
 use mathlib.Core.Bool.{true}
-use mathlib.Core.List.{List, [], _∷_, _++_, map}
-use Prim.Native.Nat.{ℕ, zero, suc, _+_, _*_, _%_, _≤_, _<_}
-use native.Mathlib.Nat.{mul-le-mul-left}
+use mathlib.Core.List.{List, map}
+use Prim.Native.Nat.{ℕ, _+_, _*_, _<_}
 use native.Mathlib.Omega.{arith}
 use borrow.Author.Tests.{eqb-true}
 use lib.Dec.{eqb}
-use lib.ListN.{length, getD, take, drop, length-append, length-drop, length-map}
-use lib.Seq.{length-take-le, drop-cons, getD-take, getD-drop}
+use lib.ListN.{length, getD, take, drop, length-drop}
+use lib.Seq.{length-take-le}
 use Rattle.tables.specs.Tables.{Gate, Table, wires}
-use Rattle.tables.specs.Runs.{run, runFrom, randoms}
+use Rattle.tables.specs.Runs.{run, runFrom}
 use Rattle.tables.proofs.Tests.{and-true}
 use Rattle.tables.proofs.Lists.{Bits, bits-take, bits-drop}
 use Rattle.tables.proofs.Run.{Solves, run-length, run-keep, run-solves, run-bits}
 use Rattle.tables.proofs.Accept.{PlainGates, Plain}
 use Rattle.tables.proofs.Format.{sound-earlier}
-use Rattle.masks.specs.Shares.{sharesOf, upFrom}
+use Rattle.masks.specs.Shares.{sharesOf}
 use Rattle.masks.specs.Gadgets.{Gadget}
 use Rattle.masks.specs.Wires.{driverOf, inputShares, draws, totalOf, maskedWires, maskedTable, tapeLong}
 use Rattle.masks.specs.Codes.{encode, maskedRun}
-use Rattle.masks.proofs.Sum.{sumOf, up-length, up-at}
+use Rattle.masks.proofs.Sum.{up-length}
 use Rattle.masks.proofs.Lawful.{Lawful}
 use Rattle.masks.proofs.Costs.{masked-tape}
 use Rattle.masks.proofs.Placed.{placed-inputs, masked-sound}
-use Rattle.masks.proofs.Codes.{encode-length, encode-bits, encode-adds}
-use Rattle.masks.proofs.Shares.{Shared}
+use Rattle.masks.proofs.Codes.{encode-length, encode-bits}
 use Rattle.maps.specs.Claims.{allBits, isTape, areSecrets}
 use Rattle.maps.proofs.Bits.{all-bits}
 

@@ -7,23 +7,23 @@ use mathlib.Core.List.{List, [], _∷_, _++_, map}
 use Prim.Native.Nat.{ℕ, zero, suc, _+_, _*_, _%_, _≤_, _<_}
 use native.Mathlib.Nat.{mul-le-mul-left}
 use native.Mathlib.Omega.{arith}
-use lib.ListN.{length, getD, take, drop, length-append}
+use lib.ListN.{length, getD, take, drop}
 use lib.Seq.{drop-cons}
-use Rattle.tables.specs.Tables.{Gate, Table, wires}
-use Rattle.tables.specs.Runs.{run, runFrom, readAll, outputsOf}
+use Rattle.tables.specs.Tables.{Table, wires}
+use Rattle.tables.specs.Runs.{run, readAll}
 use Rattle.tables.proofs.Lists.{All, all-map}
 use Rattle.tables.proofs.Run.{Solves, run-solves, run-keep}
 use Rattle.tables.proofs.Accept.{PlainGates, Plain, plain-earlier}
 use Rattle.masks.specs.Shares.{sharesOf, upFrom}
 use Rattle.masks.specs.Gadgets.{Gadget}
-use Rattle.masks.specs.Wires.{newShares, cost, inputShares, sharesAfter, outputShares, maskedTable}
+use Rattle.masks.specs.Wires.{inputShares, sharesAfter, outputShares, maskedTable}
 use Rattle.masks.specs.Codes.{encode, decode, maskedRun}
 use Rattle.masks.proofs.Sum.{sumOf, sum-cong, up-length, up-at, up-all}
 use Rattle.masks.proofs.Lawful.{Lawful}
 use Rattle.masks.proofs.Placed.{shares-after-length}
 use Rattle.masks.proofs.Codes.{encode-adds, joined, decode-groups, decode-encode}
 use Rattle.masks.proofs.Shares.{Shared, masked-shares}
-use Rattle.maps.specs.Claims.{allBits, isTape, areSecrets, Computes}
+use Rattle.maps.specs.Claims.{isTape, areSecrets, Computes}
 use Rattle.maps.proofs.Bits.{all-bits}
 use Rattle.maps.proofs.Begun.{secrets-long, secret-bits, front-long, shares-long, value-bits, values-solve, value-of-input}
 

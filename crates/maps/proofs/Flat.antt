@@ -9,13 +9,10 @@ use native.Mathlib.Omega.{arith}
 use borrow.Author.Tests.{eq-eqb, ne-eqb, leb-true, le-leb, lt-ltb, le-ltb}
 use lib.Dec.{eqb, ltb, leb}
 use lib.ListN.{length, getD}
-use Rattle.tables.specs.Refusals.{pick}
 use Rattle.tables.specs.Tables.{Kind, NOT, XOR, AND, RANDOM, UNKNOWN, Gate, gate}
-use Rattle.tables.specs.Runs.{xor}
-use Rattle.tables.proofs.Lists.{All}
 use Rattle.tables.proofs.Accept.{PlainGate, PlainGates}
 use Rattle.masks.specs.Shares.{upFrom, inTurn, Pair, pairOf, pairsFrom, pairs, tri, row}
-use Rattle.masks.specs.Gadgets.{first, fifth, differs, isw}
+use Rattle.masks.specs.Gadgets.{first, fifth, isw}
 use Rattle.masks.specs.Wires.{Wire, wire, Origin, andPart, sum, driverOf, share, adding, pairWires, rowWires, pairWire, andWires, newWires, newShares, cost, masked}
 use Rattle.masks.proofs.Sum.{up-length}
 use Rattle.masks.proofs.Rows.{pairs-length}

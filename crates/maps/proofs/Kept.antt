@@ -1,31 +1,28 @@
 -- Demand 3's heart: in two runs whose tapes differ by the map's flips, every wire of the masked table that does not carry the
 -- free share has the same value; the input wires by the encoder, the others by their gates.
 -- Assumes nothing.
-use mathlib.Core.Path.{_≡_, refl, sym, ap, ap₂, _∙_, subst}
+use mathlib.Core.Path.{_≡_, sym, ap, _∙_, subst}
 use mathlib.Core.Bool.{true, false}
-use mathlib.Core.List.{List, [], _∷_, _++_, map}
-use Prim.Native.Nat.{ℕ, zero, suc, _+_, _*_, _≤_, _<_}
+use mathlib.Core.List.{List, [], map}
+use Prim.Native.Nat.{ℕ, suc, _+_, _*_, _≤_, _<_}
 use native.Mathlib.Nat.{mul-le-mul-left}
 use native.Mathlib.Omega.{arith}
-use lib.ListN.{length, getD, take, drop, length-append, length-drop}
+use lib.ListN.{length, getD, take, drop}
 use lib.Seq.{take-at, drop-at}
-use Rattle.tables.specs.Tables.{Table, wires}
-use Rattle.tables.specs.Runs.{xor, readAll}
-use Rattle.tables.proofs.Lists.{All, Bits, bits-take, bits-drop}
-use Rattle.tables.proofs.Run.{Solves}
+use Rattle.tables.specs.Tables.{Table}
+use Rattle.tables.specs.Runs.{xor}
+use Rattle.tables.proofs.Lists.{All, bits-take, bits-drop}
 use Rattle.tables.proofs.Accept.{PlainGates, Plain}
-use Rattle.masks.specs.Shares.{sharesOf, upFrom, inTurn}
+use Rattle.masks.specs.Shares.{sharesOf, upFrom}
 use Rattle.masks.specs.Gadgets.{isIn, Gadget}
-use Rattle.masks.specs.Wires.{Wire, originOf, Origin, inputShare, marks, share, draws, totalOf, inputShares, inputOrigins, maskedWires, maskedTable, origins}
+use Rattle.masks.specs.Wires.{originOf, Origin, inputShare, marks, draws, totalOf, inputShares, inputOrigins, maskedWires, origins}
 use Rattle.masks.specs.Codes.{encode, maskedRun}
-use Rattle.masks.specs.Says.{originAt}
 use Rattle.masks.proofs.Sum.{up-length, up-at, up-all}
 use Rattle.masks.proofs.Each.{Each, each-append, each-up, each-rows, each-map}
-use Rattle.masks.proofs.Lawful.{Lawful}
 use Rattle.masks.proofs.Costs.{all-of, input-origins-length}
 use Rattle.maps.specs.Maps.{flipped, inputFlips, gatesFlips, tapeFlips}
 use Rattle.maps.specs.Claims.{isTape, areSecrets}
-use Rattle.maps.proofs.Inputs.{flipped-take, flipped-drop, flipped-at, flipped-length, input-flips-length, encode-off}
+use Rattle.maps.proofs.Inputs.{flipped-take, flipped-drop, flipped-at, input-flips-length, encode-off}
 use Rattle.maps.proofs.Flips.{gates-flips-length}
 use Rattle.maps.proofs.Begun.{secrets-long, secret-bits, tape-bits, front-long, rest-long, value-bits, values-solve, value-of-input}
 use Rattle.masks.proofs.Hiding.{Hiding, not-first}

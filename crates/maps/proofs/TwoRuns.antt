@@ -9,24 +9,24 @@ use native.Mathlib.Omega.{arith}
 use lib.Dec.{eqb}
 use lib.ListN.{length, getD, take, drop, length-drop, take-append-drop}
 use lib.Seq.{length-take-le, take-at, drop-at}
-use borrow.Author.Tests.{eqb-true, eq-eqb}
+use borrow.Author.Tests.{eq-eqb}
 use Rattle.tables.specs.Tables.{Table}
-use Rattle.tables.specs.Runs.{run, runFrom}
-use Rattle.tables.proofs.Tests.{and-true, and-intro}
+use Rattle.tables.specs.Runs.{runFrom}
+use Rattle.tables.proofs.Tests.{and-intro}
 use Rattle.tables.proofs.Lists.{Bits}
 use Rattle.tables.proofs.Accept.{PlainGates, Plain}
 use Rattle.masks.specs.Shares.{sharesOf}
 use Rattle.masks.specs.Gadgets.{Gadget}
-use Rattle.masks.specs.Wires.{driverOf, draws, totalOf, inputShares, maskedWires, maskedTable, tapeLong}
+use Rattle.masks.specs.Wires.{driverOf, draws, totalOf, inputShares, maskedWires, tapeLong}
 use Rattle.masks.specs.Codes.{encode, maskedRun}
 use Rattle.masks.proofs.Sum.{up-length}
 use Rattle.masks.proofs.Lawful.{Lawful}
-use Rattle.masks.proofs.Costs.{masked-draws, masked-tape}
+use Rattle.masks.proofs.Costs.{masked-tape}
 use Rattle.masks.proofs.Placed.{placed-inputs}
 use Rattle.masks.proofs.Codes.{encode-length}
 use Rattle.maps.specs.Maps.{flipped, inputFlips, mapGates, gatesFlips, mappedAt, tapeFlips}
 use Rattle.maps.specs.Claims.{allBits, isTape, areSecrets, TwoRuns}
-use Rattle.maps.proofs.Bits.{all-bits, bits-all}
+use Rattle.maps.proofs.Bits.{bits-all}
 use Rattle.maps.proofs.Inputs.{
   flipped-length,
   flipped-bits,

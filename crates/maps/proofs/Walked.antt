@@ -2,21 +2,21 @@
 -- of the complete runs, and the law of the two runs holds; only the mapped tape satisfies it.
 -- Assumes nothing.
 use mathlib.Core.Path.{_≡_, refl, sym, ap, ap₂, _∙_, subst}
-use mathlib.Core.Bool.{Bool, true, false}
-use mathlib.Core.List.{List, [], _∷_, _++_, map, map-append, append-assoc}
+use mathlib.Core.Bool.{Bool}
+use mathlib.Core.List.{List, [], _∷_, _++_, map, map-append}
 use Prim.Native.Nat.{ℕ, zero, suc, _+_, _-_, _*_, _≤_, _<_}
 use native.Mathlib.Nat.{mul-le-mul-left}
 use native.Mathlib.Omega.{arith}
-use lib.ListN.{length, getD, drop, length-append, List·getD-append}
+use lib.ListN.{length, getD, length-append, List·getD-append}
 use Rattle.tables.specs.Refusals.{pick}
 use Rattle.tables.specs.Tables.{Kind, NOT, XOR, AND, RANDOM, UNKNOWN, Gate, gate}
-use Rattle.tables.specs.Runs.{xor, driven, drawn, runFrom, randoms}
+use Rattle.tables.specs.Runs.{xor, drawn, runFrom, randoms}
 use Rattle.tables.proofs.Lists.{All}
 use Rattle.tables.proofs.Run.{run-keep}
 use Rattle.tables.proofs.Accept.{PlainGate, PlainGates}
 use Rattle.masks.specs.Shares.{upFrom, inTurn, Pair, pairs, tri, row}
-use Rattle.masks.specs.Gadgets.{first, fifth, differs, isw}
-use Rattle.masks.specs.Wires.{draws, totalOf, Wire, wire, Origin, andPart, sum, driverOf, share, adding, pairWires, rowWires, pairWire, andWires, newWires, newShares, cost, masked}
+use Rattle.masks.specs.Gadgets.{first, fifth, isw}
+use Rattle.masks.specs.Wires.{draws, totalOf, wire, Origin, andPart, sum, driverOf, share, adding, pairWires, rowWires, pairWire, andWires, newWires, newShares, cost, masked}
 use Rattle.masks.proofs.Sum.{up-length, up-all}
 use Rattle.masks.proofs.Rows.{pairs-length, pairs-in, row-length, tri-closed}
 use Rattle.masks.proofs.Lawful.{isw-lawful}

@@ -1,9 +1,9 @@
 -- Demands 2 and 3 and the further laws, for every accepted table and order: `demands` and `laws` are what a visitor looks for.
 -- Assumes nothing.
-use mathlib.Core.Path.{_≡_, refl, sym, ap, _∙_, subst}
-use mathlib.Core.Bool.{Bool, true, false, _&&_}
+use mathlib.Core.Path.{_≡_, refl, sym, ap, subst}
+use mathlib.Core.Bool.{true, _&&_}
 use mathlib.Core.List.{List, [], _∷_}
-use Prim.Native.Nat.{ℕ, _+_, _≤_, _<_}
+use Prim.Native.Nat.{ℕ, _+_, _≤_}
 use native.Mathlib.Omega.{arith}
 use borrow.Author.Tests.{leb-true, eqb-true, eq-eqb}
 use lib.Dec.{leb, eqb}
@@ -14,18 +14,16 @@ use Rattle.tables.specs.Runs.{readAll}
 use Rattle.tables.proofs.Tests.{and-true, and-intro}
 use Rattle.tables.proofs.Lists.{All}
 use Rattle.tables.proofs.Accept.{Plain, accepted-plain}
-use Rattle.masks.specs.Shares.{sharesOf}
-use Rattle.masks.specs.Gadgets.{isIn, Gadget, isw}
+use Rattle.masks.specs.Gadgets.{Gadget}
 use Rattle.masks.specs.Wires.{Origin, marks, maskedTable, origins, tapeLong, inputShare}
 use Rattle.masks.specs.Codes.{maskedRun}
-use Rattle.masks.specs.Says.{orderOk, originAt}
-use Rattle.masks.proofs.Each.{Each, each-at}
-use Rattle.maps.specs.Maps.{carried, freeShare, mappedAt, mapped}
-use Rattle.maps.specs.Claims.{accepted, isTape, areSecrets, areProbes, allBelow, allBits, same, Computes, Hides, Free, Demands, Laws}
+use Rattle.masks.specs.Says.{orderOk}
+use Rattle.masks.proofs.Each.{each-at}
+use Rattle.maps.specs.Maps.{freeShare, mappedAt, mapped}
+use Rattle.maps.specs.Claims.{accepted, isTape, areSecrets, areProbes, allBelow, allBits, same, Hides, Free, Demands, Laws}
 use Rattle.maps.proofs.Bits.{all-below}
 use Rattle.maps.proofs.Count.{BitsOf, once, same-count}
 use Rattle.maps.proofs.Free.{free-laws, marks-two, uncarried-each}
-use Rattle.maps.proofs.Begun.{tape-is}
 use Rattle.masks.proofs.Hiding.{Hiding, isw-hiding}
 use Rattle.maps.proofs.TwoRuns.{two-runs, mapped-tape, mapped-back}
 use Rattle.maps.proofs.Kept.{all-kept}

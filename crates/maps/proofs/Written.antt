@@ -1,21 +1,20 @@
 -- What masking writes: the closed sizes, and that the bytes pass the checks and read back as the masked table.
 -- Assumes nothing.
-use mathlib.Core.Path.{_≡_, refl, sym, ap, ap₂, _∙_, subst}
+use mathlib.Core.Path.{_≡_, sym, ap, ap₂, _∙_, subst}
 use mathlib.Core.Bool.{true}
-use mathlib.Core.List.{List, [], _∷_, _++_, map}
-use Prim.Native.Nat.{ℕ, zero, suc, _+_, _*_, _≤_, _<_}
+use mathlib.Core.List.{List, map}
+use Prim.Native.Nat.{ℕ, _+_, _*_, _≤_}
 use native.Mathlib.Nat.{mul-le-mul-left}
 use native.Mathlib.Omega.{arith}
-use lib.ListN.{length, getD, take, drop, length-append, length-map}
+use lib.ListN.{length, take, drop, length-append, length-map}
 use Rattle.tables.specs.Refusals.{passed}
-use Rattle.tables.specs.Tables.{Table, wires, tableOf, tableBytes}
+use Rattle.tables.specs.Tables.{Table, wires, tableOf}
 use Rattle.tables.specs.Runs.{run, randoms}
-use Rattle.tables.proofs.Lists.{All, all-map}
 use Rattle.tables.proofs.Accept.{PlainGates, Plain}
 use Rattle.tables.proofs.Format.{Sound, SoundGates, table-long, read-back, written-passes}
 use Rattle.masks.specs.Shares.{sharesOf}
 use Rattle.masks.specs.Gadgets.{Gadget, isw}
-use Rattle.masks.specs.Wires.{driverOf, originOf, inputShares, inputOrigins, cost, totalOf, sharesAfter, outputShares, maskedWires, maskedTable, origins, tapeLong}
+use Rattle.masks.specs.Wires.{originOf, inputOrigins, maskedWires, maskedTable, origins, tapeLong}
 use Rattle.masks.specs.Codes.{encode, maskedRun}
 use Rattle.masks.specs.Says.{plainFault}
 use Rattle.masks.proofs.Sum.{up-length}

@@ -6,7 +6,7 @@ use mathlib.Core.Bool.{Bool, true, false, _&&_}
 use mathlib.Core.List.{List, [], _∷_, _++_, map}
 use Prim.Native.Nat.{ℕ, zero, suc, _+_, _*_, _≤_, _<_}
 use lib.Dec.{eqb, ltb, leb}
-use lib.ListN.{length, getD, take, drop}
+use lib.ListN.{length, take, drop}
 use Rattle.tables.specs.Refusals.{pick, none, passed}
 use Rattle.tables.specs.Tables.{Table, wires, tableOf, tableBytes, tableLong, tableFault, randomFault}
 use Rattle.tables.specs.Runs.{run, readAll, outputsOf, randoms}

@@ -2,7 +2,7 @@
 -- the two products of that pair follow it, and a counter that starts again after the last pair says which pair it is.
 -- `walked` is the random bits of the second run; the law that they are the mapped tape's is in proofs/.
 -- Assumes nothing.
-use mathlib.Core.Bool.{Bool, true, false, _&&_}
+use mathlib.Core.Bool.{Bool, _&&_}
 use mathlib.Core.List.{List, [], _∷_, _++_}
 use Prim.Native.Nat.{ℕ, zero, suc, _+_, _≤_, _<_}
 use lib.Dec.{eqb, ltb, leb}

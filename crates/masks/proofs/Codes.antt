@@ -7,7 +7,7 @@ use Prim.Native.Nat.{ℕ, zero, suc, _+_, _*_, _/_, _%_, _≤_, _<_}
 use native.Mathlib.Nat.{zero-add, mul-zero, mul-le-mul-left, div-eq-of-eq-mul-right}
 use native.Mathlib.Omega.{arith}
 use lib.ListN.{length, getD, take, drop, length-append, length-drop, List·getD-append}
-use lib.Seq.{length-take-le, append-snoc, drop-drop, getD-take, getD-drop, take-at, drop-at, drop-append-add, drop-cons}
+use lib.Seq.{length-take-le, append-snoc, drop-drop, getD-drop, take-at, drop-at, drop-append-add, drop-cons}
 use Rattle.tables.specs.Runs.{xor}
 use Rattle.tables.proofs.Lists.{All, Bits, bits-nil, bits-cons, bits-append, bits-take, bits-drop}
 use Rattle.masks.specs.Shares.{sharesOf}

@@ -1,44 +1,19 @@
 -- Sizes: the new wires of a gate are as many as it costs, and draw as many random bits as the paper says; the wires of the
 -- shares come before the next wire.
 -- Assumes nothing.
-use mathlib.Core.Path.{_≡_, refl, sym, ap, ap₂, _∙_}
-use mathlib.Core.List.{List, [], _∷_, _++_, map, map-append}
-use Prim.Native.Nat.{ℕ, zero, suc, _+_, _-_, _*_, _≤_, _<_}
+use mathlib.Core.Path.{_≡_, refl, ap, ap₂, _∙_}
+use mathlib.Core.List.{List, [], _∷_, map, map-append}
+use Prim.Native.Nat.{ℕ, zero, suc, _+_, _-_, _*_}
 use native.Mathlib.Nat.{zero-add}
 use native.Mathlib.Omega.{arith}
-use lib.ListN.{length, getD, drop, length-append, length-map, length-drop}
+use lib.ListN.{length, getD, length-append, length-map}
 use Rattle.tables.specs.Tables.{Kind, NOT, XOR, AND, RANDOM, UNKNOWN, Gate, gate, Table, wires}
 use Rattle.tables.specs.Runs.{randoms}
-use Rattle.tables.proofs.Lists.{All, all-append, all-getD, all-map}
+use Rattle.tables.proofs.Lists.{All}
 use Rattle.tables.proofs.Run.{randoms-append}
-use Rattle.masks.specs.Shares.{sharesOf, upFrom, inTurn, Pair, pairs, tri, row}
+use Rattle.masks.specs.Shares.{sharesOf, upFrom, inTurn, pairs, tri, row}
 use Rattle.masks.specs.Gadgets.{Gadget}
-use Rattle.masks.specs.Wires.{
-  Wire,
-  wire,
-  Origin,
-  andPart,
-  sum,
-  xorShare,
-  share,
-  driverOf,
-  adding,
-  pairWires,
-  rowWires,
-  pairWire,
-  andWires,
-  newWires,
-  newShares,
-  cost,
-  draws,
-  totalOf,
-  masked,
-  maskedWires,
-  maskedTable,
-  tapeLong,
-  inputShare,
-  inputOrigins,
-}
+use Rattle.masks.specs.Wires.{wire, Origin, andPart, sum, xorShare, share, driverOf, adding, pairWires, rowWires, pairWire, andWires, newWires, cost, draws, totalOf, masked, maskedWires, maskedTable, tapeLong, inputShare, inputOrigins}
 use Rattle.masks.proofs.Sum.{up-length, up-all}
 use Rattle.masks.proofs.Rows.{pairs-length, row-length}
 use Rattle.masks.proofs.Each.{Spans, Draws, in-turn-length, in-turn-draws}

@@ -3,14 +3,13 @@
 -- Assumes nothing.
 use mathlib.Core.Path.{_≡_, refl, sym, ap, _∙_, subst, subst₂}
 use mathlib.Core.List.{List, [], _∷_, _++_, map, map-append}
-use Prim.Native.Nat.{ℕ, zero, suc, _+_, _*_, _≤_, _<_}
+use Prim.Native.Nat.{ℕ, zero, suc, _+_, _*_, _<_}
 use native.Mathlib.Omega.{arith}
 use lib.ListN.{length, getD, length-append, length-map, List·getD-append}
 use lib.Seq.{getD-append-add}
-use Rattle.tables.specs.Tables.{Gate}
 use Rattle.tables.specs.Runs.{randoms}
 use Rattle.tables.proofs.Lists.{All}
-use Rattle.tables.proofs.Run.{Solves, Earlier, solves-append, randoms-append}
+use Rattle.tables.proofs.Run.{Solves, solves-append, randoms-append}
 use Rattle.masks.specs.Shares.{upFrom, inTurn}
 use Rattle.masks.specs.Wires.{Wire, driverOf}
 use Rattle.masks.proofs.Sum.{up-length, up-at}

@@ -1,7 +1,7 @@
 -- Figures of a gate by its kind's byte, their bounds at 31 shares at most, their totals by how many gates there are of each
 -- kind, and the search for a random gate by what is left.
 -- Assumes nothing.
-use mathlib.Core.Path.{_≡_, refl, sym, ap, _∙_}
+use mathlib.Core.Path.{_≡_, refl, _∙_}
 use mathlib.Core.Bool.{false}
 use mathlib.Core.List.{List, [], _∷_}
 use Prim.Native.Nat.{ℕ, zero, suc, _+_, _*_, _≤_, _<_}
@@ -9,7 +9,7 @@ use native.Mathlib.Nat.{mul-le-mul, mul-le-mul-right}
 use native.Mathlib.Numerals.{add-one}
 use native.Mathlib.Omega.{arith}
 use lib.ListN.{length, getD}
-use Rattle.tables.specs.Refusals.{Fault, none, fault}
+use Rattle.tables.specs.Refusals.{none, fault}
 use Rattle.tables.specs.Tables.{
   Kind,
   NOT,

@@ -2,19 +2,18 @@
 -- gadget; another AND enters by its laws alone.
 -- Assumes nothing.
 use mathlib.Core.Path.{_≡_, refl, sym, ap, _∙_}
-use mathlib.Core.List.{List, [], _∷_, map}
-use Prim.Native.Nat.{ℕ, zero, suc, _+_, _*_, _%_, _≤_, _<_}
+use mathlib.Core.List.{[], _∷_, map}
+use Prim.Native.Nat.{ℕ, suc, _+_, _*_, _%_, _≤_, _<_}
 use native.Mathlib.Omega.{arith}
 use mathlib.Core.Bool.{true, _&&_}
 use borrow.Author.Tests.{lt-ltb}
 use lib.Dec.{ltb}
 use lib.ListN.{length}
-use Rattle.tables.specs.Tables.{Gate}
 use Rattle.tables.specs.Runs.{randoms, xor}
 use Rattle.tables.proofs.Tests.{and-intro}
 use Rattle.tables.proofs.Run.{Solves}
 use Rattle.tables.proofs.Format.{SoundGates}
-use Rattle.masks.specs.Gadgets.{Five, first, second, third, fourth, fifth, allFive, place, Gadget, isw, iswGates, iswMarks}
+use Rattle.masks.specs.Gadgets.{Five, first, second, third, fourth, fifth, allFive, place, Gadget, isw}
 
 pub both-below : (l r w : ℕ) → l < w → r < w → ltb l w && ltb r w ≡ true
 both-below l r w h k = and-intro (ltb l w) (ltb r w) (lt-ltb l w h) (lt-ltb r w k)

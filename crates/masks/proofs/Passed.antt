@@ -1,7 +1,7 @@
 -- What it says of a plain table and an order that none of 1 to 8 refuses them.
 -- Assumes nothing.
 use mathlib.Core.Path.{_≡_, refl, sym, ap}
-use mathlib.Core.Bool.{true, false, _||_, not}
+use mathlib.Core.Bool.{true, not}
 use mathlib.Core.List.{List}
 use Prim.Native.Nat.{ℕ, _*_, _≤_}
 use borrow.Author.Tests.{ltb-false, not-false}
@@ -9,7 +9,7 @@ use lib.Dec.{ltb}
 use lib.ListN.{length}
 use Rattle.tables.specs.declared.Refusal as DR
 use Rattle.tables.specs.Refusals.{Fault, fault, passed, orElse, refusedIf}
-use Rattle.tables.specs.Tables.{Table, wires, tableOf, tableFault, randomFault}
+use Rattle.tables.specs.Tables.{wires, tableOf, tableFault, randomFault}
 use Rattle.tables.specs.Says.{Refused}
 use Rattle.tables.proofs.Tests.{both-passed, not-refused, or-false}
 use Rattle.tables.proofs.Accept.{Plain, accepted-plain}

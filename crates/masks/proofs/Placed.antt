@@ -9,45 +9,19 @@ use borrow.Author.Tests.{lt-ltb}
 use Rattle.tables.proofs.Tests.{and-intro}
 use native.Mathlib.Nat.{mul-le-mul-left}
 use native.Mathlib.Omega.{arith}
-use lib.ListN.{length, getD, drop, length-append, length-map, length-drop, List·getD-append}
-use lib.Seq.{getD-at}
-use Rattle.tables.specs.Tables.{Kind, NOT, XOR, AND, RANDOM, UNKNOWN, Gate, gate, Table, wires, known, operandsOk}
-use Rattle.tables.specs.Runs.{randoms}
+use lib.ListN.{length, getD, drop, length-append, length-map, length-drop}
+use Rattle.tables.specs.Tables.{Kind, NOT, XOR, AND, RANDOM, UNKNOWN, Gate, Table, wires, known, operandsOk}
 use Rattle.tables.proofs.Lists.{All, all-append, all-getD, all-map}
 use Rattle.tables.proofs.Format.{SoundGates, sound-append}
 use Rattle.tables.proofs.Accept.{PlainGate, PlainGates, Plain}
-use Rattle.masks.specs.Shares.{sharesOf, upFrom, inTurn, Pair, pairOf, pairs, tri, pairAt, row}
+use Rattle.masks.specs.Shares.{sharesOf, upFrom, inTurn, pairOf, pairs, tri, pairAt, row}
 use Rattle.masks.specs.Gadgets.{Five, first, second, third, fourth, fifth, place, Gadget}
-use Rattle.masks.specs.Wires.{
-  Wire,
-  wire,
-  Origin,
-  andPart,
-  sum,
-  xorShare,
-  share,
-  driverOf,
-  adding,
-  pairWires,
-  rowWires,
-  pairWire,
-  andWires,
-  newWires,
-  newShares,
-  inputShares,
-  cost,
-  draws,
-  masked,
-  sharesAfter,
-  outputShares,
-  maskedTable,
-  totalOf,
-}
-use Rattle.masks.proofs.Sum.{up-length, up-all, up-at}
-use Rattle.masks.proofs.Rows.{pairs-length, pairs-in, pair-below, row-length, row-all}
+use Rattle.masks.specs.Wires.{Wire, Origin, share, driverOf, adding, pairWires, rowWires, pairWire, andWires, newWires, newShares, inputShares, cost, masked, sharesAfter, outputShares, maskedTable, totalOf}
+use Rattle.masks.proofs.Sum.{up-length, up-all}
+use Rattle.masks.proofs.Rows.{pairs-length, pairs-in, pair-below, row-all}
 use Rattle.masks.proofs.Each.{Each, each-append, each-in-turn, each-up, each-rows, in-turn-length}
 use Rattle.masks.proofs.Lawful.{Lawful, both-below}
-use Rattle.masks.proofs.Costs.{pairs-span, rows-span, new-length, adding-length, masked-wires}
+use Rattle.masks.proofs.Costs.{pairs-span, rows-span, new-length, masked-wires}
 
 -- n wires, all before wire w
 abbrev pub Stands : ℕ → ℕ → List ℕ → Type 0

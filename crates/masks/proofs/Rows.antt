@@ -1,7 +1,7 @@
 -- Pairs and rows: where each pair stands, and the rows by recursion over the shares (`around`), with no test, so that the
 -- rows together add each pair's two wires once.
 -- Assumes nothing.
-use mathlib.Core.Path.{_≡_, refl, ap, sym, _∙_}
+use mathlib.Core.Path.{_≡_, refl, ap, _∙_}
 use mathlib.Core.List.{List, [], _∷_, _++_}
 use Prim.Native.Nat.{ℕ, zero, suc, _+_, _-_, _*_, _≤_, _<_}
 use native.Mathlib.Nat.{add-suc, add-assoc, zero-add, add-zero, suc-add}
@@ -10,21 +10,7 @@ use lib.ListN.{length, getD, length-append, List·getD-append}
 use lib.Seq.{getD-append-add}
 use Rattle.tables.proofs.Lists.{All, all-append, all-map}
 use Rattle.masks.specs.Shares.{upFrom, Pair, pairOf, pairsFrom, pairs, tri, pairAt, row}
-use Rattle.masks.proofs.Sum.{
-  sumOf,
-  sum-append,
-  sum-add,
-  sum-cong,
-  up-length,
-  up-at,
-  up-shift,
-  up-plus,
-  up-append,
-  up-cong,
-  up-all,
-  up-ids,
-  sum-from,
-}
+use Rattle.masks.proofs.Sum.{sumOf, sum-append, sum-add, sum-cong, up-length, up-at, up-shift, up-plus, up-append, up-all, up-ids, sum-from}
 
 pub pairs-length : (c i : ℕ) → length (pairsFrom c i) ≡ tri c
 unfolding pairsFrom tri

@@ -1,7 +1,7 @@
 -- What sets one masked AND apart from another: the five wires of a pair of shares i < j, their marks, which of them the rows
 -- add, and what the map flips. Document 01's AND is `isw` (source document 001, section 3).
 -- Assumes nothing.
-use mathlib.Core.Bool.{Bool, true, false, _||_}
+use mathlib.Core.Bool.{Bool, false, _||_}
 use mathlib.Core.List.{List, [], _∷_}
 use Prim.Native.Nat.{ℕ, _+_, _*_}
 use lib.Dec.{eqb}

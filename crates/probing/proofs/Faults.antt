@@ -1,7 +1,7 @@
 -- The refusals of mapping: a law for each place of the chain at which one answers, and what holds where none does.
 -- Assumes nothing.
 use mathlib.Core.Path.{_≡_, refl, sym, ap, ap₂, subst, _∙_}
-use mathlib.Core.Bool.{Bool, true, false, _&&_, _||_, not}
+use mathlib.Core.Bool.{true, _&&_, _||_, not}
 use mathlib.Core.List.{List, [], _∷_, _++_}
 use Prim.Native.Nat.{ℕ, zero, suc, _+_, _*_, _≤_, _<_}
 use native.Mathlib.Nat.{zero-add}
@@ -11,7 +11,7 @@ use lib.ListN.{length, getD, drop, drop-of-length-le}
 use lib.Seq.{drop-cons, take-append-seam, drop-append-seam}
 use borrow.Author.Tests.{ltb-true, ltb-false, eqb-true, eq-eqb, ne-eqb, lt-ltb, le-ltb, not-false}
 use Rattle.tables.specs.declared.Refusal as DR
-use Rattle.tables.specs.Refusals.{pick, Fault, fault, none, passed, orElse, refusedIf, badBit}
+use Rattle.tables.specs.Refusals.{Fault, fault, none, passed, orElse, refusedIf, badBit}
 use Rattle.tables.specs.Tables.{wires, tableOf}
 use Rattle.tables.specs.Says.{Refused, FirstBad}
 use Rattle.tables.proofs.Tests.{and-true, or-false, both-passed, first-passed, first-refused, not-refused}

@@ -12,7 +12,7 @@ use lib.Seq.{take-append-seam, drop-append-seam}
 use borrow.Author.Tests.{ltb-false, eqb-true, eq-eqb, ne-eqb, lt-ltb, le-ltb, not-false}
 use Rattle.tables.specs.declared.Refusal as DR
 use Rattle.tables.specs.Refusals.{pick, Fault, fault, none, passed, orElse, refusedIf, badBit}
-use Rattle.tables.specs.Tables.{Table, wires, word, gatesFrom, tableOf, tableFault, countKind}
+use Rattle.tables.specs.Tables.{wires, word, gatesFrom, tableOf, tableFault, countKind}
 use Rattle.tables.specs.Runs.{randoms}
 use Rattle.tables.specs.Says.{Refused, FirstBad, runFault}
 use Rattle.running.specs.Running.{supplyFault, roomFault}

@@ -1,29 +1,21 @@
 -- A run that no check refuses: what each step of it needs, and that the steps together leave the run's values and outputs.
 -- Assumes nothing.
-use mathlib.Core.Path.{_≡_, refl, sym, ap, subst, _∙_}
-use mathlib.Core.Bool.{true, false}
+use mathlib.Core.Path.{_≡_, refl, ap, _∙_}
+use mathlib.Core.Bool.{true}
 use mathlib.Core.List.{List, [], _∷_, _++_}
 use Prim.Native.Nat.{ℕ, zero, suc, _+_, _-_, _*_, _≤_, _<_}
 use native.Mathlib.Omega.{arith}
 use lib.ListN.{length, getD, take, drop, length-append, length-drop, List·getD-append}
-use lib.Seq.{take-append-seam, drop-drop, drop-append-add, getD-drop}
+use lib.Seq.{take-append-seam, drop-drop, drop-append-add}
 use Rattle.tables.specs.declared.Refusal as DR
-use Rattle.tables.specs.Refusals.{pick, Fault, fault, none, passed}
-use Rattle.tables.specs.Tables.{Table, wires, word, wordsFrom, tableOf, tableFault}
-use Rattle.tables.specs.Runs.{runFrom, run, readAll, outputsOf, randoms}
-use Rattle.tables.specs.Says.{Refused, Answered, over, left, runFault, RunSays}
+use Rattle.tables.specs.Refusals.{passed}
+use Rattle.tables.specs.Tables.{Table, wires, word, wordsFrom, tableOf}
+use Rattle.tables.specs.Runs.{runFrom, run, readAll, outputsOf}
+use Rattle.tables.specs.Says.{Refused, over, runFault, RunSays}
 use Rattle.running.specs.Running.{RunReady, OutputsReady}
 use Rattle.tables.proofs.Lists.{All, all-getD}
 use Rattle.tables.proofs.Run.{run-length}
-use Rattle.tables.proofs.Accept.{
-  Accepted,
-  accepted,
-  inputs-of,
-  gates-of-length,
-  outputs-of-length,
-  wires-of,
-  outputs-passed,
-}
+use Rattle.tables.proofs.Accept.{accepted, inputs-of, gates-of-length, outputs-of-length, wires-of, outputs-passed}
 use Rattle.tables.proofs.Loops.{word-drop}
 use Rattle.tables.proofs.Answers.{answered-refused, left-refused, answered-passed}
 use Rattle.running.proofs.RunFault.{accepted-long, clean-run, RunGood}

@@ -2,50 +2,24 @@
 -- Assumes nothing.
 use mathlib.Core.Path.{_≡_, refl, sym, ap, subst, _∙_}
 use mathlib.Core.Bool.{true}
-use mathlib.Core.List.{List, [], _∷_, _++_, append-nil}
+use mathlib.Core.List.{List, [], _∷_, _++_}
 use Prim.Native.Nat.{ℕ, zero, suc, _+_, _-_, _*_, _≤_, _<_}
 use native.Mathlib.Nat.{add-zero, add-suc}
-use native.Mathlib.Numerals.{add-one}
 use native.Mathlib.Omega.{arith}
 use lib.Dec.{eqb, ltb}
-use lib.ListN.{length, getD, take, drop, set, length-set, length-append, take-append-drop}
-use lib.Seq.{
-  length-take-le,
-  drop-drop,
-  getD-drop,
-  getD-take,
-  take-suc-set,
-  drop-set-lt,
-  take-at,
-}
+use lib.ListN.{length, getD, take, drop, set, length-set, take-append-drop}
+use lib.Seq.{length-take-le, drop-drop, getD-drop, getD-take, take-suc-set, drop-set-lt}
 use borrow.Author.Tests.{ltb-true, eqb-true}
 use Rattle.running.specs.declared.Drawn as DD
-use Rattle.tables.specs.Refusals.{passed}
-use Rattle.tables.specs.Tables.{
-  Kind,
-  NOT,
-  XOR,
-  AND,
-  RANDOM,
-  UNKNOWN,
-  kindOf,
-  Gate,
-  gate,
-  word,
-  gatesFrom,
-  tableOf,
-  known,
-  operandsOk,
-  tableFault,
-}
+use Rattle.tables.specs.Tables.{Kind, NOT, XOR, AND, RANDOM, UNKNOWN, kindOf, Gate, gate, word, tableOf, known, operandsOk}
 use Rattle.tables.specs.Runs.{driven, drawn, runFrom, randoms}
 use Rattle.tables.specs.Says.{over}
 use Rattle.running.specs.Running.{GateReady, GateSays, RunReady}
 use Rattle.tables.proofs.Tests.{and-true}
-use Rattle.tables.proofs.Lists.{Bits, bits-nil, bits-cons, bits-append, bits-take}
-use Rattle.tables.proofs.Run.{Earlier, driven-local, driven-bit, run-length}
+use Rattle.tables.proofs.Lists.{Bits, bits-nil, bits-cons, bits-append}
+use Rattle.tables.proofs.Run.{Earlier, driven-local, driven-bit}
 use Rattle.tables.proofs.Accept.{inputs-of, gates-of-length, accepted, Accepted}
-use Rattle.tables.proofs.Loops.{gatesAt, gateAt, gates-at-table, gates-at-step, gates-at-end}
+use Rattle.tables.proofs.Loops.{gatesAt, gates-at-table, gates-at-step, gates-at-end}
 use Rattle.tables.proofs.Format.{SoundGates, sound-earlier, passed-sound-gates}
 
 -- what a known kind with good operands reads; there is an input, so that wire 0 is earlier too

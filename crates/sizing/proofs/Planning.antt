@@ -1,13 +1,13 @@
 -- Which of refusals 1 to 8 answers for a plain table and an order, and the sizes where none does.
 -- Assumes nothing.
 use mathlib.Core.Path.{_≡_, refl, sym, ap, _∙_}
-use mathlib.Core.Bool.{Bool, true, false, _&&_, _||_, not}
+use mathlib.Core.Bool.{Bool, true, false, _||_, not}
 use mathlib.Core.List.{List, [], _∷_}
-use Prim.Native.Nat.{ℕ, suc, _+_, _*_, _≤_, _<_}
+use Prim.Native.Nat.{ℕ, _+_, _*_, _≤_, _<_}
 use native.Mathlib.Nat.{mul-le-mul}
 use native.Mathlib.Omega.{arith}
 use borrow.Author.Tests.{lt-ltb, le-ltb, eq-eqb, ne-eqb, not-false}
-use lib.Dec.{ltb, eqb}
+use lib.Dec.{ltb}
 use lib.ListN.{length, drop}
 use Rattle.tables.specs.declared.Refusal as DR
 use Rattle.tables.specs.Refusals.{Fault, fault, none, passed, orElse, refusedIf}
@@ -42,7 +42,7 @@ use Rattle.masks.specs.Gadgets.{isw}
 use Rattle.masks.specs.Wires.{cost, draws, totalOf, maskedTable, tapeLong}
 use Rattle.masks.specs.Says.{orderOk, orderFault, tooMany, plainFault, ForecastSays}
 use Rattle.sizing.specs.Plans.{HasGates, Maskable, TotalsSay, PlanRefused, PlanReady, PlanFits, planBytes, FiguresSay}
-use Rattle.masks.proofs.Passed.{refused-as, plain-passed}
+use Rattle.masks.proofs.Passed.{plain-passed}
 use Rattle.masks.proofs.Orders as orders
 use Rattle.masks.proofs.Lawful.{isw-lawful}
 use Rattle.masks.proofs.Placed.{masked-outputs}

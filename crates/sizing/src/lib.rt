@@ -7,7 +7,7 @@ ghost use Rattle.masks.specs.Shares.{tri};
 ghost use Rattle.masks.specs.Wires.{cost, draws};
 ghost use Rattle.tables.specs.Refusals.{Fault, orElse};
 ghost use Rattle.tables.specs.Says.{Refused};
-ghost use Rattle.masks.specs.Says.{orderFault, ForecastSays};
+ghost use Rattle.masks.specs.Says.{ForecastSays};
 ghost use Rattle.sizing.specs.Plans.{HasGates, TotalsSay, Maskable, PlanSays, PlanFits, planBytes, FiguresSay};
 ghost use mathlib.Core.List.{[], _∷_};
 ghost use Rattle.text.specs.Text.{decimal, lineOf, Puts};

@@ -1,15 +1,14 @@
 -- A run solves the gates' equations over its random bits: from here on the order in which the values were found is forgotten.
 -- Assumes nothing.
 use mathlib.Core.Path.{_≡_, refl, sym, ap, _∙_}
-use mathlib.Core.List.{List, [], _∷_, _++_, map, append-assoc}
-use Prim.Native.Nat.{ℕ, zero, suc, _+_, _-_, _*_, _%_, _≤_, _<_}
-use native.Mathlib.Nat.{add-assoc, add-suc, zero-add, add-zero}
-use native.Mathlib.Numerals.{add-one}
+use mathlib.Core.List.{List, [], _∷_, _++_}
+use Prim.Native.Nat.{ℕ, zero, suc, _+_, _-_, _*_, _≤_, _<_}
+use native.Mathlib.Nat.{add-assoc, add-zero}
 use native.Mathlib.Omega.{arith}
-use lib.ListN.{length, getD, take, drop, length-append, length-drop, List·getD-append}
+use lib.ListN.{length, getD, drop, length-append, length-drop, List·getD-append}
 use lib.Seq.{drop-drop, getD-drop, getD-at, drop-append-le}
 use Rattle.tables.specs.Tables.{Kind, NOT, XOR, AND, RANDOM, UNKNOWN, Gate}
-use Rattle.tables.specs.Runs.{xor, driven, drawn, runFrom, readAll, randoms}
+use Rattle.tables.specs.Runs.{driven, drawn, runFrom, randoms}
 use Rattle.tables.proofs.Lists.{Bits, bits-nil, bits-cons, bits-append, bits-drop}
 
 -- v has, from wire w on, the values that the gates drive; the next random bit is the bit c of r

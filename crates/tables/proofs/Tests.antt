@@ -1,10 +1,10 @@
 -- Tests and chains of refusals: what a test that passed says, and which refusal of a chain answers.
 -- Assumes nothing.
 use mathlib.Core.Path.{_≡_, refl}
-use mathlib.Core.Bool.{Bool, true, false, _&&_, _||_, not}
+use mathlib.Core.Bool.{Bool, true, false, _&&_, _||_}
 use Prim.Native.Nat.{ℕ}
-use lib.Dec.{eqb, ltb, leb}
-use Rattle.tables.specs.Refusals.{pick, Fault, none, fault, passed, orElse, refusedIf}
+use lib.Dec.{eqb}
+use Rattle.tables.specs.Refusals.{pick, Fault, passed, orElse, refusedIf}
 
 pub and-true : (a b : Bool) → a && b ≡ true → (a ≡ true) × (b ≡ true)
 and-true true b h = (refl, h)

@@ -2,7 +2,7 @@
 -- input the number, the place, the value and every lent byte afterwards.
 -- Assumes nothing.
 use mathlib.Core.Path.{_≡_}
-use mathlib.Core.Bool.{Bool, _&&_, _||_, not}
+use mathlib.Core.Bool.{_&&_, _||_, not}
 use mathlib.Core.List.{List, _++_}
 use Prim.Native.Nat.{ℕ, _+_, _≤_}
 use lib.Dec.{eqb, ltb}
@@ -10,22 +10,7 @@ use lib.ListN.{length, take, drop}
 use Rattle.tables.specs.declared.Answer as DA
 use Rattle.tables.specs.declared.Refusal as DR
 use Rattle.tables.specs.Refusals.{pick, Fault, fault, none, passed, orElse, refusedIf, numbered, badBit}
-use Rattle.tables.specs.Tables.{
-  Kind,
-  NOT,
-  XOR,
-  AND,
-  RANDOM,
-  UNKNOWN,
-  Table,
-  wires,
-  word,
-  tableOf,
-  tableLong,
-  gatesFault,
-  outputsFault,
-  tableFault,
-}
+use Rattle.tables.specs.Tables.{Kind, NOT, XOR, AND, RANDOM, UNKNOWN, wires, word, tableOf, tableLong, gatesFault, outputsFault, tableFault}
 use Rattle.tables.specs.Runs.{run, outputsOf, randoms}
 
 -- number and place are the fault's

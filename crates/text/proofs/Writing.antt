@@ -4,15 +4,15 @@ use mathlib.Core.Path.{_≡_, refl, sym, ap, _∙_, subst}
 use mathlib.Core.Bool.{Bool, true, false}
 use mathlib.Core.List.{List, [], _∷_, _++_, append-assoc, append-nil}
 use Prim.Native.Nat.{ℕ, zero, suc, _+_, _-_, _*_, _/_, _%_, _^_, _≤_, _<_}
-use native.Mathlib.Nat.{pow-succ', add-assoc}
+use native.Mathlib.Nat.{pow-succ'}
 use native.Mathlib.Numerals.{add-one}
 use native.Mathlib.Omega.{arith}
 use borrow.Author.Tests.{lt-ltb, le-ltb, ltb-false}
 use lib.Dec.{ltb}
 use lib.ListN.{length, getD, take, drop, set, length-append, length-set, length-drop}
 use lib.Seq.{drop-cons, drop-set-lt, getD-set-same, take-suc, take-all, take-length, drop-length, length-take-le}
-use Rattle.tables.specs.Says.{putAt, over}
-use Rattle.tables.proofs.Put.{put-length, put-zero, put-nil, put-set, put-append}
+use Rattle.tables.specs.Says.{putAt}
+use Rattle.tables.proofs.Put.{put-length, put-nil, put-set, put-append}
 use Rattle.text.specs.Text.{digits, decimal, refusedWord, lineOf, refusalLine, Spelled, Puts}
 
 pub digits-long : (c v : ℕ) → length (digits c v) ≤ c

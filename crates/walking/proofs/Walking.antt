@@ -25,8 +25,7 @@ use borrow.Author.Tests.{eq-eqb, ne-eqb}
 use Rattle.running.specs.declared.Drawn as DD
 use Rattle.tables.specs.Refusals.{pick}
 use Rattle.tables.specs.Tables.{Kind, NOT, XOR, AND, RANDOM, UNKNOWN, kindOf, Gate, gate, word, tableOf}
-use Rattle.tables.specs.Runs.{xor, driven, drawn, runFrom, randoms}
-use Rattle.tables.specs.Says.{over}
+use Rattle.tables.specs.Runs.{xor, driven, drawn, randoms}
 use Rattle.running.specs.Running.{GateReady, GateSays, RunReady}
 use Rattle.tables.proofs.Lists.{Bits, bits-nil, bits-cons}
 use Rattle.tables.proofs.Accept.{gates-length, wires-of, accepted, Accepted}

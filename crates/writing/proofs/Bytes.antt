@@ -2,13 +2,13 @@
 -- a rest is still to be written. Everything that is written goes piece by piece through `Left`.
 -- Assumes nothing.
 use mathlib.Core.Path.{_≡_, refl, sym, ap, _∙_}
-use mathlib.Core.List.{List, [], _∷_, _++_, map, map-append, append-assoc}
+use mathlib.Core.List.{List, [], _∷_, _++_, map, map-append}
 use Prim.Native.Nat.{ℕ, zero, suc, _+_, _-_, _*_, _≤_, _<_}
 use native.Mathlib.Nat.{add-zero}
 use native.Mathlib.Numerals.{add-one}
 use native.Mathlib.Omega.{arith}
 use lib.ListN.{length, set, length-append, length-map}
-use Rattle.tables.specs.Tables.{Gate, two, kindBytes, pairBytes}
+use Rattle.tables.specs.Tables.{Gate, kindBytes, pairBytes}
 use Rattle.tables.specs.Says.{putAt}
 use Rattle.tables.proofs.Format.{kinds-long, pairs-long}
 use Rattle.tables.proofs.Put.{put-length, put-nil, put-set, put-append}

@@ -3,10 +3,10 @@
 use mathlib.Core.Path.{_≡_, refl, sym, ap, _∙_, subst}
 use mathlib.Core.List.{List, [], _∷_, _++_, map, append-assoc}
 use Prim.Native.Nat.{ℕ, zero, suc, _+_, _-_, _*_, _≤_, _<_}
-use native.Mathlib.Nat.{zero-add, add-zero, add-suc}
+use native.Mathlib.Nat.{zero-add, add-zero}
 use native.Mathlib.Omega.{arith}
-use lib.ListN.{length, getD, length-append}
-use Rattle.tables.specs.Tables.{NOT, XOR, AND, kindOf, gate, two, pairBytes}
+use lib.ListN.{length, getD}
+use Rattle.tables.specs.Tables.{XOR, AND, kindOf, gate, two, pairBytes}
 use Rattle.masks.specs.Shares.{upFrom, inTurn, Pair, pairOf, pairs, tri, pairAt, row}
 use Rattle.masks.specs.Gadgets.{Gadget, allFive, iswGates, isw}
 use Rattle.masks.specs.Wires.{
@@ -25,7 +25,7 @@ use Rattle.masks.specs.Wires.{
 }
 use Rattle.writing.specs.declared.Pair as DQ
 use Rattle.writing.specs.Layout.{PairNo, operandBytes, allPairs, sumBytes, highWires, lowWires, rowBytes, allRows}
-use Rattle.writing.proofs.Bytes.{operands-append, operands-long, adding-operands, sums-append, joined, joined-long}
+use Rattle.writing.proofs.Bytes.{operands-append, operands-long, adding-operands, sums-append, joined}
 use Rattle.masks.proofs.Sum.{up-length, up-plus, up-cong, up-shift}
 use Rattle.masks.proofs.Rows.{pairs-length, pair-at, pair-below, tri-closed, pair-closed, row-length}
 use Rattle.masks.proofs.Each.{in-turn-length}

@@ -1,7 +1,7 @@
 -- `assembling::write_outputs` meets its contract: the outputs from number o on are left to write.
 -- Assumes nothing.
-use mathlib.Core.Path.{_∙_, sym, subst}
-use Prim.Native.Nat.{_-_, _<_}
+use mathlib.Core.Path.{_∙_}
+use Prim.Native.Nat.{_-_}
 use native.Mathlib.Omega.{arith}
 use borrow.Author.Needs.{needs}
 use Rattle.tables.proofs.Put.{put-zero}

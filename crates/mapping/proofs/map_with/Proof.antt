@@ -1,7 +1,7 @@
 -- `mapping::map_with` meets its contract: the masked table is at the front of the buffer, both runs are begun, the walk does
 -- the rest.
 -- Assumes nothing.
-use mathlib.Core.Path.{refl, sym, _∙_}
+use mathlib.Core.Path.{refl, sym}
 use native.Mathlib.Omega.{arith}
 use lib.Seq.{length-take-le}
 use borrow.Author.Needs.{needs}

@@ -1,6 +1,5 @@
 -- `running::run_gates` meets its contract. The invariant: running the gates left from the values so far gives the whole run.
 -- Assumes nothing.
-use mathlib.Core.Path.{refl}
 use Prim.Native.Nat.{_-_}
 use native.Mathlib.Numerals.{add-one}
 use native.Mathlib.Omega.{arith}

@@ -1,7 +1,6 @@
 -- `running::run_table` meets its contract: a run that no check refuses copies the inputs, runs the gates and reads the outputs.
 -- Assumes nothing.
 use mathlib.Core.Path.{_≡_, _∙_}
-use Prim.Native.Nat.{_≤_, _<_}
 use native.Mathlib.Omega.{arith}
 use lib.ListN.{length}
 use Rattle.tables.specs.Tables.{tableOf}

@@ -1,15 +1,11 @@
 -- `writing::write_operands_of` meets its contract, kind by kind.
 -- Assumes nothing.
-use mathlib.Core.Path.{_≡_, refl, sym, ap, _∙_}
-use mathlib.Core.List.{List, [], map}
-use Prim.Native.Nat.{ℕ, suc, _+_, _*_}
+use mathlib.Core.Path.{sym}
 use native.Mathlib.Omega.{arith}
 use borrow.Author.Needs.{needs}
 use Rattle.tables.specs.Tables.{pairBytes}
 use Rattle.tables.proofs.Put.{put-nil}
 use Rattle.masks.specs.Gadgets.{isw}
-use Rattle.writing.specs.Layout.{listed}
-use Rattle.writing.proofs.Listed.{share-low}
 use Rattle.writing.proofs.Pieces.{no-wires}
 use Rattle.writing.proofs.write_operands_of.Statement.{statement}
 use Rattle.writing.proofs.write_operands_of.Tie as tie

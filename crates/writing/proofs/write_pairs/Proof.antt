@@ -1,10 +1,9 @@
 -- `writing::write_pairs` meets its contract. The invariant: c pairs are written, and p is the pair that is number c.
 -- Assumes nothing.
-use mathlib.Core.Path.{_≡_, ap}
-use Prim.Native.Nat.{ℕ, suc, _+_, _-_, _*_, _/_, _≤_, _<_}
+use mathlib.Core.Path.{_≡_}
+use Prim.Native.Nat.{ℕ, _+_, _-_, _*_, _/_, _≤_, _<_}
 use native.Mathlib.Numerals.{add-one}
 use native.Mathlib.Omega.{arith}
-use lib.ListN.{length}
 use borrow.Author.Needs.{needs}
 use Rattle.masks.specs.Shares.{tri}
 use Rattle.masks.proofs.Rows.{tri-closed}

@@ -7,7 +7,7 @@ use native.Mathlib.Omega.{arith}
 use lib.ListN.{length}
 use borrow.Author.Needs.{needs}
 use Rattle.tables.specs.Tables.{two}
-use Rattle.writing.specs.Layout.{listed, sumBytes, highWires, lowWires}
+use Rattle.writing.specs.Layout.{sumBytes, highWires, lowWires}
 use Rattle.writing.proofs.Listed.{share-low}
 use Rattle.writing.proofs.Bytes.{sums-long, put-then}
 use Rattle.masks.proofs.Sum.{up-length}
