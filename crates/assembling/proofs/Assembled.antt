@@ -17,13 +17,13 @@ use Rattle.sizing.specs.Plans.{PlanReady, planBytes}
 use Rattle.masks.specs.Shares.{sharesOf}
 use Rattle.masks.specs.Gadgets.{isw}
 use Rattle.masks.specs.Wires.{cost, totalOf, driverOf, inputShares, masked, outputShares, sharesAfter, maskedTable}
-use Rattle.assembling.specs.Masking.{Shareable, sharesBy, Room, Located, allShares, gateWire, stretch, maskedGates, afterSizes}
+use Rattle.placing.specs.Masking.{Shareable, sharesBy, Room, Located, allShares, gateWire, stretch, maskedGates, afterSizes}
 use Rattle.masks.proofs.Costs.{masked-length, masked-wires}
 use Rattle.writing.proofs.Drivers.{masked-kinds}
 use Rattle.sizing.proofs.Planning.{plan-fits}
 use Rattle.writing.proofs.Bytes.{put-then}
-use Rattle.assembling.proofs.Located.{located-at}
-use Rattle.assembling.proofs.Shareable.{shareable-sized}
+use Rattle.placing.proofs.Located.{located-at}
+use Rattle.placing.proofs.Shareable.{shareable-sized}
 use Rattle.assembling.proofs.Stretches.{outputs-long}
 
 -- the gates and the outputs of the masked table

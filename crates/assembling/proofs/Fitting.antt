@@ -15,7 +15,7 @@ use Rattle.masks.specs.Wires.{maskedTable}
 use Rattle.masks.specs.Says.{orderFault, tooMany, plainFault}
 use Rattle.sizing.specs.declared.Plan as DP
 use Rattle.sizing.specs.Plans.{PlanReady, planBytes}
-use Rattle.assembling.specs.Masking.{Room}
+use Rattle.placing.specs.Masking.{Room}
 use Rattle.assembling.proofs.Assembled.{masked-bytes, bytes-long, plan-numbers}
 
 -- three cleared arrays have room

@@ -18,14 +18,14 @@ use Rattle.writing.specs.declared.Places as DP
 use Rattle.masks.specs.Wires.{cost, totalOf, share, newShares, inputShares, masked, outputShares, driverOf, newWires}
 use Rattle.masks.specs.Gadgets.{isw}
 use Rattle.writing.specs.Layout.{listed, LowShares, operandBytes, wireKinds, XorsFrom}
-use Rattle.assembling.specs.Masking.{Shareable, placesAt, sharesBy, Room, Located, allShares, gateWire, stretch, maskedGates}
+use Rattle.placing.specs.Masking.{Shareable, placesAt, sharesBy, Room, Located, allShares, gateWire, stretch, maskedGates}
 use Rattle.masks.proofs.Sum.{up-length}
 use Rattle.masks.proofs.Costs.{new-length, masked-length}
 use Rattle.writing.proofs.Drivers.{masked-drivers, masked-kinds}
 use Rattle.writing.proofs.GateKinds.{kinds-same, xors-after}
 use Rattle.writing.proofs.Bytes.{operands-append, operands-long, wire-kinds-append, wire-kinds-long}
 use Rattle.masks.proofs.Placed.{Placed, share-below, placed-at, placed-inputs, placed-after, outputs-stand, shares-after-length}
-use Rattle.assembling.proofs.Located.{
+use Rattle.placing.proofs.Located.{
   noGate,
   gateOf,
   gate-wire-suc,
@@ -37,7 +37,7 @@ use Rattle.assembling.proofs.Located.{
   located-placed,
   gate-wire-left,
 }
-use Rattle.assembling.proofs.Shareable.{Turn, turn, gate-at, shareable-sized, shareable-passed}
+use Rattle.placing.proofs.Shareable.{Turn, turn, gate-at, shareable-sized, shareable-passed}
 
 -- a buffer where the rest is still to be put at a place, after which it is what it shall become
 pub record Left (whole b₀ : List ℕ) (at : ℕ) (rest b : List ℕ) : Type 0 where

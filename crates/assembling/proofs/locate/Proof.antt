@@ -5,10 +5,6 @@ use borrow.Author.Needs.{needs}
 use Rattle.assembling.proofs.Assembled.{plan-work, work-inputs, room-kept}
 use Rattle.assembling.proofs.locate.Statement.{statement}
 use Rattle.assembling.proofs.locate.Tie as tie
-use Rattle.assembling.proofs.locate.Reads as reads
-use Rattle.assembling.proofs.locate.Lts as lts
-use Rattle.assembling.proofs.place_gates.Reads as place-gates-reads
-use Rattle.assembling.proofs.place_inputs.Reads as place-inputs-reads
 
 place-inputs-requires : tie.Need-place-inputs-requires
 place-inputs-requires c κs =

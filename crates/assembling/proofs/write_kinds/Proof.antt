@@ -4,7 +4,7 @@ use mathlib.Core.Path.{_∙_}
 use Prim.Native.Nat.{_-_}
 use native.Mathlib.Omega.{arith}
 use borrow.Author.Needs.{needs}
-use Rattle.assembling.proofs.Shareable.{gate-fine, shareable-sized}
+use Rattle.placing.proofs.Shareable.{gate-fine, shareable-sized}
 use Rattle.assembling.proofs.Stretches.{Kinds, kindsWhole, kinds-start, kinds-over, kinds-room, kinds-turn, kinds-end}
 use Rattle.assembling.proofs.write_kinds.Statement.{statement}
 use Rattle.assembling.proofs.write_kinds.Tie as tie

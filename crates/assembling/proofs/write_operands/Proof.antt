@@ -6,7 +6,7 @@ use native.Mathlib.Omega.{arith}
 use borrow.Author.Needs.{needs}
 use Rattle.tables.specs.Tables.{word}
 use Rattle.tables.proofs.Put.{put-zero}
-use Rattle.assembling.proofs.Shareable.{Turn}
+use Rattle.placing.proofs.Shareable.{Turn}
 use Rattle.assembling.proofs.Stretches.{
   located-room,
   low-read,

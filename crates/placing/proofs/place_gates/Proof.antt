@@ -1,18 +1,11 @@
--- `assembling::place_gates` meets its contract: the gates before number g are noted, and gate g begins at wire w.
+-- `placing::place_gates` meets its contract: the gates before number g are noted, and gate g begins at wire w.
 -- Assumes nothing.
 use Prim.Native.Nat.{_-_}
 use native.Mathlib.Omega.{arith}
-use Rattle.assembling.proofs.Shareable.{Turn, inputs-fits}
-use Rattle.assembling.proofs.Placing.{Placing, placing-start, placing-facts, placing-turn, placing-end, Same, same-start, same-put}
-use Rattle.assembling.proofs.place_gates.Statement.{statement}
-use Rattle.assembling.proofs.place_gates.Tie as tie
-use Rattle.assembling.proofs.place_gates.Reads as reads
-use Rattle.assembling.proofs.place_gates.Lts as lts
-use Rattle.sizing.proofs.gate_cost.Reads as gate-cost-reads
-use Rattle.assembling.proofs.new_places.Reads as new-places-reads
-use Rattle.assembling.proofs.places_at.Reads as places-at-reads
-use Rattle.assembling.proofs.put_places.Reads as put-places-reads
-use Rattle.tables.proofs.field.Reads as field-reads
+use Rattle.placing.proofs.Shareable.{Turn, inputs-fits}
+use Rattle.placing.proofs.Placing.{Placing, placing-start, placing-facts, placing-turn, placing-end, Same, same-start, same-put}
+use Rattle.placing.proofs.place_gates.Statement.{statement}
+use Rattle.placing.proofs.place_gates.Tie as tie
 
 abbrev Inv-loop : tie.InvT-loop
 Inv-loop table inputs gates n first₀ base₀ step₀ w₀ g₀ first base step w g =

@@ -1,9 +1,9 @@
--- `assembling::place_inputs` meets its contract: the inputs before number i are noted, and the next one begins at wire n·i.
+-- `placing::place_inputs` meets its contract: the inputs before number i are noted, and the next one begins at wire n·i.
 -- Assumes nothing.
 use Prim.Native.Nat.{_+_, _-_, _≤_}
 use native.Mathlib.Omega.{arith}
 use borrow.Author.Needs.{needs}
-use Rattle.assembling.proofs.Placing.{
+use Rattle.placing.proofs.Placing.{
   Inputs,
   inputs-start,
   inputs-fit,
@@ -14,11 +14,8 @@ use Rattle.assembling.proofs.Placing.{
   same-start,
   same-put,
 }
-use Rattle.assembling.proofs.place_inputs.Statement.{statement}
-use Rattle.assembling.proofs.place_inputs.Tie as tie
-use Rattle.assembling.proofs.place_inputs.Reads as reads
-use Rattle.assembling.proofs.place_inputs.Lts as lts
-use Rattle.assembling.proofs.put_places.Reads as put-places-reads
+use Rattle.placing.proofs.place_inputs.Statement.{statement}
+use Rattle.placing.proofs.place_inputs.Tie as tie
 
 abbrev Inv-loop : tie.InvT-loop
 Inv-loop n inputs first₀ base₀ step₀ w₀ i₀ first base step w i =

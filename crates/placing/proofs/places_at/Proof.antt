@@ -1,10 +1,10 @@
--- `assembling::places_at` meets its contract: an element of a 16-bit array is below 65,536.
+-- `placing::places_at` meets its contract: an element of a 16-bit array is below 65,536.
 -- Assumes nothing.
 use mathlib.Core.Path.{refl}
 use borrow.Author.Needs.{needs}
 use native.Mathlib.Omega.{arith}
-use Rattle.assembling.proofs.places_at.Statement.{statement}
-use Rattle.assembling.proofs.places_at.Tie as tie
+use Rattle.placing.proofs.places_at.Statement.{statement}
+use Rattle.placing.proofs.places_at.Tie as tie
 
 mul-t5 : tie.Need-mul-t5
 mul-t5 c = search needs

@@ -22,10 +22,10 @@ use Rattle.tables.proofs.Loops.{gatesAt, gateAt, gates-at-table, gates-at-step}
 use Rattle.masks.specs.Gadgets.{isw}
 use Rattle.masks.specs.Wires.{cost, totalOf}
 use Rattle.masks.specs.Says.{orderFault, tooMany, plainFault}
-use Rattle.assembling.specs.Masking.{Shareable}
+use Rattle.placing.specs.Masking.{Shareable}
 use Rattle.masks.proofs.Costs.{masked-wires}
 use Rattle.masks.proofs.Passed.{PlainPassed, plain-passed}
-use Rattle.assembling.proofs.Located.{noGate, gateOf, plain-at}
+use Rattle.placing.proofs.Located.{noGate, gateOf, plain-at}
 
 -- the gates from number g on
 pub gates-drop : (s : List ℕ) (g : ℕ) → g ≤ word s 2 → drop g (tableOf s .gates) ≡ gatesAt s (word s 2) g

@@ -14,10 +14,10 @@ use Rattle.writing.specs.declared.Places as DP
 use Rattle.masks.specs.Shares.{upFrom}
 use Rattle.masks.specs.Wires.{cost, totalOf, newShares, inputShares, sharesAfter}
 use Rattle.writing.specs.Layout.{listed}
-use Rattle.assembling.specs.Masking.{Shareable, placesAt, sharesBy, Room, Put, Located}
+use Rattle.placing.specs.Masking.{Shareable, placesAt, sharesBy, Room, Put, Located}
 use Rattle.masks.proofs.Sum.{up-append}
-use Rattle.assembling.proofs.Located.{placesOf, listed-run, by-at, by-set}
-use Rattle.assembling.proofs.Shareable.{shareable-sized, Turn, turn}
+use Rattle.placing.proofs.Located.{placesOf, listed-run, by-at, by-set}
+use Rattle.placing.proofs.Shareable.{shareable-sized, Turn, turn}
 
 pub put-room : {p c : ℕ} {a : DP.Places} {F B T F′ B′ T′ : List ℕ} → Room c F B T → Put p a F B T F′ B′ T′ → Room c F′ B′ T′
 put-room {p} {c} {a} {F} {B} {T} r w =

@@ -15,7 +15,7 @@ use Rattle.writing.specs.declared.Places as DP
 use Rattle.masks.specs.Shares.{upFrom, tri}
 use Rattle.masks.specs.Wires.{cost, totalOf, newShares, inputShares, sharesAfter}
 use Rattle.writing.specs.Layout.{listed}
-use Rattle.assembling.specs.Masking.{placesAt, Small, sharesBy, allShares, Located, gateWire}
+use Rattle.placing.specs.Masking.{placesAt, Small, sharesBy, allShares, Located, gateWire}
 use Rattle.masks.proofs.Sum.{up-length, up-at, up-plus, up-shift, up-append, up-cong}
 use Rattle.masks.proofs.Placed.{Placed, placed-inputs, placed-after, shares-after-length}
 

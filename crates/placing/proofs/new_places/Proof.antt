@@ -1,11 +1,11 @@
--- `assembling::new_places` meets its contract: the places as the tests of the kind pick them.
+-- `placing::new_places` meets its contract: the places as the tests of the kind pick them.
 -- Assumes nothing.
 use borrow.Author.Needs.{needs}
 use native.Mathlib.Omega.{arith}
-use Rattle.assembling.proofs.Located.{new-places-are}
+use Rattle.placing.proofs.Located.{new-places-are}
 use Rattle.masks.proofs.Figures.{tri-small}
-use Rattle.assembling.proofs.new_places.Statement.{statement}
-use Rattle.assembling.proofs.new_places.Tie as tie
+use Rattle.placing.proofs.new_places.Statement.{statement}
+use Rattle.placing.proofs.new_places.Tie as tie
 
 pair-count-requires : tie.Need-pair-count-requires
 pair-count-requires c κs = search needs
