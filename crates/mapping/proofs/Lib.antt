@@ -1,4 +1,3 @@
 -- Laws of mapping's parts, by subject.
-pub mod Flipping
 pub mod Working
 pub mod Mapping

@@ -1,3 +1,2 @@
 -- What the parts of mapping take and give.
-pub mod Flipping
 pub mod Working

@@ -15,7 +15,7 @@ use Rattle.sizing.specs.declared.Plan as DP
 use Rattle.sizing.specs.Plans.{PlanReady}
 use Rattle.marking.specs.Origins.{orderOf}
 use Rattle.maps.specs.Maps.{flipped, inputFlips, mappedAt}
-use Rattle.mapping.specs.Flipping.{FlipReady}
+use Rattle.walking.specs.Flipping.{FlipReady}
 
 -- both encodings and the front of the mapped tape have room
 pub record BeginReady (o : ℕ) (xs ys ts m a b : List ℕ) : Type 0 where

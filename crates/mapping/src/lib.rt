@@ -1,71 +1,14 @@
 // Mapping a tape from one secret to another: the free share of the probes, the mapped tape and both runs.
 ghost use mathlib.Core.Path.{_≡_};
-ghost use Prim.Native.Nat.{_+_, _-_, _*_, _≤_, _<_};
-ghost use lib.ListN.{length, take, drop};
-ghost use lib.Dec.{eqb};
-ghost use Rattle.tables.specs.Refusals.{pick};
-ghost use Rattle.tables.specs.Runs.{xor};
-ghost use Rattle.tables.specs.Says.{over, putAt};
-ghost use Rattle.tables.proofs.Lists.{Bits};
-ghost use Rattle.masks.specs.Shares.{upFrom, tri};
+ghost use Prim.Native.Nat.{_-_, _*_, _≤_, _<_};
+ghost use lib.ListN.{length};
+ghost use Rattle.masks.specs.Shares.{tri};
 ghost use Rattle.sizing.specs.Plans.{PlanFits, planBytes};
 ghost use Rattle.marking.specs.Origins.{orderOf};
-ghost use Rattle.maps.specs.Maps.{flipped, inputFlips};
 ghost use Rattle.mapping.specs.Working.{BeginReady, BegunSays, WorkReady, WorkSays};
-ghost use Rattle.mapping.specs.Flipping.{FlipReady};
 ghost use Rattle.maps.specs.Says.{MapSays};
 ghost use Rattle.maps.specs.Walk.{offset};
 ghost use Rattle.walking.specs.Walking.{WalkReady, WalkSays};
-
-// A tape bit of share s of an input, flipped where s is the free share and the secrets differ.
-fn flip_bit(bit: u8, s: usize, k: usize, flip: u8) -> u8
-    requires { ⌜ (bit ≤ 1) × (flip ≤ 1) ⌝ }
-    ensures { λ r. ⌜ r ≡ xor bit (pick (eqb s k) flip 0) ⌝ }
-{
-    if s == k {
-        return (bit + flip) % 2;
-    }
-    bit
-}
-
-// Copies the tape bits of one input, which stand from a place on, and flips bit k of them where the secrets differ.
-fn flip_one(bits: usize, k: usize, flip: u8, tape: &[u8], at: usize, mapped: &mut [u8])
-    requires { ⌜ (at + bits ≤ length (now tape))
-        × (at + bits ≤ length (now mapped))
-        × (flip ≤ 1)
-        × Bits (now tape) ⌝ }
-    ensures { λ _. ⌜ now (mapped .exit)
-        ≡ putAt at
-        (flipped (take bits (drop at (now (tape .entry)))) (upFrom bits 1 (λ s. pick (eqb s k) flip 0)))
-        (now (mapped .entry)) ⌝ }
-{
-    let mut s = 0;
-    while s < bits {
-        let bit = tables::tape_bit(tape, at + s);
-        mapped[at + s] = flip_bit(bit, s + 1, k, flip);
-        s += 1;
-    }
-}
-
-// The front of the mapped tape: every input's tape bits, bit k flipped where the secrets differ.
-fn flip_inputs(order: usize, k: usize, first: &[u8], second: &[u8], tape: &[u8], mapped: &mut [u8])
-    requires { ⌜ FlipReady order (now first) (now second) (now tape) (now mapped) ⌝ }
-    ensures { λ _. ⌜ now (mapped .exit)
-        ≡ over
-        (flipped (now (tape .entry)) (inputFlips order k (now (first .entry)) (now (second .entry))))
-        (now (mapped .entry)) ⌝ }
-{
-    let bits = 2 * order;
-    let mut at = 0;
-    let mut i = 0;
-    while i < first.len() {
-        let x = tables::tape_bit(first, i);
-        let y = tables::tape_bit(second, i);
-        flip_one(bits, k, (x + y) % 2, tape, at, mapped);
-        at += bits;
-        i += 1;
-    }
-}
 
 // How many pairs of n shares come before those whose lower share is d, counted from 0.
 fn row_start(n: usize, d: usize) -> usize
@@ -98,7 +41,7 @@ fn begin_runs(
 {
     let bits = tape.len();
     encoding::encode_all(order, first, tape, one);
-    flip_inputs(order, k, first, second, tape, mapped);
+    walking::flip_inputs(order, k, first, second, tape, mapped);
     encoding::encode_all(order, second, &mapped[..bits], other);
 }
 

@@ -1,3 +1,4 @@
--- Laws of the walk.
+-- Laws of the inputs' flips and of the walk.
 pub mod Driving
+pub mod Flipping
 pub mod Walking

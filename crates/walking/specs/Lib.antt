@@ -1,2 +1,3 @@
--- What the walk takes and gives.
+-- What the mapped tape's parts take and give.
+pub mod Flipping
 pub mod Walking

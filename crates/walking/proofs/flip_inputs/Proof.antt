@@ -1,17 +1,17 @@
--- `mapping::flip_inputs` meets its contract. The loop's invariant: the tape bits of the inputs from i on are left to write.
+-- `walking::flip_inputs` meets its contract. The loop's invariant: the tape bits of the inputs from i on are left to write.
 -- Assumes nothing.
 use Prim.Native.Nat.{_-_}
 use native.Mathlib.Omega.{arith}
 use lib.ListN.{length}
-use Rattle.mapping.proofs.Flipping.{
+use Rattle.walking.proofs.Flipping.{
   Flipping,
   flipping-start,
   flipping-fits,
   flipping-turn,
   flipping-end,
 }
-use Rattle.mapping.proofs.flip_inputs.Statement.{statement}
-use Rattle.mapping.proofs.flip_inputs.Tie as tie
+use Rattle.walking.proofs.flip_inputs.Statement.{statement}
+use Rattle.walking.proofs.flip_inputs.Tie as tie
 
 abbrev Inv-loop : tie.InvT-loop
 Inv-loop order k first second tape mapped₀ bits at₀ i₀ mapped at i =

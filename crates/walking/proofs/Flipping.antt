@@ -18,7 +18,7 @@ use Rattle.masks.specs.Shares.{upFrom}
 use Rattle.encoding.proofs.Encoding.{part, part-next, part-end, put-cons}
 use Rattle.maps.specs.Maps.{flipped, inputFlips}
 use Rattle.maps.proofs.Inputs.{flipsOf, flips-long, flipped-append, flipped-length}
-use Rattle.mapping.specs.Flipping.{FlipReady}
+use Rattle.walking.specs.Flipping.{FlipReady}
 
 pub bit-at : (bit s k flip : ℕ) → s ≡ k → (bit + flip) % 2 ≡ xor bit (pick (eqb s k) flip 0)
 bit-at bit s k flip e = rw (eq-eqb s k e)

@@ -1,9 +1,9 @@
--- `mapping::flip_bit` meets its contract.
+-- `walking::flip_bit` meets its contract.
 -- Assumes nothing.
-use Rattle.mapping.proofs.Flipping.{bit-at, bit-off}
+use Rattle.walking.proofs.Flipping.{bit-at, bit-off}
 use borrow.Author.Needs.{needs}
-use Rattle.mapping.proofs.flip_bit.Statement.{statement}
-use Rattle.mapping.proofs.flip_bit.Tie as tie
+use Rattle.walking.proofs.flip_bit.Statement.{statement}
+use Rattle.walking.proofs.flip_bit.Tie as tie
 
 add-result : tie.Need-add-result
 add-result c = search needs

@@ -1,10 +1,10 @@
--- `mapping::flip_one` meets its contract. The loop's invariant: the rest of the input's tape bits is left to write.
+-- `walking::flip_one` meets its contract. The loop's invariant: the rest of the input's tape bits is left to write.
 -- Assumes nothing.
 use Prim.Native.Nat.{_-_}
 use native.Mathlib.Omega.{arith}
-use Rattle.mapping.proofs.Flipping.{FlippingOne, flipping-one-start, flipping-one-turn, flipping-one-end}
-use Rattle.mapping.proofs.flip_one.Statement.{statement}
-use Rattle.mapping.proofs.flip_one.Tie as tie
+use Rattle.walking.proofs.Flipping.{FlippingOne, flipping-one-start, flipping-one-turn, flipping-one-end}
+use Rattle.walking.proofs.flip_one.Statement.{statement}
+use Rattle.walking.proofs.flip_one.Tie as tie
 
 abbrev Inv-loop : tie.InvT-loop
 Inv-loop bits k flip tape at mapped₀ s₀ mapped s =
