@@ -123,7 +123,12 @@ module _ {G : Gadget} (H : Hiding G) (o : ℕ) (t : Table) (P : Plain t) (k : �
       (ap (λ (l : List ℕ). getD l q 0) rest
       ∙ flipped-at (drop m ts) fs q
       (omega (arith, rest-long (H .lawful) o t P xs ts hx ht))
-      (omega (arith, gates-flips-length G (sharesOf o) k (sharesOf o * t .inputs) (inputShares (sharesOf o) (t .inputs)) (t .gates) (λ p. getD (maskedRun G o t xs ts) p 0) (λ p. getD (maskedRun G o t ys ms) p 0))))
+      (omega (
+        arith,
+        gates-flips-length G (sharesOf o) k (sharesOf o * t .inputs) (inputShares (sharesOf o) (t .inputs)) (t .gates)
+            (λ p. getD (maskedRun G o t xs ts) p 0)
+            (λ p. getD (maskedRun G o t ys ms) p 0),
+      )))
 
   gates-kept : Each (Kept G k (λ p. getD (maskedRun G o t xs ts) p 0) (λ p. getD (maskedRun G o t ys ms) p 0)) (sharesOf o * t .inputs) (maskedWires G o t)
   gates-kept =

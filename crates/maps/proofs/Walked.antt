@@ -16,7 +16,25 @@ use Rattle.tables.proofs.Run.{run-keep}
 use Rattle.tables.proofs.Accept.{PlainGate, PlainGates}
 use Rattle.masks.specs.Shares.{upFrom, inTurn, Pair, pairs, tri, row}
 use Rattle.masks.specs.Gadgets.{first, fifth, isw}
-use Rattle.masks.specs.Wires.{draws, totalOf, wire, Origin, andPart, sum, driverOf, share, adding, pairWires, rowWires, pairWire, andWires, newWires, newShares, cost, masked}
+use Rattle.masks.specs.Wires.{
+  draws,
+  totalOf,
+  wire,
+  Origin,
+  andPart,
+  sum,
+  driverOf,
+  share,
+  adding,
+  pairWires,
+  rowWires,
+  pairWire,
+  andWires,
+  newWires,
+  newShares,
+  cost,
+  masked,
+}
 use Rattle.masks.proofs.Sum.{up-length, up-all}
 use Rattle.masks.proofs.Rows.{pairs-length, pairs-in, row-length, tri-closed}
 use Rattle.masks.proofs.Lawful.{isw-lawful}

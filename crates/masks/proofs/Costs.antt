@@ -13,7 +13,30 @@ use Rattle.tables.proofs.Lists.{All}
 use Rattle.tables.proofs.Run.{randoms-append}
 use Rattle.masks.specs.Shares.{sharesOf, upFrom, inTurn, pairs, tri, row}
 use Rattle.masks.specs.Gadgets.{Gadget}
-use Rattle.masks.specs.Wires.{wire, Origin, andPart, sum, xorShare, share, driverOf, adding, pairWires, rowWires, pairWire, andWires, newWires, cost, draws, totalOf, masked, maskedWires, maskedTable, tapeLong, inputShare, inputOrigins}
+use Rattle.masks.specs.Wires.{
+  wire,
+  Origin,
+  andPart,
+  sum,
+  xorShare,
+  share,
+  driverOf,
+  adding,
+  pairWires,
+  rowWires,
+  pairWire,
+  andWires,
+  newWires,
+  cost,
+  draws,
+  totalOf,
+  masked,
+  maskedWires,
+  maskedTable,
+  tapeLong,
+  inputShare,
+  inputOrigins,
+}
 use Rattle.masks.proofs.Sum.{up-length, up-all}
 use Rattle.masks.proofs.Rows.{pairs-length, row-length}
 use Rattle.masks.proofs.Each.{Spans, Draws, in-turn-length, in-turn-draws}

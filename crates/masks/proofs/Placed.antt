@@ -16,7 +16,26 @@ use Rattle.tables.proofs.Format.{SoundGates, sound-append}
 use Rattle.tables.proofs.Accept.{PlainGate, PlainGates, Plain}
 use Rattle.masks.specs.Shares.{sharesOf, upFrom, inTurn, pairOf, pairs, tri, pairAt, row}
 use Rattle.masks.specs.Gadgets.{Five, first, second, third, fourth, fifth, place, Gadget}
-use Rattle.masks.specs.Wires.{Wire, Origin, share, driverOf, adding, pairWires, rowWires, pairWire, andWires, newWires, newShares, inputShares, cost, masked, sharesAfter, outputShares, maskedTable, totalOf}
+use Rattle.masks.specs.Wires.{
+  Wire,
+  Origin,
+  share,
+  driverOf,
+  adding,
+  pairWires,
+  rowWires,
+  pairWire,
+  andWires,
+  newWires,
+  newShares,
+  inputShares,
+  cost,
+  masked,
+  sharesAfter,
+  outputShares,
+  maskedTable,
+  totalOf,
+}
 use Rattle.masks.proofs.Sum.{up-length, up-all}
 use Rattle.masks.proofs.Rows.{pairs-length, pairs-in, pair-below, row-all}
 use Rattle.masks.proofs.Each.{Each, each-append, each-in-turn, each-up, each-rows, in-turn-length}

@@ -51,7 +51,12 @@ pub extern "C" fn masks_run(
     values: &mut [u8],
     outputs: &mut [u8],
 ) -> tables::Answer
-    ensures { λ r. ⌜ RunSays (now (table .entry)) (now (inputs .entry)) (now (random .entry)) (now (values .entry)) (now (values .exit)) (now (outputs .entry)) (now (outputs .exit)) r ⌝ }
+    ensures { λ r. ⌜ RunSays (now (table .entry)) (now (inputs .entry)) (now (random .entry))
+        (now (values .entry))
+        (now (values .exit))
+        (now (outputs .entry))
+        (now (outputs .exit))
+        r ⌝ }
 {
     running::run_table(table, inputs, random, values, outputs)
 }
