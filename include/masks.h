@@ -1,27 +1,20 @@
-/* Fantzori: masked gate tables. Link with libmasks_c.a (x86-64 Linux).
+/* Fantzori: masked gate tables. Link with libmasks_c.a (x86-64 Linux). docs/FORMAT.md describes tables, tapes, marks and the map.
  *
  * A slice is passed as a pointer and a length in elements. Bits are one byte each, 0 or 1. A length may be 0; the pointer is then
  * not read. Buffers that a call writes must overlap neither each other nor any buffer that it reads.
  *
- * Every call answers a number: 0 is success, any other is the refusal below, with a place counted from 0. A refused call has
- * written nothing and its values are 0.
+ * Every call answers a number: 0 is success, any other a refusal (enum masks_refusal below), with a place counted from 0. A
+ * refused call has written nothing and its values are 0. The checks are made in the order 1 (six bytes), 2, 1 (length), the
+ * gates one by one (3 before 4), 5, 6, 7, 8, 10, 11, 12, 13, 9.
  *
- *    1  fewer than six bytes, or a length other than 6 + 5G + 2O                                place 0
- *    2  no input, no output, or more than 65,535 wires                                          place 0
- *    3  a gate's kind is above 3                                                                the gate
- *    4  an operand is not an earlier wire, or an unused one is not 0                            the gate
- *    5  an output is no wire                                                                    the output's position
- *    6  the order is not 1 to 15                                                                place 0
- *    7  a random gate in a table to be masked                                                   the gate
- *    8  more than 65,535 masked wires, masked outputs, or share bits to encode or decode        place 0
- *    9  a lent buffer is shorter than what the call writes into it                              place 0
- *   10  a wrong count of secrets, inputs, tape bits, random bits or shares                      place 0
- *   11  a bit is a byte above 1            its position in the call's bits joined: first secret (or inputs, or shares), second
- *                                          secret, tape or random bits
- *   12  more probes than the order                                                              place 0
- *   13  a probe or wire that the masked table does not have                                     the probe's position
+ * A tape is the list of random bits that one run of a masked table uses. For a plain table with I inputs, masked at order t:
  *
- * The checks are made in the order 1 (six bytes), 2, 1 (length), the gates one by one (3 before 4), 5, 6, 7, 8, 10, 11, 12, 13, 9.
+ *    bits 0 to 2tI - 1   for encoding: 2t for each input in order. Shares 1 to 2t of an input are its tape bits, share 2t + 1 is
+ *                        their XOR with the secret
+ *    the bits after them for running: one for each random gate of the masked table, in wire order
+ *
+ * masks_encode takes the first part, masks_run the second, masks_map the whole; masks_forecast gives its length. Every run needs a
+ * fresh tape, of bits that are 0 or 1 with equal chance, independent of each other and of the secrets.
  */
 #ifndef MASKS_H
 #define MASKS_H
@@ -29,12 +22,34 @@
 #include <stddef.h>
 #include <stdint.h>
 
+/* Before version 1.0.0 a call may still change. */
+#define MASKS_VERSION "0.1.0"
+
 #ifdef __cplusplus
 extern "C" {
 #endif
 
+/* The place is 0 but where a line says another. */
+enum masks_refusal {
+    MASKS_DONE = 0,
+    MASKS_BAD_LENGTH = 1,       /* fewer than six bytes, or a length other than 6 + 5G + 2O */
+    MASKS_BAD_SIZES = 2,        /* no input, no output, or more than 65,535 wires */
+    MASKS_BAD_KIND = 3,         /* a gate's kind is above 3. Place: the gate */
+    MASKS_BAD_OPERAND = 4,      /* an operand is not an earlier wire, or an unused one is not 0. Place: the gate */
+    MASKS_BAD_OUTPUT = 5,       /* an output is no wire. Place: the output's position */
+    MASKS_BAD_ORDER = 6,        /* the order is not 1 to 15 */
+    MASKS_RANDOM_GATE = 7,      /* a random gate in a table to be masked. Place: the gate */
+    MASKS_TOO_LARGE = 8,        /* more than 65,535 masked wires, masked outputs, or share bits to encode or decode */
+    MASKS_SHORT_BUFFER = 9,     /* a lent buffer is shorter than what the call writes into it */
+    MASKS_BAD_COUNT = 10,       /* a wrong count of secrets, inputs, tape bits, random bits or shares */
+    MASKS_BAD_BIT = 11,         /* a bit is a byte above 1. Place: its position in the call's bits joined, namely first secret (or
+                                   inputs, or shares), second secret, tape or random bits */
+    MASKS_TOO_MANY_PROBES = 12, /* more probes than the order */
+    MASKS_BAD_PROBE = 13        /* a probe or wire that the masked table does not have. Place: the probe's position */
+};
+
 struct masks_answer {
-    uint8_t number;
+    uint8_t number; /* 0 or an enum masks_refusal */
     uint32_t place;
     uint32_t value;
 };

@@ -1,0 +1,68 @@
+# shellcheck shell=sh disable=SC2154
+# What every command uses: messages, temporary files, interrupts, names of files.
+
+say() {
+    printf 'fantzori: %s\n' "$1" >&2
+}
+
+die() {
+    say "$1"
+    exit 2
+}
+
+need() {
+    command -v "$1" >/dev/null 2>&1 || die "$1 is not on this machine: $2"
+}
+
+# For a command that takes no more words.
+no_more() {
+    [ $# -eq 1 ] || die "$1 takes nothing more, and not '$2'"
+}
+
+# Temporary files: those in the folder scratch, and the table that is written beside OUT.
+scratch='' beside=''
+# The process group of what runs apart, and the process that tells how far it is.
+group='' watcher=''
+
+clean() {
+    if [ -n "$group" ]; then
+        kill -s TERM -- "-$group" "$group" 2>/dev/null
+        wait "$group" 2>/dev/null
+        kill -s KILL -- "-$group" 2>/dev/null
+    fi
+    [ -z "$watcher" ] || kill "$watcher" 2>/dev/null
+    [ -z "$beside" ] || rm -f -- "$beside"
+    [ -z "$scratch" ] || rm -rf -- "$scratch"
+}
+
+start() {
+    trap clean EXIT
+    trap 'exit 129' HUP
+    trap 'exit 130' INT
+    trap 'exit 141' PIPE
+    trap 'exit 143' TERM
+    absolute "${TMPDIR:-/tmp}"
+    scratch=$(mktemp -d "$path/fantzori.XXXXXX" 2>/dev/null) || die "no temporary folder can be made in $path"
+}
+
+# Runs a command in a process group of its own and waits for it. An interrupt ends the wait at once, and then the whole group.
+apart() {
+    setsid "$@" &
+    group=$!
+    wait "$group"
+    set -- $?
+    group=''
+    return "$1"
+}
+
+# A name that the caller gave, as an absolute path: it may then begin with a dash.
+absolute() {
+    case $1 in
+    /*) path=$1 ;;
+    *) path=$caller/$1 ;;
+    esac
+}
+
+sha256() {
+    sha256sum | cut -c 1-64
+}
