@@ -94,11 +94,12 @@ test_all() {
     mkfifo "$scratch/pipe"
     tee "$scratch/rt" <"$scratch/pipe" &
     printer=$!
-    apart rt ci >"$scratch/pipe" 2>&1 || failed=yes
+    apart rt ci >"$scratch/pipe" 2>&1
+    status=$?
     wait "$printer"
     verdict=$(tail -n 1 "$scratch/rt")
-    case ${failed:-no}$verdict in
-    no[1-9]*" passed, 0 failed") ;;
+    case $status:$verdict in
+    0:[1-9]*" passed, 0 failed") ;;
     *) fail "the proofs did not pass" ;;
     esac
     # shellcheck disable=SC2086

@@ -34,6 +34,19 @@ impl Circuit {
         Circuit { inputs, gates: gates.to_vec(), outputs: outputs.to_vec() }
     }
 
+    /// The parts of a sound table.
+    pub fn read(table: &[u8]) -> Self {
+        let field = |at: usize| u16::from_le_bytes([table[at], table[at + 1]]);
+        let (gates, outputs) = (usize::from(field(2)), usize::from(field(4)));
+        let operands = 6 + gates;
+        let gate = |g: usize| (table[6 + g], field(operands + 4 * g), field(operands + 4 * g + 2));
+        Circuit {
+            inputs: field(0),
+            gates: (0..gates).map(gate).collect(),
+            outputs: (0..outputs).map(|o| field(operands + 4 * gates + 2 * o)).collect(),
+        }
+    }
+
     /// The table's bytes.
     pub fn bytes(&self) -> Vec<u8> {
         let mut bytes = Vec::with_capacity(6 + 5 * self.gates.len() + 2 * self.outputs.len());

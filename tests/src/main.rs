@@ -4,11 +4,13 @@
 //!     compare fuzz SECONDS [--seed N]   generated cases for so long, from the clock's seed or N
 //!     compare case CALL SEED            one generated case again, shown in full
 //!     compare line FILE                 the line that the forecast program prints for an input
-//!     compare programs                  tests the programs in target/bin and ./fantzori
+//!     compare programs                  tests the programs in target/bin, ./fantzori and the pages
+//!     compare pages                     tests the pages alone
 //!     compare examples                  writes the tables under examples/ again
 
 mod commands;
 mod ffi;
+mod pages;
 mod programs;
 
 use std::process::ExitCode;
@@ -33,6 +35,7 @@ usage: compare [--seed N]
        compare case CALL SEED
        compare line FILE
        compare programs
+       compare pages
        compare examples";
 
 /// The calls that the archive has.
@@ -52,7 +55,10 @@ fn main() -> ExitCode {
         }
         ["case", call, seed] => number(seed).and_then(|seed| repeat_case(call, seed)),
         ["line", file] => print_line(file),
-        ["programs"] => programs::test().and_then(|()| commands::test()),
+        ["programs"] => {
+            programs::test().and_then(|()| commands::test()).and_then(|()| pages::test())
+        }
+        ["pages"] => pages::test(),
         ["examples"] => programs::write_examples(),
         _ => Err(USAGE.into()),
     };
@@ -167,7 +173,7 @@ fn compare_all_tapes() -> Result<(), String> {
 fn compare_sampled_maps(seed: u64) -> Result<(), String> {
     let mut rng = Rng::new(seed);
     for (order, count) in sampled::ORDERS {
-        let circuits = sampled::circuits();
+        let circuits = sampled::circuits(order);
         for circuit in &circuits {
             for _ in 0..count {
                 let case = Case::Map(sampled::draw(&mut rng, circuit, order));

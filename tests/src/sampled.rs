@@ -10,10 +10,11 @@ use crate::samples::samples;
 /// The orders, and how many maps of each circuit are drawn at each.
 pub const ORDERS: [(u8, usize); 3] = [(2, 600), (3, 400), (15, 25)];
 
-/// The small circuits and the examples.
-pub fn circuits() -> Vec<Circuit> {
+/// The small circuits, and the examples that can be masked at that order.
+pub fn circuits(order: u8) -> Vec<Circuit> {
     let mut all = exhaustive::circuits();
     all.extend(samples().map(|sample| sample.circuit));
+    all.retain(|circuit| model::forecast(&circuit.bytes(), order).is_ok());
     all
 }
 

@@ -10,12 +10,13 @@ pub struct Sample {
     pub truth: fn(u32) -> u32,
 }
 
-pub fn samples() -> [Sample; 4] {
+pub fn samples() -> [Sample; 5] {
     [
         Sample { name: "and", circuit: Circuit::new(2, &[and(0, 1)], &[2]), truth: both },
         Sample { name: "full-adder", circuit: full_adder(), truth: u32::count_ones },
         Sample { name: "comparator", circuit: comparator(), truth: is_less },
         Sample { name: "present-sbox", circuit: present_sbox(), truth: present },
+        Sample { name: "aes-sbox", circuit: aes_sbox(), truth: aes },
     ]
 }
 
@@ -81,6 +82,27 @@ fn present_sbox() -> Circuit {
 fn present(input: u32) -> u32 {
     const SBOX: [u32; 16] = [12, 5, 6, 11, 9, 0, 10, 13, 3, 14, 15, 8, 4, 7, 1, 2];
     SBOX[input as usize]
+}
+
+/// The S-box of AES, bits lowest first, after the circuit with 32 ANDs that Boyar and Peralta
+/// published: the file itself, as no rule makes its gates.
+fn aes_sbox() -> Circuit {
+    Circuit::read(include_bytes!("../../examples/aes-sbox.table"))
+}
+
+/// From the definition of AES: the inverse in GF(2^8), and then the affine map.
+fn aes(input: u32) -> u32 {
+    let inverse = (1..256).find(|&other| times(input, other) == 1).unwrap_or(0);
+    let turned = |by: u32| (inverse << by | inverse >> (8 - by)) & 255;
+    inverse ^ turned(1) ^ turned(2) ^ turned(3) ^ turned(4) ^ 0x63
+}
+
+/// The product in GF(2^8), modulo x^8 + x^4 + x^3 + x + 1.
+fn times(a: u32, b: u32) -> u32 {
+    (0..8).rev().fold(0, |product, at| {
+        let doubled = product << 1 ^ if product & 128 == 0 { 0 } else { 0x11b };
+        doubled ^ if b >> at & 1 == 1 { a } else { 0 }
+    })
 }
 
 /// The lowest bits of a number, lowest first.

@@ -111,8 +111,8 @@ fn all_tapes_of_small_circuits_hold_together() {
 #[test]
 fn sampled_maps_hold() {
     let mut rng = Rng::new(1);
-    for circuit in sampled::circuits() {
-        for order in [2, 3] {
+    for order in [2, 3] {
+        for circuit in sampled::circuits(order) {
             let case = Case::Map(sampled::draw(&mut rng, &circuit, order));
             let mut buffers = case.buffers();
             let outcome = case.put_to(&Model, &mut buffers);
