@@ -42,8 +42,8 @@ build_missing() {
     need rt "the Rattle toolchain proves and builds$missing, which are not built from these sources"
     need cc "a C compiler links the programs"
     case $home in *"$newline"*) die "not built, and rt cannot work in a folder with a line feed in its name:$missing" ;; esac
-    for folder in . target built; do
-        if [ -e "$folder" ] && [ ! -w "$folder" ]; then die "not built, and '$home$folder' is not writable:$missing"; fi
+    for name in . target built; do
+        if [ -e "$name" ] && [ ! -w "$name" ]; then die "not built, and '$home$name' is not writable:$missing"; fi
     done
     lock
     # somebody else may have built them meanwhile
