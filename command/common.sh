@@ -19,8 +19,8 @@ no_more() {
     [ $# -eq 1 ] || die "$1 takes nothing more, and not '$2'"
 }
 
-# Temporary files: those in the folder scratch, and the table that is written beside OUT.
-scratch='' beside=''
+# Temporary files: those in the folder scratch, those of rt in the folder room, and the table that is written beside OUT.
+scratch='' room='' beside=''
 # The process group of what runs apart, and the process that tells how far it is.
 group='' watcher=''
 
@@ -33,6 +33,8 @@ clean() {
     [ -z "$watcher" ] || kill "$watcher" 2>/dev/null
     [ -z "$beside" ] || rm -f -- "$beside"
     [ -z "$scratch" ] || rm -rf -- "$scratch"
+    # what was just ended may still have written there
+    [ -z "$room" ] || rm -rf -- "$room" 2>/dev/null || { sleep 0.2 && rm -rf -- "$room"; }
 }
 
 start() {
@@ -42,7 +44,24 @@ start() {
     trap 'exit 141' PIPE
     trap 'exit 143' TERM
     absolute "${TMPDIR:-/tmp}"
-    scratch=$(mktemp -d "$path/fantzori.XXXXXX" 2>/dev/null) || die "no temporary folder can be made in $path"
+    temporary=$path
+    scratch=$(mktemp -d "$temporary/fantzori.XXXXXX" 2>/dev/null) || die "no temporary folder can be made in $temporary"
+}
+
+# The folder for the temporary files of rt. It runs programs in it as nobody, who must be able to enter.
+make_room() {
+    room=$(mktemp -d "$temporary/fantzori.XXXXXX" 2>/dev/null) || die "no temporary folder can be made in $temporary"
+    chmod 711 "$room"
+    export TMPDIR="$room"
+}
+
+# Prints what comes in. Whoever reads may stop reading; else ends with a message, as nothing can be printed.
+print() {
+    told=${scratch:+$scratch/told}
+    LC_ALL=C cat 2>"${told:-/dev/null}"
+    set -- $? "${1:-standard output cannot be written}"
+    if [ "$1" -eq 141 ] || grep -q 'Broken pipe' "${told:-/dev/null}"; then exit 141; fi
+    [ "$1" -eq 0 ] || die "$2"
 }
 
 # Runs a command in a process group of its own and waits for it. An interrupt ends the wait at once, and then the whole group.

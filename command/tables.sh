@@ -89,7 +89,7 @@ sizes_of() {
 
 # How many gates of a kind, the kind's byte in octal, are in the table in a file whose sizes are known.
 count_kind() {
-    tail -c +7 "$1" | head -c "$gates" | LC_ALL=C tr -c -d "\\$2" | wc -c
+    head -c $((6 + gates)) "$1" | tail -c +7 | LC_ALL=C tr -c -d "\\$2" | wc -c
 }
 
 # Counts the kinds of the plain table.
@@ -148,7 +148,7 @@ mask() {
     [ ! -e "$out" ] || chmod "$(stat -c %a -- "$out")" "$beside" || die "'$3' cannot keep its permissions"
     mv -f -- "$beside" "$out" 2>/dev/null || die "'$3' cannot be written"
     beside=''
-    cat <<TXT || die "'$3' is written, but standard output is not"
+    print "'$3' is written, but standard output is not" <<TXT
 $shares shares, $masked_wires wires, $tape_bits tape bits
 Whoever reads at most $order of the wires, whichever, learns nothing of the secrets: $proved_in
 SHA-256 $plain_sum of the table, $masked_sum of the masked one
@@ -164,7 +164,7 @@ certify() {
     see_to forecast mask
     write_masked "$scratch/masked"
     cmp -s "$scratch/masked" "$scratch/given" || tell_difference "$3" "$2"
-    cat <<TXT || die "standard output cannot be written"
+    print <<TXT
 Certificate of masking
   order         $order: at most $order of the wires are read together
   shares        $shares for each bit
@@ -208,7 +208,9 @@ forecast() {
     case $1 in
     refused) refused "$2" "$3" "a forecast takes tables of at most 65,535 bytes; mask takes this one too, and tells its sizes" ;;
     esac
-    echo "$1 shares, $2 wires, $3 tape bits, $4 bytes" || die "standard output cannot be written"
+    print <<TXT
+$1 shares, $2 wires, $3 tape bits, $4 bytes
+TXT
 }
 
 # Writes the lines of a table to scratch/lines, or tells its refusal.
@@ -230,7 +232,7 @@ check() {
     kinds=$(awk '
         /^w/ { count[$3]++ }
         END { printf "%d NOT, %d XOR, %d AND, %d random", count["NOT"], count["XOR"], count["AND"], count["RANDOM"] }' "$scratch/lines")
-    cat <<TXT || die "standard output cannot be written"
+    print <<TXT
 $inputs inputs, $gates gates, $outputs outputs, $((inputs + gates)) wires, $(wc -c <"$scratch/table") bytes
 $kinds
 TXT
@@ -239,9 +241,5 @@ TXT
 show() {
     [ $# -eq 1 ] || die "show takes a table: ./fantzori show TABLE"
     list_lines "$1"
-    LC_ALL=C cat "$scratch/lines" 2>"$scratch/told"
-    status=$?
-    # whoever reads may stop reading
-    if [ "$status" -eq 141 ] || grep -q 'Broken pipe' "$scratch/told"; then exit 141; fi
-    [ "$status" -eq 0 ] || die "standard output cannot be written"
+    print <"$scratch/lines"
 }

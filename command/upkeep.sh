@@ -17,7 +17,11 @@ version() {
         find_key
         toolchain=$(cat toolchain.txt)
     fi
-    printf 'fantzori %s\nsources %s\ntoolchain %s\n' "$(version_in "$header")" "$key" "$toolchain"
+    print <<TXT
+fantzori $(version_in "$header")
+sources $key
+toolchain $toolchain
+TXT
 }
 
 version_in() {
@@ -29,7 +33,9 @@ build() {
     start
     # shellcheck disable=SC2086
     see_to $all
-    echo "proved and built in $kept: $all"
+    print <<TXT
+proved and built in $kept: $all
+TXT
 }
 
 install_under() {
@@ -50,7 +56,9 @@ install_under() {
         install -m 644 include/masks.h "$to/include" &&
         install -m 644 "$scratch/masks.pc" "$to/lib/pkgconfig" &&
         install -m 755 fantzori "$to/bin"; } 2>"$scratch/told" || die "it cannot be installed: $(head -n 1 "$scratch/told")"
-    printf 'installed in %s: bin/fantzori, lib/libmasks_c.a, lib/pkgconfig/masks.pc, include/masks.h, libexec/fantzori/\n' "$1"
+    print <<TXT
+installed in $1: bin/fantzori, lib/libmasks_c.a, lib/pkgconfig/masks.pc, include/masks.h, libexec/fantzori/
+TXT
 }
 
 # What pkg-config reads; the folder may be moved.
@@ -91,6 +99,7 @@ test_all() {
     lock
     find_toolchain
     find_key
+    make_room
     mkfifo "$scratch/pipe"
     tee "$scratch/rt" <"$scratch/pipe" &
     printer=$!
