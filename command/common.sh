@@ -19,8 +19,8 @@ no_more() {
     [ $# -eq 1 ] || die "$1 takes nothing more, and not '$2'"
 }
 
-# Temporary files: those in the folder scratch, those of rt in the folder room, and the table that is written beside OUT.
-scratch='' room='' beside=''
+# Temporary files: those in the folder scratch, and the table that is written beside OUT.
+scratch='' beside=''
 # The process group of what runs apart, and the process that tells how far it is.
 group='' watcher=''
 
@@ -32,9 +32,8 @@ clean() {
     fi
     [ -z "$watcher" ] || kill "$watcher" 2>/dev/null
     [ -z "$beside" ] || rm -f -- "$beside"
-    [ -z "$scratch" ] || rm -rf -- "$scratch"
     # what was just ended may still have written there
-    [ -z "$room" ] || rm -rf -- "$room" 2>/dev/null || { sleep 0.2 && rm -rf -- "$room"; }
+    [ -z "$scratch" ] || rm -rf -- "$scratch" 2>/dev/null || { sleep 0.2 && rm -rf -- "$scratch"; }
 }
 
 start() {
@@ -44,15 +43,13 @@ start() {
     trap 'exit 141' PIPE
     trap 'exit 143' TERM
     absolute "${TMPDIR:-/tmp}"
-    temporary=$path
-    scratch=$(mktemp -d "$temporary/fantzori.XXXXXX" 2>/dev/null) || die "no temporary folder can be made in $temporary"
+    scratch=$(mktemp -d "$path/fantzori.XXXXXX" 2>/dev/null) || die "no temporary folder can be made in $path"
 }
 
-# The folder for the temporary files of rt. It runs programs in it as nobody, who must be able to enter.
-make_room() {
-    room=$(mktemp -d "$temporary/fantzori.XXXXXX" 2>/dev/null) || die "no temporary folder can be made in $temporary"
-    chmod 711 "$room"
-    export TMPDIR="$room"
+# Has rt put its temporary files into scratch too. It runs programs there as nobody, who must be able to enter.
+lend_scratch() {
+    chmod 711 "$scratch"
+    export TMPDIR="$scratch"
 }
 
 # Prints what comes in. Whoever reads may stop reading; else ends with a message, as nothing can be printed.

@@ -99,7 +99,7 @@ test_all() {
     lock
     find_toolchain
     find_key
-    make_room
+    lend_scratch
     mkfifo "$scratch/pipe"
     tee "$scratch/rt" <"$scratch/pipe" &
     printer=$!
