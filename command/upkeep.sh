@@ -44,20 +44,21 @@ install_under() {
     [ -n "$1" ] || die "the name of the folder to install in is empty"
     start
     absolute "$1"
-    to=$path own=$path/libexec/fantzori
+    to=$path own=$path/libexec/fantzori pages=$path/share/doc/fantzori
     # shellcheck disable=SC2086
     see_to $all
     printf '%s\n' "$key" >"$scratch/key"
     pkg_config >"$scratch/masks.pc"
-    { mkdir -p "$to/bin" "$to/include" "$to/lib/pkgconfig" "$own" &&
+    { mkdir -p "$to/bin" "$to/include" "$to/lib/pkgconfig" "$own" "$pages" &&
         install -m 755 "$kept/mask" "$kept/forecast" "$kept/show" "$own" &&
         install -m 644 command/*.sh "$kept/mask.proved" "$kept/forecast.proved" "$kept/show.proved" "$scratch/key" "$own" &&
         install -m 644 "$kept/libmasks_c.a" "$to/lib" &&
         install -m 644 include/masks.h "$to/include" &&
+        install -m 644 docs/FORMAT.md docs/ASSURANCE.md "$pages" &&
         install -m 644 "$scratch/masks.pc" "$to/lib/pkgconfig" &&
         install -m 755 fantzori "$to/bin"; } 2>"$scratch/told" || die "it cannot be installed: $(head -n 1 "$scratch/told")"
     print <<TXT
-installed in $1: bin/fantzori, lib/libmasks_c.a, lib/pkgconfig/masks.pc, include/masks.h, libexec/fantzori/
+installed in $1: bin/fantzori, lib/libmasks_c.a, lib/pkgconfig/masks.pc, include/masks.h, libexec/fantzori/, share/doc/fantzori/
 TXT
 }
 
