@@ -12,6 +12,7 @@ mod commands;
 mod ffi;
 mod pages;
 mod programs;
+mod running;
 
 use std::process::ExitCode;
 use std::time::{Duration, Instant, SystemTime};

@@ -1,0 +1,176 @@
+//! Tests of the commands of ./fantzori on tables and of `version`, in a folder of their own.
+
+mod certify;
+mod check;
+mod files;
+mod refusals;
+
+use std::process::Command;
+use std::time::{Duration, Instant};
+use std::{fs, thread};
+
+use compare::examples::{and_chain, the_and};
+use compare::model;
+
+pub use check::counts;
+
+use crate::running::{Folder, Ran, Started, ensure, masked};
+
+/// What is in OUT before a command that must leave it.
+const KEPT: &[u8] = b"kept";
+
+/// All tests of the commands, with a line for each group.
+pub fn test() -> Result<(), String> {
+    let folder = Folder::new("commands")?;
+    masks(&folder)?;
+    bad_arguments(&folder)?;
+    shows_and_forecasts(&folder)?;
+    interrupt(&folder)?;
+    println!("commands: mask, forecast and show, bad arguments, an interrupt");
+    refusals::test(&folder)?;
+    println!("commands: refusals, every wrong order, tables too large or too long");
+    certify::test(&folder)?;
+    println!("commands: certify, sound tables and others");
+    check::test(&folder)?;
+    println!("commands: check, version");
+    files::test(&folder)?;
+    println!("commands: names of files, their modes, output that cannot be written");
+    Ok(())
+}
+
+/// Sound masking: names with spaces and dashes, OUT in another folder, OUT the table itself.
+fn masks(folder: &Folder) -> Result<(), String> {
+    let same = "the same file";
+    for (name, out) in
+        [("a table", "-o u t"), ("-n", "sub folder/out"), ("é\"$(x)'", "*"), (same, same)]
+    {
+        for (order, number) in [("1", 1), ("02", 2), ("15", 15)] {
+            folder.write(name, &the_and())?;
+            let ran = folder.run(&["mask", order, name, out])?;
+            ensure(ran.is_done(), &ran, "masking fails")?;
+            ensure(folder.read(out)? == masked(number, &the_and())?, &ran, "OUT is another table")?;
+            ensure(ran.out.lines().count() == 3, &ran, "not three lines are printed")?;
+        }
+    }
+    folder.write("a table", &the_and())?;
+    let ran = folder.run(&["mask", "1", "a table", "out"])?;
+    let lines: Vec<&str> = ran.out.lines().collect();
+    ensure(lines[0] == "3 shares, 30 wires, 7 tape bits", &ran, "the sizes are others")?;
+    ensure(lines[1].contains("at most 1 of the wires"), &ran, "the order is not told")?;
+    let sums = [
+        "e76497d5f59abde9ac7b940f45d23a8f4f44700dac55e8d3ea9072e787842373",
+        "c8a64748704044ba1808524e5e48f093667c20f21635ba6b1dafe0bd5feda0ca",
+    ];
+    ensure(sums.iter().all(|sum| lines[2].contains(sum)), &ran, "the sums are others")?;
+    folder.write("chain", &and_chain(2_730))?;
+    let ran = folder.run(&["mask", "1", "chain", "out"])?;
+    let sizes = "3 shares, 65526 wires, 8194 tape bits\n";
+    ensure(ran.out.starts_with(sizes), &ran, "the sizes of the longest chain are others")
+}
+
+/// Arguments that no command takes.
+const BAD: [&[&str]; 36] = [
+    &["mask"],
+    &["mask", "1", "table"],
+    &["mask", "1", "table", "out", "out"],
+    &["mask", "", "table", "out"],
+    &["mask", "one", "table", "out"],
+    &["mask", "-1", "table", "out"],
+    &["mask", "1 ", "table", "out"],
+    &["mask", "1", "no such table", "out"],
+    &["mask", "1", "sub folder", "out"],
+    &["mask", "1", "", "out"],
+    &["mask", "1", "table", "sub folder"],
+    &["mask", "1", "table", "no such folder/out"],
+    &["mask", "1", "table", "/dev/full"],
+    &["mask", "1", "table", ""],
+    &["forecast", "1"],
+    &["forecast", "", "table"],
+    &["forecast", "one", "table"],
+    &["forecast", "-1", "table"],
+    &["forecast", "1 ", "table"],
+    &["forecast", "1", "no such table"],
+    &["certify", "1", "table"],
+    &["certify", "", "table", "out"],
+    &["certify", "one", "table", "out"],
+    &["certify", "-1", "table", "out"],
+    &["certify", "1 ", "table", "out"],
+    &["show", "sub folder"],
+    &["check"],
+    &["check", "table", "table"],
+    &["version", "more"],
+    &["build", "more"],
+    &["test", "more"],
+    &["bench", "more"],
+    &["fuzz"],
+    &["fuzz", "1", "1"],
+    &["fuzz", "one"],
+    &["no such command"],
+];
+
+/// What cannot be done has status 2 and one line, and leaves OUT as it was.
+fn bad_arguments(folder: &Folder) -> Result<(), String> {
+    folder.write("table", &the_and())?;
+    folder.write("out", KEPT)?;
+    for arguments in BAD {
+        let ran = folder.run(arguments)?;
+        ensure(ran.is_ended(2, "fantzori: "), &ran, "it is not told as an error in one line")?;
+        ensure_kept(folder)?;
+    }
+    Ok(())
+}
+
+fn shows_and_forecasts(folder: &Folder) -> Result<(), String> {
+    folder.write("a table", &the_and())?;
+    let ran = folder.run(&["forecast", "1", "a table"])?;
+    let sizes = "3 shares, 30 wires, 7 tape bits, 132 bytes\n";
+    ensure(ran.status == Some(0) && ran.out == sizes, &ran, "the forecast is another")?;
+    let ran = folder.run(&["show", "a table"])?;
+    let lines = model::listing(&the_and());
+    ensure(ran.status == Some(0) && ran.out == lines, &ran, "the listing is another")?;
+    folder.write("a table", &[2, 0, 1])?;
+    for arguments in [&["forecast", "1", "a table"][..], &["show", "a table"]] {
+        let ran = folder.run(arguments)?;
+        ensure(ran.is_ended(1, "refused 1: "), &ran, "it is not refused")?;
+    }
+    Ok(())
+}
+
+/// A command that is ended while it reads its table leaves no temporary file and no OUT.
+fn interrupt(folder: &Folder) -> Result<(), String> {
+    let io = |error| folder.told(error);
+    let (pipe, scratch) = (folder.path("pipe"), folder.path("scratch"));
+    fs::create_dir(&scratch).map_err(io)?;
+    let made = Ran::of(Command::new("mkfifo").arg(&pipe))?;
+    ensure(made.is_done(), &made, "no pipe can be made")?;
+    let mut command = folder.command(&["mask", "1", "pipe", "not there"])?;
+    command.env("TMPDIR", &scratch);
+    let mut started = Started::new(command)?;
+    // Opened for both, so that opening does not wait, and nothing comes through it.
+    let writer = fs::File::options().read(true).write(true).open(&pipe).map_err(io)?;
+    let count = || fs::read_dir(&scratch).map(Iterator::count).map_err(io);
+    let start = Instant::now();
+    while count()? == 0 && start.elapsed() < Duration::from_secs(10) {
+        thread::sleep(Duration::from_millis(5));
+    }
+    let before = count()?;
+    started.send("TERM")?;
+    drop(writer);
+    let status = started.ends_within(Duration::from_secs(2))?;
+    if before == 1 && status.code() == Some(143) && count()? == 0 {
+        return ensure_kept(folder);
+    }
+    Err(format!("FAILED: an interrupt: {status}, {before} temporary folders, {} left", count()?))
+}
+
+/// OUT is as it was, and nothing else was left in the folder.
+fn ensure_kept(folder: &Folder) -> Result<(), String> {
+    let is_hidden = |name: &String| name.starts_with('.');
+    if folder.read("out")? != KEPT || folder.names()?.iter().any(is_hidden) {
+        return Err(format!("FAILED: OUT was changed, or files were left: {:?}", folder.names()?));
+    }
+    if folder.path("not there").exists() {
+        return Err("FAILED: a refusal wrote OUT".into());
+    }
+    Ok(())
+}
