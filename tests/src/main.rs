@@ -8,6 +8,7 @@
 //!     compare pages                     tests the pages alone
 //!     compare examples                  writes the tables under examples/ again
 
+mod building;
 mod commands;
 mod ffi;
 mod pages;
@@ -56,9 +57,7 @@ fn main() -> ExitCode {
         }
         ["case", call, seed] => number(seed).and_then(|seed| repeat_case(call, seed)),
         ["line", file] => print_line(file),
-        ["programs"] => {
-            programs::test().and_then(|()| commands::test()).and_then(|()| pages::test())
-        }
+        ["programs"] => test_programs(),
         ["pages"] => pages::test(),
         ["examples"] => programs::write_examples(),
         _ => Err(USAGE.into()),
@@ -70,6 +69,14 @@ fn main() -> ExitCode {
             ExitCode::FAILURE
         }
     }
+}
+
+/// All tests of the programs, the commands and the pages.
+fn test_programs() -> Result<(), String> {
+    programs::test()?;
+    commands::test()?;
+    building::test()?;
+    pages::test()
 }
 
 fn number(text: &str) -> Result<u64, String> {

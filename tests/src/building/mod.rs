@@ -1,0 +1,178 @@
+//! Tests of what is proved, built, kept and installed, in copies of the project.
+
+mod installing;
+mod interrupts;
+mod keeping;
+mod places;
+mod together;
+
+use std::path::{Path, PathBuf};
+use std::process::Command;
+use std::{env, fs};
+
+use compare::examples::the_and;
+use compare::model;
+
+use crate::programs::root;
+use crate::running::{Folder, Ran, ensure, masked};
+
+/// All tests of building, with a line for each group.
+pub fn test() -> Result<(), String> {
+    let folder = Folder::new("building")?;
+    folder.write("table", &the_and())?;
+    folder.write("masked", &masked(1, &the_and())?)?;
+    let tools = Tools::new(&folder)?;
+    together::at_once(&folder)?;
+    println!("building: commands at once, twelve rounds of two and of six");
+    keeping::without_toolchain(&folder, &tools)?;
+    println!("building: where all is built, neither rt nor cc is used, and no file is changed");
+    keeping::not_kept(&folder, &tools)?;
+    println!("building: no program is used that was changed, or whose record or sources were");
+    interrupts::test(&folder)?;
+    println!("building: interrupts while proving");
+    places::test(&folder)?;
+    println!("building: a project that cannot be written, links, spaces, a line feed");
+    installing::test(&folder, &tools)?;
+    println!("building: install, and the installed command");
+    let project = Project::copy(&folder, "with target", &[&SOURCES[..], &OTHERS].concat())?;
+    keeping::built_again(&folder, &project)?;
+    println!("building: a changed program is built again");
+    together::builds(&folder, &project)?;
+    println!("building: whoever comes second waits");
+    Ok(())
+}
+
+/// What is copied of the project: what the programs are proved from, and what is installed.
+const SOURCES: [&str; 7] =
+    ["fantzori", "command", "crates", "crates.txt", "toolchain.txt", "include", "docs"];
+/// What was built, and what rt keeps so that nothing is proved twice.
+const OTHERS: [&str; 6] =
+    ["built", "target/rlib", "target/stamp", "target/log", "target/bin", "target/obj"];
+
+/// A copy of the project.
+struct Project {
+    path: PathBuf,
+    /// The folder that the commands are run in.
+    caller: PathBuf,
+}
+
+impl Project {
+    /// Copies parts of the project into a new folder.
+    fn copy(folder: &Folder, name: &str, parts: &[&str]) -> Result<Self, String> {
+        let path = folder.path(name);
+        fs::create_dir(&path).map_err(|error| folder.told(error))?;
+        let mut copy = Command::new("cp");
+        let ran =
+            Ran::of(copy.args(["-a", "--parents"]).args(parts).arg(&path).current_dir(root()))?;
+        ensure(ran.is_done(), &ran, "the project cannot be copied")?;
+        Ok(Project { path, caller: folder.path("") })
+    }
+
+    /// The sources and what was built from them.
+    fn built(folder: &Folder, name: &str) -> Result<Self, String> {
+        Project::copy(folder, name, &[&SOURCES[..], &["built"]].concat())
+    }
+
+    /// The same project in another folder.
+    fn moved(self, folder: &Folder, name: &str) -> Result<Self, String> {
+        let path = folder.path(name);
+        fs::rename(&self.path, &path).map_err(|error| folder.told(error))?;
+        Ok(Project { path, caller: self.caller })
+    }
+
+    fn remove(self) -> Result<(), String> {
+        self.remove_part("")
+    }
+
+    fn remove_part(&self, name: &str) -> Result<(), String> {
+        fs::remove_dir_all(self.path.join(name)).map_err(|error| self.told(error))
+    }
+
+    fn told(&self, error: std::io::Error) -> String {
+        format!("FAILED: {}: {error}", self.path.display())
+    }
+
+    /// Its ./fantzori, run from the folder of the tests.
+    fn command(&self, arguments: &[&str]) -> Command {
+        let mut command = Command::new(self.path.join("fantzori"));
+        command.args(arguments).current_dir(&self.caller);
+        command
+    }
+
+    fn run(&self, arguments: &[&str]) -> Result<Ran, String> {
+        Ran::of(&mut self.command(arguments))
+    }
+
+    /// Where a program or its record is kept.
+    fn kept(&self, name: &str) -> Result<PathBuf, String> {
+        let ran = self.run(&["version"])?;
+        ensure(ran.is_done(), &ran, "version fails")?;
+        let key = ran.out.lines().find_map(|line| line.strip_prefix("sources "));
+        Ok(self.path.join("built").join(key.unwrap_or_default()).join(name))
+    }
+}
+
+/// What the commands on tables run, where all is built.
+const TOOLS: &str = "awk cat chmod cmp cut date find grep head mktemp mv od readlink rm sed \
+                     sha256sum sort stat tail tr wc";
+
+/// A folder with links to those tools alone.
+struct Tools(PathBuf);
+
+impl Tools {
+    fn new(folder: &Folder) -> Result<Self, String> {
+        let tools = Tools(folder.path("tools"));
+        fs::create_dir(&tools.0).map_err(|error| folder.told(error))?;
+        for name in TOOLS.split(' ') {
+            let found = find(name).ok_or_else(|| format!("FAILED: there is no {name}"))?;
+            std::os::unix::fs::symlink(found, tools.0.join(name))
+                .map_err(|error| folder.told(error))?;
+        }
+        Ok(tools)
+    }
+
+    /// Runs a command that finds nothing else.
+    fn run(&self, command: &mut Command) -> Result<Ran, String> {
+        Ran::of(command.env("PATH", &self.0))
+    }
+}
+
+/// Where PATH has a program.
+fn find(name: &str) -> Option<PathBuf> {
+    let path = env::var_os("PATH")?;
+    env::split_paths(&path).map(|folder| folder.join(name)).find(|file| file.is_file())
+}
+
+/// All commands on tables, and `version`; `prepare` says how each is run.
+fn all_work(command: &Path, caller: &Path, prepare: &dyn Fn(&mut Command)) -> Result<(), String> {
+    let out = caller.join("out");
+    let run = |arguments: &[&str]| {
+        let mut run = Command::new(command);
+        run.args(arguments).current_dir(caller);
+        prepare(&mut run);
+        Ran::of(&mut run)
+    };
+    drop(fs::remove_file(&out));
+    let ran = run(&["mask", "1", "../table", "out"])?;
+    ensure(ran.is_done() && ran.out.lines().count() == 3, &ran, "masking fails")?;
+    let written = fs::read(&out).map_err(|error| format!("FAILED: OUT: {error}"))?;
+    ensure(written == masked(1, &the_and())?, &ran, "OUT is another table")?;
+    for (arguments, beginning) in on_tables("../") {
+        let arguments: Vec<&str> = arguments.iter().map(String::as_str).collect();
+        let ran = run(&arguments)?;
+        ensure(ran.is_done() && ran.out.starts_with(&beginning), &ran, "a command fails")?;
+    }
+    Ok(())
+}
+
+/// The commands that write no file, and how what they print begins, over "table" and "masked".
+fn on_tables(before: &str) -> [(Vec<String>, String); 5] {
+    let words = |line: &str| line.replace('/', before).split(' ').map(String::from).collect();
+    [
+        (words("certify 1 /table /masked"), "Certificate of masking\n  order         1: ".into()),
+        (words("forecast 1 /table"), "3 shares, 30 wires, 7 tape bits, 132 bytes\n".into()),
+        (words("check /table"), crate::commands::counts(&the_and())),
+        (words("show /table"), model::listing(&the_and())),
+        (words("version"), "fantzori ".into()),
+    ]
+}
