@@ -19,8 +19,8 @@ no_more() {
     [ $# -eq 1 ] || die "$1 takes nothing more, and not '$2'"
 }
 
-# Temporary files: those in the folder scratch, and the table that is written beside OUT.
-scratch='' beside=''
+# Temporary files: the folder temporary with scratch in it, which nobody else enters, and the table that is written beside OUT.
+temporary='' scratch='' beside=''
 # The process group of what runs apart, and the process that tells how far it is.
 group='' watcher=''
 
@@ -33,7 +33,7 @@ clean() {
     [ -z "$watcher" ] || kill "$watcher" 2>/dev/null
     [ -z "$beside" ] || rm -f -- "$beside"
     # what was just ended may still have written there
-    [ -z "$scratch" ] || rm -rf -- "$scratch" 2>/dev/null || { sleep 0.2 && rm -rf -- "$scratch"; }
+    [ -z "$temporary" ] || rm -rf -- "$temporary" 2>/dev/null || { sleep 0.2 && rm -rf -- "$temporary"; }
 }
 
 start() {
@@ -43,13 +43,15 @@ start() {
     trap 'exit 141' PIPE
     trap 'exit 143' TERM
     absolute "${TMPDIR:-/tmp}"
-    scratch=$(mktemp -d "$path/fantzori.XXXXXX" 2>/dev/null) || die "no temporary folder can be made in $path"
+    { temporary=$(mktemp -d "$path/fantzori.XXXXXX") && mkdir -m 700 "$temporary/scratch"; } 2>/dev/null ||
+        die "no temporary folder can be made in $path"
+    scratch=$temporary/scratch
 }
 
-# Has rt put its temporary files into scratch too. It runs programs there as nobody, who must be able to enter.
-lend_scratch() {
-    chmod 711 "$scratch"
-    export TMPDIR="$scratch"
+# Has rt put its temporary files beside scratch. It runs programs there as nobody, who must be able to enter.
+lend_temporary() {
+    chmod 711 "$temporary"
+    export TMPDIR="$temporary"
 }
 
 # Prints what comes in. Whoever reads may stop reading; else ends with a message, as nothing can be printed.

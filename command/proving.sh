@@ -50,7 +50,7 @@ build_missing() {
     find_missing "$@"
     if [ -n "$missing" ]; then
         say "proving and building$missing, which takes some minutes the first time"
-        lend_scratch
+        lend_temporary
         crates=maps
         for name in $missing; do
             case $name in

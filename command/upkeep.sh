@@ -100,7 +100,7 @@ test_all() {
     lock
     find_toolchain
     find_key
-    lend_scratch
+    lend_temporary
     mkfifo "$scratch/pipe"
     tee "$scratch/rt" <"$scratch/pipe" &
     printer=$!

@@ -1,6 +1,7 @@
 //! Interrupts of a command while it proves from nothing.
 
-use std::io::{BufRead, BufReader};
+use std::io::{self, BufRead, BufReader};
+use std::os::unix::fs::MetadataExt;
 use std::path::{Path, PathBuf};
 use std::process::ChildStderr;
 use std::time::{Duration, Instant};
@@ -12,13 +13,15 @@ use crate::running::{Folder, Started};
 const PROVES: &str = "fantzori: proving tables, 1 of ";
 const WAITS: &str = "fantzori: another ./fantzori is proving here: waiting for it";
 
-/// Each signal while a command proves, and one while another waits for it.
+/// Each signal while a command proves, and one while another waits for it; meanwhile nobody else
+/// can read its table.
 pub fn test(folder: &Folder) -> Result<(), String> {
     let project = Project::copy(folder, "nothing built", &SOURCES)?;
     for (signal, status) in [("TERM", 143), ("INT", 130), ("HUP", 129)] {
         let proves = Begun::new(folder, &project, "temporary", PROVES)?;
         // So that the prover has begun to write.
         thread::sleep(Duration::from_millis(300));
+        proves.ensure_private()?;
         proves.end(signal, status)?;
         ensure_ended(folder, &project)?;
     }
@@ -70,6 +73,17 @@ impl Begun {
         }
     }
 
+    /// The command's copy of the table is there, and others cannot read it.
+    fn ensure_private(&self) -> Result<(), String> {
+        let mut tables = Vec::new();
+        copies(&self.temporary, true, &mut tables)
+            .map_err(|error| format!("FAILED: {}: {error}", self.temporary.display()))?;
+        if !tables.is_empty() && tables.iter().all(|&(_, is_open)| !is_open) {
+            return Ok(());
+        }
+        Err(format!("FAILED: no copy of the table, or one that others can read: {tables:?}"))
+    }
+
     /// A signal to the command alone ends it at once, and its temporary files are removed.
     fn end(mut self, signal: &str, status: i32) -> Result<(), String> {
         self.started.send(signal)?;
@@ -82,6 +96,21 @@ impl Begun {
         }
         Err(format!("FAILED: after {signal}: {ended}, {left} temporary files left"))
     }
+}
+
+/// The copies of a table below a folder, and whether others can read them.
+fn copies(folder: &Path, is_open: bool, all: &mut Vec<(PathBuf, bool)>) -> io::Result<()> {
+    for entry in fs::read_dir(folder)? {
+        let path = entry?.path();
+        // What the prover writes may be gone meanwhile.
+        let Ok(data) = fs::symlink_metadata(&path) else { continue };
+        if data.is_dir() {
+            copies(&path, is_open && data.mode() & 0o011 != 0, all)?;
+        } else if path.ends_with("table") {
+            all.push((path, is_open && data.mode() & 0o044 != 0));
+        }
+    }
+    Ok(())
 }
 
 impl Drop for Begun {
