@@ -206,7 +206,7 @@ forecast() {
     # shellcheck disable=SC2086
     set -- $line
     case $1 in
-    refused) refused "$2" "$3" "a forecast takes tables of at most 65,535 bytes; mask takes this one too, and tells its sizes" ;;
+    refused) refused "$2" "$3" "a forecast takes tables of at most 65,535 bytes; mask takes longer ones, and tells their sizes" ;;
     esac
     print <<TXT
 $1 shares, $2 wires, $3 tape bits, $4 bytes

@@ -1,12 +1,13 @@
 //! Tests of the pages: the commands that they show print what is shown, the files that they link are
 //! there, and the table of sizes is that of docs/sizes.
 
+use std::fs;
 use std::os::unix::fs::symlink;
-use std::path::{Path, PathBuf};
+use std::path::PathBuf;
 use std::process::Command;
-use std::{env, fs, process};
 
 use crate::programs::root;
+use crate::running::{Folder, Ran};
 
 const PAGES: [&str; 10] = [
     "README.md",
@@ -66,39 +67,20 @@ fn commands(page: &str) -> Vec<Shown<'_>> {
 /// Runs a page's commands in a folder that has ./fantzori and what the pages use beside it.
 fn run_commands(name: &str, page: &str) -> Result<usize, String> {
     let commands = commands(page);
-    if commands.is_empty() {
-        return Ok(0);
+    let folder = Folder::new("page")?;
+    let root = fs::canonicalize(root()).map_err(|error| told(name, error))?;
+    for part in ["fantzori", "examples", "include"] {
+        symlink(root.join(part), folder.path(part)).map_err(|error| folder.told(error))?;
     }
-    let folder = env::temp_dir().join(format!("fantzori-page-{}", process::id()));
-    let result = in_folder(&folder).map_err(|error| told(name, error)).and_then(|()| {
-        commands.iter().try_for_each(|shown| {
-            run(&folder, shown).map_err(|text| format!("FAILED: {name}: {text}"))
-        })
-    });
-    drop(fs::remove_dir_all(&folder));
-    result.map(|()| commands.len())
-}
-
-fn in_folder(folder: &Path) -> std::io::Result<()> {
-    let root = fs::canonicalize(root())?;
-    fs::create_dir(folder)?;
-    ["fantzori", "examples", "include"]
-        .iter()
-        .try_for_each(|name| symlink(root.join(name), folder.join(name)))
-}
-
-fn run(folder: &Path, shown: &Shown) -> Result<(), String> {
-    let output = Command::new("sh")
-        .args(["-c", &format!("{{ {}\n}} 2>&1", shown.command)])
-        .current_dir(folder)
-        .output()
-        .map_err(|error| format!("{}: {error}", shown.command))?;
-    let printed = String::from_utf8_lossy(&output.stdout).into_owned();
-    if are_shown(&shown.lines, &printed.lines().collect::<Vec<_>>()) {
-        Ok(())
-    } else {
-        Err(format!("'{}' prints\n{printed}", shown.command))
+    for shown in &commands {
+        let mut shell = Command::new("sh");
+        shell.args(["-c", &format!("{{ {}\n}} 2>&1", shown.command)]);
+        let ran = Ran::of(shell.current_dir(folder.path("")))?;
+        if !are_shown(&shown.lines, &ran.out.lines().collect::<Vec<_>>()) {
+            return Err(format!("FAILED: {name}: '{}' prints\n{}", shown.command, ran.out));
+        }
     }
+    Ok(commands.len())
 }
 
 /// Whether lines are as shown: two dots alone stand for any lines, and at the end of a line for any
@@ -130,9 +112,8 @@ fn check_links(name: &str, page: &str) -> Result<usize, String> {
 fn check_sizes() -> Result<(), String> {
     let name = "docs/ARCHITECTURE.md";
     let page = fs::read_to_string(root().join(name)).map_err(|error| told(name, error))?;
-    let output = Command::new(root().join("docs/sizes")).output();
-    let table = output.map_err(|error| told("docs/sizes", error))?.stdout;
-    if !table.is_empty() && page.contains(&*String::from_utf8_lossy(&table)) {
+    let table = Ran::of(&mut Command::new(root().join("docs/sizes")))?;
+    if table.is_done() && !table.out.is_empty() && page.contains(&table.out) {
         return Ok(());
     }
     Err(format!("FAILED: the table of sizes in {name} is not what docs/sizes prints"))

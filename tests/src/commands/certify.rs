@@ -29,6 +29,13 @@ fn today() -> Result<String, String> {
     Ok(ran.out.trim().into())
 }
 
+/// The toolchain that proved the programs.
+fn toolchain() -> Result<String, String> {
+    let ran = Ran::of(Command::new("rt").arg("--version"))?;
+    ensure(ran.is_done(), &ran, "rt has no version")?;
+    Ok(ran.out.trim().into())
+}
+
 /// What a certificate says under a name.
 fn entry<'a>(ran: &'a Ran, name: &str) -> &'a str {
     let beginning = format!("  {name}  ");
@@ -57,7 +64,7 @@ fn certificate(folder: &Folder, table: &[u8], order: u8) -> Result<(), String> {
         ("masked table", format!("SHA-256 {}", folder.sum("masked")?)),
         ("theorem", "'demands' in crates/maps/proofs/Whole.antt".into()),
         ("sources", told[1].replace("sources", "SHA-256 key")),
-        ("toolchain", told[2].replace("toolchain ", "")),
+        ("toolchain", toolchain()?),
     ];
     for (name, text) in entries {
         ensure(entry(&ran, name) == text, &ran, &format!("under '{name}' is not '{text}'"))?;

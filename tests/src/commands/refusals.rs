@@ -163,7 +163,7 @@ fn long_tables(folder: &Folder) -> Result<(), String> {
     let table = Circuit::new(3, &gates, &[65_528]).bytes();
     folder.write("table", &table)?;
     let ran = folder.run(&["forecast", "1", "table"])?;
-    let told = ran.told.contains("mask takes this one");
+    let told = ran.told.contains("mask takes longer ones");
     ensure(ran.is_ended(1, "refused 9: ") && told, &ran, "the long table is not told")?;
     let ran = folder.run(&["mask", "1", "table", "out"])?;
     let sizes = "3 shares, 65535 wires, 6 tape bits\n";
