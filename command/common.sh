@@ -24,7 +24,9 @@ temporary='' scratch='' beside=''
 # The process group of what runs apart, and the process that tells how far it is.
 group='' watcher=''
 
+# Ends what runs apart and removes the temporary files; it may be called twice, as an interrupt may come while it runs.
 clean() {
+    trap '' HUP INT PIPE TERM
     if [ -n "$group" ]; then
         kill -s TERM -- "-$group" "$group" 2>/dev/null
         wait "$group" 2>/dev/null
@@ -38,14 +40,14 @@ clean() {
 
 start() {
     trap clean EXIT
-    trap 'exit 129' HUP
-    trap 'exit 130' INT
-    trap 'exit 141' PIPE
-    trap 'exit 143' TERM
+    trap 'clean; exit 129' HUP
+    trap 'clean; exit 130' INT
+    trap 'clean; exit 141' PIPE
+    trap 'clean; exit 143' TERM
     absolute "${TMPDIR:-/tmp}"
-    { temporary=$(mktemp -d "$path/fantzori.XXXXXX") && mkdir -m 700 "$temporary/scratch"; } 2>/dev/null ||
-        die "no temporary folder can be made in $path"
-    scratch=$temporary/scratch
+    # named before it is made, so that an interrupt finds it
+    temporary=$path/fantzori-$$-$(date +%s%N) scratch=$temporary/scratch
+    { mkdir -m 700 "$temporary" && mkdir -m 700 "$scratch"; } 2>/dev/null || { temporary='' && die "no temporary folder can be made in $path"; }
 }
 
 # Has rt put its temporary files beside scratch. It runs programs there as nobody, who must be able to enter.

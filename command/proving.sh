@@ -1,11 +1,11 @@
 # shellcheck shell=sh disable=SC2154
 # The proved programs. What was proved and built is kept in built/KEY/, where KEY is the SHA-256 over the sources: each file with a
-# record beside it, NAME.proved, of its SHA-256 and of the toolchain. A file is used only where both are as they were.
+# record beside it, NAME.proved, of its SHA-256 and of the toolchain that proved it. A file is used only where it has that SHA-256.
 
 # Sets the key: the SHA-256 over toolchain.txt, crates.txt and every file below crates/.
 find_key() {
     find -L toolchain.txt crates.txt crates -type f -exec sha256sum {} + >"$scratch/sums" 2>"$scratch/told" ||
-        die "the sources cannot be read: $(head -n 1 "$scratch/told")"
+        die "the sources cannot be read, or there is no room in $scratch: $(head -n 1 "$scratch/told")"
     key=$(LC_ALL=C sort "$scratch/sums" | sha256)
 }
 
@@ -24,7 +24,7 @@ find_missing() {
 see_to() {
     if [ -n "$installed" ]; then
         kept=$parts
-        key=$(cat "$kept/key") || die "the installation at '$kept' is not whole: install it again"
+        key=$(cat "$kept/key" 2>/dev/null) || die "the installation at '$kept' is not whole: install it again"
         find_missing "$@"
         [ -z "$missing" ] || die "not as they were installed in '$kept':$missing; install them again"
         return
@@ -32,14 +32,17 @@ see_to() {
     find_key
     kept=built/$key
     find_missing "$@"
-    [ -z "$missing" ] || build_missing "$@"
+    [ -z "$missing" ] && return
+    build_missing "$@"
+    find_missing "$@"
+    [ -z "$missing" ] || die "built, and yet not there in $kept:$missing"
 }
 
 newline='
 '
 
 build_missing() {
-    need rt "the Rattle toolchain proves and builds$missing, which are not built from these sources"
+    need rt "the Rattle toolchain proves and builds what is not built from these sources:$missing"
     need cc "a C compiler links the programs"
     case $home in *"$newline"*) die "not built, and rt cannot work in a folder with a line feed in its name:$missing" ;; esac
     for name in . target built; do

@@ -40,8 +40,8 @@ take_order() {
     case $1 in
     '' | *[!0-9]*) die "the order '$1' is no number" ;;
     esac
-    order=$1
-    while [ "${#order}" -gt 1 ] && [ "${order#0}" != "$order" ]; do order=${order#0}; done
+    order=${1#"${1%%[!0]*}"}
+    order=${order:-0}
     if [ "${#order}" -gt 3 ] || [ "$order" -gt 255 ]; then order=255; fi
     order_byte=$(printf '\\%03o' "$order")
 }
@@ -71,6 +71,7 @@ take_out() {
     out=$path
     [ ! -d "$out" ] || die "'$1' is a folder, not a file to write"
     if [ -e "$out" ] && [ ! -f "$out" ]; then die "'$1' is no ordinary file: a table is written whole beside it, and renamed"; fi
+    if [ -e "$out" ] && [ ! -w "$out" ]; then die "'$1' is there and is not writable"; fi
     if [ -h "$out" ]; then
         out=$(readlink -f -- "$out" && printf x) || die "'$1' is a link that leads nowhere"
         out=${out%??}
@@ -125,8 +126,9 @@ write_masked() {
     fi
     [ "$status" -eq 0 ] || die "'$kept/mask' failed with status $status"
     sizes_of "$1"
+    randoms=$(count_kind "$1" 003)
     shares=$((2 * order + 1)) masked_wires=$((inputs + gates))
-    tape_bits=$((2 * order * inputs / shares + $(count_kind "$1" 003)))
+    tape_bits=$((2 * order * inputs / shares + randoms))
     written="$shares $masked_wires $tape_bits $(wc -c <"$1")"
     find_forecast
     [ "$written" = "$line" ] || die "the masked table has the sizes $written, not $line as forecast: is the disk full?"
@@ -135,7 +137,7 @@ write_masked() {
 proved_in="'demands' in crates/maps/proofs/Whole.antt"
 
 mask() {
-    [ $# -eq 3 ] || die "mask takes an order, a table and a file to write: ./fantzori mask ORDER TABLE OUT"
+    [ $# -eq 3 ] || die "mask takes an order, a table and a file to write: fantzori mask ORDER TABLE OUT"
     start
     take_order "$1"
     take_out "$3"
@@ -156,7 +158,7 @@ TXT
 }
 
 certify() {
-    [ $# -eq 3 ] || die "certify takes an order, a table and a masked table: ./fantzori certify ORDER TABLE MASKED"
+    [ $# -eq 3 ] || die "certify takes an order, a table and a masked table: fantzori certify ORDER TABLE MASKED"
     start
     take_order "$1"
     take_table "$2" "$most" table
@@ -197,7 +199,7 @@ tell_difference() {
 }
 
 forecast() {
-    [ $# -eq 2 ] || die "forecast takes an order and a table: ./fantzori forecast ORDER TABLE"
+    [ $# -eq 2 ] || die "forecast takes an order and a table: fantzori forecast ORDER TABLE"
     start
     take_order "$1"
     take_table "$2" 65536 table
@@ -227,7 +229,7 @@ list_lines() {
 }
 
 check() {
-    [ $# -eq 1 ] || die "check takes a table: ./fantzori check TABLE"
+    [ $# -eq 1 ] || die "check takes a table: fantzori check TABLE"
     list_lines "$1"
     kinds=$(awk '
         /^w/ { count[$3]++ }
@@ -239,7 +241,7 @@ TXT
 }
 
 show() {
-    [ $# -eq 1 ] || die "show takes a table: ./fantzori show TABLE"
+    [ $# -eq 1 ] || die "show takes a table: fantzori show TABLE"
     list_lines "$1"
     print <"$scratch/lines"
 }

@@ -12,11 +12,13 @@ version() {
     start
     header=include/masks.h
     if [ -n "$installed" ]; then
-        header=../include/masks.h kept=$parts key=$(cat "$parts/key") toolchain=$(tail -n 1 "$parts/mask.proved")
+        header=../include/masks.h
+        see_to mask forecast show
     else
         find_key
         toolchain=$(cat toolchain.txt)
     fi
+    [ -r "$header" ] || die "'$home$header' is not there"
     print <<TXT
 fantzori $(version_in "$header")
 sources $key
@@ -39,24 +41,29 @@ TXT
 }
 
 install_under() {
-    [ $# -eq 1 ] || die "install takes a folder: ./fantzori install PREFIX"
+    [ $# -eq 1 ] || die "install takes a folder: fantzori install PREFIX"
     in_project install
     [ -n "$1" ] || die "the name of the folder to install in is empty"
     start
     absolute "$1"
+    [ "$(readlink -f -- "$path")" != "$(readlink -f .)" ] || die "'$1' is the project's own folder: install somewhere else"
     to=$path own=$path/libexec/fantzori pages=$path/share/doc/fantzori
     # shellcheck disable=SC2086
     see_to $all
     printf '%s\n' "$key" >"$scratch/key"
     pkg_config >"$scratch/masks.pc"
+    umask 022
+    # the key comes last: without it an installation is not whole
     { mkdir -p "$to/bin" "$to/include" "$to/lib/pkgconfig" "$own" "$pages" &&
+        rm -f "$own/key" &&
         install -m 755 "$kept/mask" "$kept/forecast" "$kept/show" "$own" &&
-        install -m 644 command/*.sh "$kept/mask.proved" "$kept/forecast.proved" "$kept/show.proved" "$scratch/key" "$own" &&
+        install -m 644 command/*.sh "$kept/mask.proved" "$kept/forecast.proved" "$kept/show.proved" "$own" &&
         install -m 644 "$kept/libmasks_c.a" "$to/lib" &&
         install -m 644 include/masks.h "$to/include" &&
         install -m 644 docs/FORMAT.md docs/ASSURANCE.md "$pages" &&
         install -m 644 "$scratch/masks.pc" "$to/lib/pkgconfig" &&
-        install -m 755 fantzori "$to/bin"; } 2>"$scratch/told" || die "it cannot be installed: $(head -n 1 "$scratch/told")"
+        install -m 755 fantzori "$to/bin" &&
+        install -m 644 "$scratch/key" "$own"; } 2>"$scratch/told" || die "it cannot be installed: $(head -n 1 "$scratch/told")"
     print <<TXT
 installed in $1: bin/fantzori, lib/libmasks_c.a, lib/pkgconfig/masks.pc, include/masks.h, libexec/fantzori/, share/doc/fantzori/
 TXT
@@ -122,7 +129,7 @@ test_all() {
 }
 
 fuzz() {
-    [ $# -eq 1 ] || die "fuzz takes a number of seconds: ./fantzori fuzz SECONDS"
+    [ $# -eq 1 ] || die "fuzz takes a number of seconds: fantzori fuzz SECONDS"
     case $1 in
     '' | *[!0-9]*) die "fuzz takes a number of seconds, and not '$1'" ;;
     esac

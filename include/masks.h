@@ -45,7 +45,8 @@ enum masks_refusal {
     MASKS_BAD_BIT = 11,         /* a bit is a byte above 1. Place: its position in the call's bits joined, namely first secret (or
                                    inputs, or shares), second secret, tape or random bits */
     MASKS_TOO_MANY_PROBES = 12, /* more probes than the order */
-    MASKS_BAD_PROBE = 13        /* a probe or wire that the masked table does not have. Place: the probe's position */
+    MASKS_BAD_PROBE = 13        /* a probe or wire that the masked table does not have. Place: the probe's position, 0 in the marks
+                                   call */
 };
 
 struct masks_answer {

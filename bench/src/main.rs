@@ -81,7 +81,7 @@ fn report(files: &[String]) -> Result<(), String> {
 fn print_stack() {
     println!("call              ours      Rust  bytes of stack");
     let rows = all_rows(stack::taken);
-    for call in ["check", "forecast", "mask", "run", "encode", "decode", "map"] {
+    for call in ["check", "forecast", "mask", "run", "marks", "encode", "decode", "map"] {
         let of_call = rows.iter().filter(|row| row.call.split(',').next() == Some(call));
         let most = |stack: fn(&Row) -> f64| of_call.clone().map(stack).fold(0.0, f64::max);
         if of_call.clone().next().is_some() {
@@ -118,6 +118,7 @@ fn sized(gauge: Gauge, rng: &mut Rng) -> Vec<Row> {
     on_maskings("forecast", forecast);
     on_maskings("mask", mask);
     on_maskings("run", |gauge, maskings| run(gauge, &masked(maskings)));
+    on_maskings("marks", marks);
     if cfg!(feature = "map") {
         on_maskings("map", map);
         on_maskings(MAP_AGAINST_RUNS, map_and_two_runs);
@@ -249,6 +250,16 @@ fn run_once(
 ) -> Outcome {
     let Running { table, inputs, random, .. } = running;
     masks.run(table, inputs, random, values, outputs)
+}
+
+/// The marks of the last wire, which is found last.
+fn marks(gauge: Gauge, maskings: &[Masking]) -> Times {
+    measure(
+        gauge,
+        maskings,
+        |_| [],
+        |masks, masking, []| masks.marks(&masking.plain, masking.order, masking.sizes.wires - 1),
+    )
 }
 
 /// As many secrets as have at most so many shares.

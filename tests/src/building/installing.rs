@@ -34,6 +34,9 @@ pub fn test(folder: &Folder, tools: &Tools) -> Result<(), String> {
         let ran = project.run(&["install", name])?;
         ensure(ran.is_ended(2, "fantzori: "), &ran, "what cannot be made is not told")?;
     }
+    let ran = project.run(&["install", "to install"])?;
+    let told = "fantzori: 'to install' is the project's own folder";
+    ensure(ran.is_ended(2, told), &ran, "the project's own folder is not told")?;
     let ran = project.run(&["install", "pre fix"])?;
     let told = ran.out.starts_with("installed in pre fix: ") && ran.out.lines().count() == 1;
     ensure(ran.is_done() && told, &ran, "it is not installed")?;
@@ -108,5 +111,7 @@ fn replaced(folder: &Folder, prefix: &Path) -> Result<(), String> {
         ensure(ran.is_done(), &ran, "the program as it was is refused")?;
         drop(fs::remove_file(folder.path("not there")));
     }
-    Ok(())
+    fs::remove_file(prefix.join("libexec/fantzori/key")).map_err(|error| folder.told(error))?;
+    let ran = Ran::of(Command::new(prefix.join("bin/fantzori")).arg("version"))?;
+    ensure(ran.is_ended(2, "fantzori: the installation at "), &ran, "a part is missed in vain")
 }

@@ -113,7 +113,7 @@ impl Project {
 }
 
 /// What the commands on tables run, where all is built.
-const TOOLS: &str = "awk cat chmod cmp cut date find grep head mkdir mktemp mv od readlink rm sed \
+const TOOLS: &str = "awk cat chmod cmp cut date find grep head mkdir mv od readlink rm sed \
                      sha256sum sort stat tail tr wc";
 
 /// A folder with links to those tools alone.

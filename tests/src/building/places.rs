@@ -45,6 +45,7 @@ fn not_writable(folder: &Folder) -> Result<Project, String> {
     };
     chmod("a-w", &project.path)?;
     all_work(&fantzori, &caller, &prepare)?;
+    protected(folder, &prepare)?;
     chmod("u+w", &project.path)?;
     let built = project.path.join("built");
     fs::rename(&built, folder.path("built apart")).map_err(|error| folder.told(error))?;
@@ -57,6 +58,18 @@ fn not_writable(folder: &Folder) -> Result<Project, String> {
     let told = ran.is_ended(2, "fantzori: not built, and ") && ran.told.contains("is not writable");
     ensure(told, &ran, "a folder that is not writable is not told")?;
     Ok(project)
+}
+
+/// An OUT that is not writable is left as it is.
+fn protected(folder: &Folder, prepare: &dyn Fn(&mut Command)) -> Result<(), String> {
+    let out = "for all/protected";
+    folder.write(out, b"kept")?;
+    chmod("0444", &folder.path(out))?;
+    let mut mask = Command::new("");
+    prepare(mask.args(["mask", "1", "../table", "protected"]));
+    let ran = Ran::of(&mut mask)?;
+    ensure(ran.is_ended(2, "fantzori: 'protected' is there"), &ran, "it is not told")?;
+    ensure(folder.read(out)? == b"kept", &ran, "a file that is not writable was replaced")
 }
 
 /// A link to the command, and folders with strange names.

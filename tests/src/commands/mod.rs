@@ -5,6 +5,7 @@ mod check;
 mod files;
 mod refusals;
 
+use std::os::unix::process::CommandExt;
 use std::process::Command;
 use std::time::{Duration, Instant};
 use std::{fs, thread};
@@ -26,7 +27,8 @@ pub fn test() -> Result<(), String> {
     bad_arguments(&folder)?;
     shows_and_forecasts(&folder)?;
     interrupt(&folder)?;
-    println!("commands: mask, forecast and show, bad arguments, an interrupt");
+    interrupts(&folder)?;
+    println!("commands: mask, forecast and show, bad arguments, interrupts");
     refusals::test(&folder)?;
     println!("commands: refusals, every wrong order, tables too large or too long");
     certify::test(&folder)?;
@@ -161,6 +163,33 @@ fn interrupt(folder: &Folder) -> Result<(), String> {
         return ensure_kept(folder);
     }
     Err(format!("FAILED: an interrupt: {status}, {before} temporary folders, {} left", count()?))
+}
+
+/// Interrupts of all processes of a command at many moments, as from a terminal: none leaves a
+/// temporary file, and OUT is there whole or not at all.
+fn interrupts(folder: &Folder) -> Result<(), String> {
+    let scratch = folder.path("scratch");
+    folder.write("table", &the_and())?;
+    for moment in 0..80 {
+        let mut command = folder.command(&["mask", "1", "table", "not there"])?;
+        command.env("TMPDIR", &scratch).process_group(0);
+        let started = Started::new(command)?;
+        thread::sleep(Duration::from_millis(moment));
+        let group = format!("-{}", started.child.id());
+        let signal = ["INT", "TERM"][moment as usize % 2];
+        // It may have ended before.
+        drop(Ran::of(Command::new("kill").args(["-s", signal, "--", &group]))?);
+        let ran = started.wait()?;
+        let left =
+            fs::read_dir(&scratch).map(Iterator::count).map_err(|error| folder.told(error))?;
+        ensure(left == 0, &ran, "an interrupt leaves temporary files")?;
+        if folder.path("not there").exists() {
+            ensure(folder.read("not there")? == masked(1, &the_and())?, &ran, "OUT is cut")?;
+            fs::remove_file(folder.path("not there")).map_err(|error| folder.told(error))?;
+        }
+        ensure_kept(folder)?;
+    }
+    Ok(())
 }
 
 /// OUT is as it was, and nothing else was left in the folder.
