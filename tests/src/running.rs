@@ -57,6 +57,17 @@ impl Ran {
     }
 }
 
+/// The same command, with interrupts as at a terminal: in the background they are ignored, and what
+/// was ignored at its start no shell can trap.
+pub fn at_terminal(command: &Command) -> Command {
+    let mut same = Command::new("env");
+    same.arg("--default-signal=INT").arg(command.get_program()).args(command.get_args());
+    if let Some(folder) = command.get_current_dir() {
+        same.current_dir(folder);
+    }
+    same
+}
+
 /// A command that was started; what it prints is taken.
 pub struct Started {
     command: Command,

@@ -8,7 +8,7 @@ use std::time::{Duration, Instant};
 use std::{fs, thread};
 
 use super::{Project, SOURCES};
-use crate::running::{Folder, Started};
+use crate::running::{Folder, Started, at_terminal};
 
 const PROVES: &str = "fantzori: proving tables, 1 of ";
 const WAITS: &str = "fantzori: another ./fantzori is proving here: waiting for it";
@@ -47,7 +47,7 @@ impl Begun {
     fn new(folder: &Folder, project: &Project, name: &str, line: &str) -> Result<Self, String> {
         let temporary = folder.path(name);
         fs::create_dir(&temporary).map_err(|error| folder.told(error))?;
-        let mut command = project.command(&["mask", "1", "table", "not there"]);
+        let mut command = at_terminal(&project.command(&["mask", "1", "table", "not there"]));
         command.env("TMPDIR", &temporary);
         let mut started = Started::new(command)?;
         let told = started.child.stderr.take().ok_or("FAILED: standard error is not taken")?;

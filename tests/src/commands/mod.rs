@@ -15,7 +15,7 @@ use compare::model;
 
 pub use check::counts;
 
-use crate::running::{Folder, Ran, Started, ensure, masked};
+use crate::running::{Folder, Ran, Started, at_terminal, ensure, masked};
 
 /// What is in OUT before a command that must leave it.
 const KEPT: &[u8] = b"kept";
@@ -171,7 +171,7 @@ fn interrupts(folder: &Folder) -> Result<(), String> {
     let scratch = folder.path("scratch");
     folder.write("table", &the_and())?;
     for moment in 0..80 {
-        let mut command = folder.command(&["mask", "1", "table", "not there"])?;
+        let mut command = at_terminal(&folder.command(&["mask", "1", "table", "not there"])?);
         command.env("TMPDIR", &scratch).process_group(0);
         let started = Started::new(command)?;
         thread::sleep(Duration::from_millis(moment));
