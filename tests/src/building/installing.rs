@@ -65,22 +65,13 @@ fn works(folder: &Folder, tools: &Tools, prefix: &Path) -> Result<(), String> {
     if find("pkg-config").is_some() { links(folder, prefix) } else { Ok(()) }
 }
 
-/// A program that checks the AND.
-const PROGRAM: &str = r#"#include <masks.h>
-#include <stdio.h>
-
-int main(void) {
-    static const uint8_t table[] = {2, 0, 1, 0, 1, 0, 2, 0, 0, 1, 0, 2, 0};
-    struct masks_answer answer = masks_check(table, sizeof table);
-    printf("%s %d %u\n", MASKS_VERSION, answer.number, (unsigned)answer.value);
-    return 0;
-}
-"#;
+/// A program that sees every answer by its name, success and 13 refusals.
+const PROGRAM: &str = include_str!("refusals.c");
 
 /// The flags that pkg-config tells compile and link a program in C.
 fn links(folder: &Folder, prefix: &Path) -> Result<(), String> {
     folder.write("use.c", PROGRAM.as_bytes())?;
-    let script = r#"flags=$(pkg-config --cflags --libs masks) && eval "cc -o use use.c $flags" &&
+    let script = r#"flags=$(pkg-config --cflags --libs masks) && eval "cc -Wall -Wextra -Werror -o use use.c $flags" &&
         ./use && pkg-config --modversion masks"#;
     let ran = Ran::of(
         Command::new("sh")
@@ -89,7 +80,7 @@ fn links(folder: &Folder, prefix: &Path) -> Result<(), String> {
             .env("PKG_CONFIG_PATH", prefix.join("lib/pkgconfig")),
     )?;
     let lines: Vec<&str> = ran.out.lines().collect();
-    let sound = lines.len() == 2 && lines[0] == format!("{} 0 3", lines[1]);
+    let sound = lines.len() == 2 && lines[0] == format!("{} 14", lines[1]);
     ensure(ran.is_done() && sound, &ran, "the flags for C do not work")
 }
 
