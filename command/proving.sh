@@ -54,11 +54,12 @@ build_missing() {
     if [ -n "$missing" ]; then
         say "proving and building$missing, which takes some minutes the first time"
         lend_temporary
-        crates=maps
+        crates=''
         for name in $missing; do
+            # a program is removed so that rt links it anew, whatever is there; maps has the theorem that mask names
             case $name in
             libmasks_c.a) crates="$crates masks_c" ;;
-            # so that rt links it anew, whatever is there
+            mask) crates="$crates mask maps" && rm -f target/bin/mask target/stamp/mask ;;
             *) crates="$crates $name" && rm -f "target/bin/$name" "target/stamp/$name" ;;
             esac
         done
