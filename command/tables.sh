@@ -64,7 +64,7 @@ order_and_table() {
     printf "$order_byte" && cat "$scratch/table"
 }
 
-# The file to write, and the folder that it is in.
+# The file to write, and the one beside it that is renamed to it.
 take_out() {
     [ -n "$1" ] || die "the name of the file to write is empty"
     absolute "$1"
@@ -79,6 +79,7 @@ take_out() {
     folder=${out%/*}/
     [ -d "$folder" ] || die "'$1' cannot be written: there is no folder '$folder'"
     [ -w "$folder" ] || die "'$1' cannot be written: the folder '$folder' is not writable"
+    beside=$folder.fantzori-$$-$(date +%s)
 }
 
 # The numbers of inputs, gates and outputs of the table in a file; a short file has none of them.
@@ -143,8 +144,7 @@ mask() {
     take_out "$3"
     take_table "$2" "$most" table
     see_to forecast mask
-    beside=$folder.fantzori-$$-$(date +%s)
-    (set -C && : >"$beside") 2>/dev/null || { beside='' && die "'$3' cannot be written: no file can be made in '$folder'"; }
+    (set -C && : >"$beside") 2>/dev/null || { beside='' && die "'$3' cannot be written: no file can be made beside it"; }
     write_masked "$beside"
     plain_sum=$(sha256 <"$scratch/table") masked_sum=$(sha256 <"$beside")
     [ ! -e "$out" ] || chmod "$(stat -c %a -- "$out")" "$beside" || die "'$3' cannot keep its permissions"

@@ -4,15 +4,17 @@ use std::fs;
 use std::os::unix::fs::PermissionsExt;
 
 use compare::circuit::{Circuit, Gate, not};
-use compare::examples::the_and;
+use compare::examples::{and_chain, the_and};
 use compare::model;
 
+use super::{KEPT, ensure_kept};
 use crate::running::{Folder, Ran, ensure, masked};
 
 pub fn test(folder: &Folder) -> Result<(), String> {
     names(folder)?;
     full(folder)?;
     readers(folder)?;
+    cut(folder)?;
     modes(folder)
 }
 
@@ -86,6 +88,19 @@ fn readers(folder: &Folder) -> Result<(), String> {
         ensure(ran.is_done() && ran.out.lines().count() == 3, &ran, "masking fails")?;
     }
     Ok(())
+}
+
+/// A masked table that is cut off in the middle, as by a full disk, never becomes OUT.
+fn cut(folder: &Folder) -> Result<(), String> {
+    folder.write("table", &and_chain(2_730))?;
+    folder.write("out", KEPT)?;
+    // 400 blocks of 512 bytes; the masked table has 327,612.
+    let script = "trap '' XFSZ; ulimit -f 400; exec \"$@\"";
+    let ran = folder.script(script, &["mask", "1", "table", "out"])?;
+    let told =
+        "fantzori: the masked table has the sizes 3 65526 8194 204800, not 3 65526 8194 327612";
+    ensure(ran.is_ended(2, told), &ran, "a table that was cut is not told")?;
+    ensure_kept(folder)
 }
 
 /// OUT keeps its mode, and a new one has the mode that the umask gives.
