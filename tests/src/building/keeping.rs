@@ -38,6 +38,9 @@ pub fn without_toolchain(folder: &Folder, tools: &Tools) -> Result<(), String> {
     all_work(&project.path.join("fantzori"), &folder.path("sub folder"), &|command| {
         command.env("PATH", &tools.0);
     })?;
+    let ran = tools.run(&mut project.command(&["build"]))?;
+    let built = ran.is_done() && ran.out.starts_with("proved and built in built/");
+    ensure(built, &ran, "build does not find what is built")?;
     let after = all()?;
     if before != after {
         let is_changed = |path: &&PathBuf| before.get(*path) != after.get(*path);
@@ -120,4 +123,18 @@ pub fn built_again(folder: &Folder, project: &Project) -> Result<(), String> {
     fs::write(project.path.join("target/bin/show"), &script)
         .map_err(|error| project.told(error))?;
     shows()
+}
+
+/// Another toolchain than the one that the sources are for is told where it proves, and only there.
+pub fn other_toolchain(project: &Project) -> Result<(), String> {
+    fs::write(project.path.join("toolchain.txt"), "another\n")
+        .map_err(|error| project.told(error))?;
+    let ran = project.run(&["show", "table"])?;
+    let warns = |line: &str| {
+        line.starts_with("fantzori: warning: rt is '") && line.contains("are for 'another'")
+    };
+    let told = ran.told.lines().any(warns);
+    ensure(ran.status == Some(0) && told, &ran, "another toolchain is not told")?;
+    let ran = project.run(&["show", "table"])?;
+    ensure(ran.is_done(), &ran, "another toolchain is told where nothing is proved")
 }

@@ -36,7 +36,8 @@ pub fn test() -> Result<(), String> {
     println!("building: install, and the installed command");
     let project = Project::copy(&folder, "with target", &[&SOURCES[..], &OTHERS].concat())?;
     keeping::built_again(&folder, &project)?;
-    println!("building: a changed program is built again");
+    keeping::other_toolchain(&project)?;
+    println!("building: a changed program is built again, and another toolchain is told");
     together::builds(&folder, &project)?;
     println!("building: whoever comes second waits");
     Ok(())
