@@ -123,7 +123,7 @@ write_masked() {
     order_and_table | "$kept/mask" >"$1" 2>"$scratch/told"
     status=$?
     if read -r told number place <"$scratch/told" && [ "$told" = refused ]; then
-        refused "$number" "$place" "the table is longer than any table, 458,746 bytes"
+        refused "$number" "$place"
     fi
     [ "$status" -eq 0 ] || die "'$kept/mask' failed with status $status"
     sizes_of "$1"

@@ -108,13 +108,21 @@ fn check_links(name: &str, page: &str) -> Result<usize, String> {
     }
 }
 
-/// docs/ARCHITECTURE.md has the table that docs/sizes prints.
+/// docs/ARCHITECTURE.md has the table that docs/sizes prints, and each page that says what to believe has its table.
 fn check_sizes() -> Result<(), String> {
-    let name = "docs/ARCHITECTURE.md";
+    check_table("docs/ARCHITECTURE.md", &[])?;
+    for name in ["README.md", "docs/ASSURANCE.md", "docs/ARCHITECTURE.md"] {
+        check_table(name, &["believe"])?;
+    }
+    Ok(())
+}
+
+/// A page has the table that docs/sizes prints with the words given.
+fn check_table(name: &str, words: &[&str]) -> Result<(), String> {
     let page = fs::read_to_string(root().join(name)).map_err(|error| told(name, error))?;
-    let table = Ran::of(&mut Command::new(root().join("docs/sizes")))?;
+    let table = Ran::of(Command::new(root().join("docs/sizes")).args(words))?;
     if table.is_done() && !table.out.is_empty() && page.contains(&table.out) {
         return Ok(());
     }
-    Err(format!("FAILED: the table of sizes in {name} is not what docs/sizes prints"))
+    Err(format!("FAILED: a table in {name} is not what docs/sizes prints: {words:?}"))
 }

@@ -91,6 +91,7 @@ fn plain_inputs(rng: &mut Rng) -> Vec<Vec<u8>> {
     let with = |order: u8, table: &[u8]| [&[order], table].concat();
     let mut inputs = vec![vec![], vec![1], vec![0], with(1, &longest_table())];
     inputs.push([inputs[3].as_slice(), &[0]].concat());
+    inputs.push(vec![0; inputs[4].len()]);
     inputs.extend((0..=255).map(|order| with(order, &the_and())));
     inputs.push(with(1, &and_chain(2_730)));
     inputs.push(with(1, &and_chain(2_731)));

@@ -1,4 +1,3 @@
 -- Laws of the masked table's bytes, by subject.
 pub mod Stretches
 pub mod Assembled
-pub mod Fitting

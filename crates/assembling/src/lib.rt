@@ -1,32 +1,34 @@
 // The masked table of a plan, in bytes.
 ghost use mathlib.Core.Path.{_≡_};
-ghost use Prim.Native.Nat.{_+_, _*_, _/_, _≤_, _<_, _-_};
+ghost use mathlib.Core.List.{_++_};
+ghost use Prim.Native.Nat.{_+_, _*_, _≤_, _<_};
 ghost use lib.ListN.{length};
-ghost use Rattle.tables.specs.Tables.{wordBytes, word, tableOf, two, kindBytes, pairBytes, tableBytes};
-ghost use Rattle.masks.specs.Wires.{cost, totalOf, outputShares, maskedTable};
-ghost use Rattle.writing.specs.Layout.{listed, LowShares};
-ghost use Rattle.placing.specs.Masking.{Shareable, sharesBy, Room};
-ghost use Rattle.placing.specs.Masking.{Located, allShares, gateWire, stretch, maskedGates, afterSizes};
-ghost use Rattle.tables.specs.Says.{putAt, over};
-ghost use Rattle.sizing.specs.Plans.{PlanReady, planBytes};
-ghost use mathlib.Core.List.{[], _++_};
+ghost use Rattle.tables.specs.Tables.{two, tableOf, total, wordBytes, tableBytes};
+ghost use Rattle.tables.specs.Says.{over};
+ghost use Rattle.tables.specs.Inside.{putAt};
 ghost use Rattle.masks.specs.Gadgets.{isw};
+ghost use Rattle.masks.specs.Wires.{cost, masked, outputShares, maskedTable};
+ghost use Rattle.sizing.specs.Plans.{PlanReady, planBytes};
+ghost use Rattle.writing.specs.Layout.{shareWires, LowShares, operandBytes, gateKinds};
+ghost use Rattle.placing.specs.Located.{Room, Located, sharesTo, allShares, gateWire};
+ghost use Rattle.assembling.specs.Parts.{stretch, afterSizes};
 
 // Writes the kinds of the masked gates of the plain gates from..to: those of XOR gates everywhere, then what is none.
-fn write_kinds(table: &[u8], from: usize, to: usize, n: usize, kinds: &mut [u8])
-    requires { ⌜ Shareable (now table) n × (from ≤ to) × (to ≤ word (now table) 2)
-        × (totalOf (λ k. cost k n) (stretch (tableOf (now table)) from to) ≡ length (now kinds)) ⌝ }
-    ensures { λ _. ⌜ now (kinds .exit)
-        ≡ over (kindBytes (maskedGates n 0 [] (stretch (tableOf (now (table .entry))) from to))) (now (kinds .entry)) ⌝ }
+fn write_kinds(table: &[u8], p: sizing::Plan, from: usize, to: usize, kinds: &mut [u8])
+    requires { ⌜ PlanReady (now table) p × (from ≤ to) × (to ≤ p .gates)
+        × (total (λ k. cost k (p .shares)) (stretch (tableOf (now table)) from to) ≡ length (now kinds)) ⌝ }
+    ensures { λ _. ⌜ now (kinds .exit) ≡ gateKinds (p .shares) (stretch (tableOf (now (table .entry))) from to) ⌝ }
 {
+    let n = p.shares;
+    let gates = p.gates;
     let room = kinds.len();
     writing::write_xor_kinds(kinds, 0, room);
     let mut at = 0;
     let mut g = from;
     while g < to {
-        let kind = table[6 + g];
-        writing::write_kinds_of(kind, n, kinds, at);
-        at += sizing::gate_cost(kind, n);
+        let x = tables::gate_at(table, gates, g);
+        writing::write_kinds_of(x.kind, n, kinds, at);
+        at += masks::gate_cost(x.kind, n);
         g += 1;
     }
 }
@@ -34,34 +36,32 @@ fn write_kinds(table: &[u8], from: usize, to: usize, n: usize, kinds: &mut [u8])
 // Writes the operands of the masked gates of the plain gates from..to, the first of which begins at wire w.
 fn write_operands(
     table: &[u8],
-    gates: usize,
+    p: sizing::Plan,
     from: usize,
     to: usize,
-    n: usize,
     w: usize,
-    first: &[u16],
+    head: &[u16],
     base: &[u16],
     step: &[u16],
     ops: &mut [u8],
 )
-    requires { ⌜ Shareable (now table) n × (gates ≡ word (now table) 2) × (from ≤ to) × (to ≤ gates)
-        × (w ≡ gateWire n (tableOf (now table)) from) × Located (tableOf (now table)) n (now first) (now base) (now step)
-        × (4 * totalOf (λ k. cost k n) (stretch (tableOf (now table)) from to) ≤ length (now ops)) ⌝ }
-    ensures { λ _. ⌜ now (ops .exit) ≡ over (pairBytes (maskedGates n w
-        (sharesBy n (now (first .entry)) (now (base .entry)) (now (step .entry)) (tableOf (now (table .entry)) .inputs + from))
-        (stretch (tableOf (now (table .entry))) from to))) (now (ops .entry)) ⌝ }
+    requires { ⌜ PlanReady (now table) p × Located (tableOf (now table)) (p .shares) (now head) (now base) (now step)
+        × (from ≤ to) × (to ≤ p .gates) × (w ≡ gateWire (p .shares) (tableOf (now table)) from)
+        × (4 * total (λ k. cost k (p .shares)) (stretch (tableOf (now table)) from to) ≤ length (now ops)) ⌝ }
+    ensures { λ _. ⌜ now (ops .exit) ≡ over (operandBytes (masked isw (p .shares) from w
+        (sharesTo (p .shares) (tableOf (now (table .entry))) from) (stretch (tableOf (now (table .entry))) from to))) (now (ops .entry)) ⌝ }
 {
+    let n = p.shares;
+    let gates = p.gates;
     let mut next = w;
     let mut at = 0;
     let mut g = from;
     while g < to {
-        let kind = table[6 + g];
-        let left = tables::field(table, 6 + gates + 4 * g);
-        let right = tables::field(table, 8 + gates + 4 * g);
-        let a = placing::places_at(first, base, step, left);
-        let b = placing::places_at(first, base, step, right);
-        writing::write_operands_of(kind, n, next, a, b, ops, at);
-        let new = sizing::gate_cost(kind, n);
+        let x = tables::gate_at(table, gates, g);
+        let a = placing::places_at(head, base, step, x.left);
+        let b = placing::places_at(head, base, step, x.right);
+        writing::write_operands_of(x.kind, n, next, a, b, ops, at);
+        let new = masks::gate_cost(x.kind, n);
         next += new;
         at += 4 * new;
         g += 1;
@@ -71,7 +71,7 @@ fn write_operands(
 // Writes the wires of n shares, a field each.
 fn write_shares(a: writing::Places, n: usize, outs: &mut [u8], at: usize)
     requires { ⌜ (1 ≤ n) × (n ≤ 31) × LowShares n a × (at + 2 * n ≤ length (now outs)) ⌝ }
-    ensures { λ _. ⌜ now (outs .exit) ≡ putAt at (wordBytes (listed n a)) (now (outs .entry)) ⌝ }
+    ensures { λ _. ⌜ now (outs .exit) ≡ putAt at (wordBytes (shareWires n a)) (now (outs .entry)) ⌝ }
 {
     let mut i = 0;
     while i < n {
@@ -83,37 +83,29 @@ fn write_shares(a: writing::Places, n: usize, outs: &mut [u8], at: usize)
 // Writes the outputs: for each of the plain table's, the wires of its n shares.
 fn write_outputs(
     table: &[u8],
-    gates: usize,
-    outputs: usize,
-    n: usize,
-    first: &[u16],
+    p: sizing::Plan,
+    head: &[u16],
     base: &[u16],
     step: &[u16],
     outs: &mut [u8],
 )
-    requires { ⌜ Shareable (now table) n × (gates ≡ word (now table) 2) × (outputs ≡ word (now table) 4)
-        × Located (tableOf (now table)) n (now first) (now base) (now step) × (2 * (n * outputs) ≤ length (now outs)) ⌝ }
-    ensures { λ _. ⌜ now (outs .exit) ≡ over (wordBytes (outputShares (allShares n (tableOf (now (table .entry)))) (tableOf (now
-        (table .entry)) .outputs))) (now (outs .entry)) ⌝ }
+    requires { ⌜ PlanReady (now table) p × Located (tableOf (now table)) (p .shares) (now head) (now base) (now step)
+        × (2 * (p .shares * p .outputs) ≤ length (now outs)) ⌝ }
+    ensures { λ _. ⌜ now (outs .exit) ≡ over (wordBytes (outputShares (allShares (p .shares) (tableOf (now (table .entry))))
+        (tableOf (now (table .entry)) .outputs))) (now (outs .entry)) ⌝ }
 {
+    let n = p.shares;
+    let gates = p.gates;
+    let outputs = p.outputs;
     let mut at = 0;
     let mut o = 0;
     while o < outputs {
-        let p = tables::field(table, 6 + 5 * gates + 2 * o);
-        let a = placing::places_at(first, base, step, p);
+        let q = tables::output_at(table, gates, outputs, o);
+        let a = placing::places_at(head, base, step, q);
         write_shares(a, n, outs, at);
         at += 2 * n;
         o += 1;
     }
-}
-
-// Where the shares of every plain wire are.
-fn locate(table: &[u8], p: sizing::Plan, first: &mut [u16], base: &mut [u16], step: &mut [u16])
-    requires { ⌜ PlanReady (now table) (p .shares / 2) p × Room (p .inputs + p .gates) (now first) (now base) (now step) ⌝ }
-    ensures { λ _. ⌜ Located (tableOf (now (table .entry))) (p .shares) (now (first .exit)) (now (base .exit)) (now (step .exit)) ⌝ }
-{
-    placing::place_inputs(p.shares, p.inputs, first, base, step);
-    placing::place_gates(table, p.inputs, p.gates, p.shares, first, base, step);
 }
 
 // Writes the six bytes of sizes.
@@ -131,117 +123,104 @@ fn put_sizes(out: &mut [u8], inputs: usize, gates: usize, outputs: usize)
 fn mask_gates(
     table: &[u8],
     p: sizing::Plan,
-    first: &[u16],
+    head: &[u16],
     base: &[u16],
     step: &[u16],
     out: &mut [u8],
 )
-    requires { ⌜ PlanReady (now table) (p .shares / 2) p × Located (tableOf (now table)) (p .shares) (now first) (now base) (now step)
+    requires { ⌜ PlanReady (now table) p × Located (tableOf (now table)) (p .shares) (now head) (now base) (now step)
         × (planBytes p ≤ length (now out)) ⌝ }
-    ensures { λ _. ⌜ now (out .exit)
-        ≡ putAt 6 (afterSizes (maskedTable isw (p .shares / 2) (tableOf (now (table .entry))))) (now (out .entry)) ⌝ }
+    ensures { λ _. ⌜ now (out .exit) ≡ putAt 6 (afterSizes (maskedTable isw (p .order) (tableOf (now (table .entry))))) (now (out .entry)) ⌝ }
 {
-    let n = p.shares;
-    let w = n * p.inputs;
+    let w = p.shares * p.inputs;
     let g = p.wires - w;
-    write_kinds(table, 0, p.gates, n, &mut out[6..6 + g]);
+    write_kinds(table, p, 0, p.gates, &mut out[6..6 + g]);
     write_operands(
         table,
-        p.gates,
+        p,
         0,
         p.gates,
-        n,
         w,
-        first,
+        head,
         base,
         step,
         &mut out[6 + g..6 + 5 * g],
     );
-    write_outputs(
-        table,
-        p.gates,
-        p.outputs,
-        n,
-        first,
-        base,
-        step,
-        &mut out[6 + 5 * g..],
-    );
+    write_outputs(table, p, head, base, step, &mut out[6 + 5 * g..]);
 }
 
 // Writes the masked table of a plan; the three arrays are lent to note where shares are.
 fn mask_with(
     table: &[u8],
     p: sizing::Plan,
-    first: &mut [u16],
+    head: &mut [u16],
     base: &mut [u16],
     step: &mut [u16],
     out: &mut [u8],
 )
-    requires { ⌜ PlanReady (now table) (p .shares / 2) p × Room (p .inputs + p .gates) (now first) (now base) (now step)
+    requires { ⌜ PlanReady (now table) p × Room (p .inputs + p .gates) (now head) (now base) (now step)
         × (planBytes p ≤ length (now out)) ⌝ }
-    ensures { λ _. ⌜ now (out .exit)
-        ≡ over (tableBytes (maskedTable isw (p .shares / 2) (tableOf (now (table .entry))))) (now (out .entry)) ⌝ }
+    ensures { λ _. ⌜ now (out .exit) ≡ over (tableBytes (maskedTable isw (p .order) (tableOf (now (table .entry))))) (now (out .entry)) ⌝ }
 {
-    locate(table, p, first, base, step);
+    placing::locate(table, p, head, base, step);
     let inputs = p.shares * p.inputs;
     put_sizes(out, inputs, p.wires - inputs, p.shares * p.outputs);
-    mask_gates(table, p, first, base, step, out);
+    mask_gates(table, p, head, base, step, out);
 }
 
 // Masks a table of at most 256 wires.
 fn mask_tiny(table: &[u8], p: sizing::Plan, out: &mut [u8])
-    requires { ⌜ PlanReady (now table) (p .shares / 2) p × (p .inputs + p .gates ≤ 256) × (planBytes p ≤ length (now out)) ⌝ }
+    requires { ⌜ PlanReady (now table) p × (p .inputs + p .gates ≤ 256) × (planBytes p ≤ length (now out)) ⌝ }
     ensures { λ _. ⌜ now (out .exit)
-        ≡ over (tableBytes (maskedTable isw (p .shares / 2) (tableOf (now (table .entry))))) (now (out .entry)) ⌝ }
+        ≡ over (tableBytes (maskedTable isw (p .order) (tableOf (now (table .entry))))) (now (out .entry)) ⌝ }
 {
-    let mut first = [0u16; 256];
+    let mut head = [0u16; 256];
     let mut base = [0u16; 256];
     let mut step = [0u16; 256];
-    mask_with(table, p, &mut first, &mut base, &mut step, out);
+    mask_with(table, p, &mut head, &mut base, &mut step, out);
 }
 
 // Masks a table of at most 2,048 wires.
 fn mask_small(table: &[u8], p: sizing::Plan, out: &mut [u8])
-    requires { ⌜ PlanReady (now table) (p .shares / 2) p × (p .inputs + p .gates ≤ 2048) × (planBytes p ≤ length (now out)) ⌝ }
+    requires { ⌜ PlanReady (now table) p × (p .inputs + p .gates ≤ 2048) × (planBytes p ≤ length (now out)) ⌝ }
     ensures { λ _. ⌜ now (out .exit)
-        ≡ over (tableBytes (maskedTable isw (p .shares / 2) (tableOf (now (table .entry))))) (now (out .entry)) ⌝ }
+        ≡ over (tableBytes (maskedTable isw (p .order) (tableOf (now (table .entry))))) (now (out .entry)) ⌝ }
 {
-    let mut first = [0u16; 2048];
+    let mut head = [0u16; 2048];
     let mut base = [0u16; 2048];
     let mut step = [0u16; 2048];
-    mask_with(table, p, &mut first, &mut base, &mut step, out);
+    mask_with(table, p, &mut head, &mut base, &mut step, out);
 }
 
 // Masks a table of at most 16,384 wires.
 fn mask_middle(table: &[u8], p: sizing::Plan, out: &mut [u8])
-    requires { ⌜ PlanReady (now table) (p .shares / 2) p × (p .inputs + p .gates ≤ 16384) × (planBytes p ≤ length (now out)) ⌝ }
+    requires { ⌜ PlanReady (now table) p × (p .inputs + p .gates ≤ 16384) × (planBytes p ≤ length (now out)) ⌝ }
     ensures { λ _. ⌜ now (out .exit)
-        ≡ over (tableBytes (maskedTable isw (p .shares / 2) (tableOf (now (table .entry))))) (now (out .entry)) ⌝ }
+        ≡ over (tableBytes (maskedTable isw (p .order) (tableOf (now (table .entry))))) (now (out .entry)) ⌝ }
 {
-    let mut first = [0u16; 16384];
+    let mut head = [0u16; 16384];
     let mut base = [0u16; 16384];
     let mut step = [0u16; 16384];
-    mask_with(table, p, &mut first, &mut base, &mut step, out);
+    mask_with(table, p, &mut head, &mut base, &mut step, out);
 }
 
 // Masks a table of any number of wires.
 fn mask_large(table: &[u8], p: sizing::Plan, out: &mut [u8])
-    requires { ⌜ PlanReady (now table) (p .shares / 2) p × (planBytes p ≤ length (now out)) ⌝ }
+    requires { ⌜ PlanReady (now table) p × (planBytes p ≤ length (now out)) ⌝ }
     ensures { λ _. ⌜ now (out .exit)
-        ≡ over (tableBytes (maskedTable isw (p .shares / 2) (tableOf (now (table .entry))))) (now (out .entry)) ⌝ }
+        ≡ over (tableBytes (maskedTable isw (p .order) (tableOf (now (table .entry))))) (now (out .entry)) ⌝ }
 {
-    let mut first = [0u16; 65536];
+    let mut head = [0u16; 65536];
     let mut base = [0u16; 65536];
     let mut step = [0u16; 65536];
-    mask_with(table, p, &mut first, &mut base, &mut step, out);
+    mask_with(table, p, &mut head, &mut base, &mut step, out);
 }
 
 // Writes the masked table of a plan into a buffer that has room for it.
 pub fn mask_into(table: &[u8], p: sizing::Plan, out: &mut [u8])
-    requires { ⌜ PlanReady (now table) (p .shares / 2) p × (planBytes p ≤ length (now out)) ⌝ }
+    requires { ⌜ PlanReady (now table) p × (planBytes p ≤ length (now out)) ⌝ }
     ensures { λ _. ⌜ now (out .exit)
-        ≡ over (tableBytes (maskedTable isw (p .shares / 2) (tableOf (now (table .entry))))) (now (out .entry)) ⌝ }
+        ≡ over (tableBytes (maskedTable isw (p .order) (tableOf (now (table .entry))))) (now (out .entry)) ⌝ }
 {
     if p.inputs + p.gates <= 2048 {
         mask_small(table, p, out);
@@ -256,9 +235,9 @@ pub fn mask_into(table: &[u8], p: sizing::Plan, out: &mut [u8])
 
 // The same, with little stack for a tiny table: to reserve that of a large one takes time even where it is not used.
 pub fn mask_lean(table: &[u8], p: sizing::Plan, out: &mut [u8])
-    requires { ⌜ PlanReady (now table) (p .shares / 2) p × (planBytes p ≤ length (now out)) ⌝ }
+    requires { ⌜ PlanReady (now table) p × (planBytes p ≤ length (now out)) ⌝ }
     ensures { λ _. ⌜ now (out .exit)
-        ≡ over (tableBytes (maskedTable isw (p .shares / 2) (tableOf (now (table .entry))))) (now (out .entry)) ⌝ }
+        ≡ over (tableBytes (maskedTable isw (p .order) (tableOf (now (table .entry))))) (now (out .entry)) ⌝ }
 {
     if p.inputs + p.gates <= 256 {
         mask_tiny(table, p, out);

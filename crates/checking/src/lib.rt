@@ -1,46 +1,46 @@
 // Checking a gate table: refusals 1 to 5 in document 01's order.
 ghost use mathlib.Core.Path.{_≡_};
-ghost use mathlib.Core.Bool.{true};
-ghost use Prim.Native.Nat.{ℕ, _+_, _*_, _≤_, _<_};
-ghost use lib.ListN.{length, drop};
-ghost use Rattle.tables.specs.Refusals.{none, numbered};
-ghost use Rattle.tables.specs.Tables.{kindOf, gate, gatesFrom, wordsFrom, gateFault, gatesFault, outputsFault, tableFault};
-ghost use Rattle.tables.specs.Says.{Refused, leftLimit, rightLimit, SizesSay, CheckSays};
+ghost use mathlib.Core.Bool.{true, cond};
+ghost use Prim.Native.Nat.{ℕ, _+_, _≤_, _<_};
+ghost use lib.Dec.{eqb};
+ghost use Rattle.tables.specs.Refusals.{fault, none};
+ghost use Rattle.tables.specs.Tables.{
+  kindOf,
+  gate,
+  tableOf,
+  operandsOf,
+  operandsOk,
+  gateFault,
+  gatesFault,
+  outputsFault,
+  tableFault,
+};
+ghost use Rattle.tables.specs.Says.{Refused, CheckSays};
+ghost use Rattle.tables.specs.Inside.{HasGates, HasOutputs};
 
-// The wire that the left operand of a gate that drives wire w is before; an unused operand is 0.
-fn left_limit(kind: u8, w: usize) -> usize
-    ensures { λ r. ⌜ r ≡ leftLimit (kindOf kind) w ⌝ }
+// Whether the operands of a gate that drives wire w are earlier wires, and 0 where the kind does not read them.
+fn operands_good(kind: u8, left: usize, right: usize, w: usize) -> bool
+    requires { ⌜ kind ≤ 3 ⌝ }
+    ensures { λ r. ⌜ r ≡ operandsOk w (operandsOf (kindOf kind)) left right ⌝ }
 {
-    if kind == 3 {
-        return 1;
+    match kind {
+        0 => (left < w) & (right == 0),
+        3 => (left == 0) & (right == 0),
+        _ => (left < w) & (right < w),
     }
-    w
-}
-
-// The wire that the right operand is before.
-fn right_limit(kind: u8, w: usize) -> usize
-    ensures { λ r. ⌜ r ≡ rightLimit (kindOf kind) w ⌝ }
-{
-    if kind == 0 {
-        return 1;
-    }
-    left_limit(kind, w)
 }
 
 // 3 or 4 where a gate that drives wire w is faulty, else 0.
 fn gate_number(kind: u8, left: usize, right: usize, w: usize) -> u8
-    ensures { λ r. ⌜ ((i : ℕ) → gateFault i w (gate (kindOf kind) left right) ≡ numbered r i) ⌝ }
+    ensures { λ r. ⌜ ((i : ℕ) → gateFault i w (gate (kindOf kind) left right) ≡ cond (eqb r 0) none (fault r i)) ⌝ }
 {
     if kind > 3 {
         return 3;
     }
-    if left >= left_limit(kind, w) {
-        return 4;
+    if operands_good(kind, left, right, w) {
+        return 0;
     }
-    if right >= right_limit(kind, w) {
-        return 4;
-    }
-    0
+    4
 }
 
 // Not 0 where wire v is not before wire w.
@@ -51,13 +51,10 @@ fn late(v: u32, w: u32) -> u32
     (65536 + v - w) / 65536
 }
 
-// Not 0 where an operand that a kind does not use is not 0.
+// Not 0 where an operand that a kind does not read is not 0.
 fn unused(kind: u8, left: u32, right: u32) -> u32
     ensures { λ r.
-        ⌜
-        (r ≡ 0 → (w : ℕ) → left < w → right < w
-        → (left < leftLimit (kindOf kind) w) × (right < rightLimit (kindOf kind) w))
-        ⌝ }
+        ⌜ (r ≡ 0 → kind ≤ 3 → (w : ℕ) → left < w → right < w → operandsOk w (operandsOf (kindOf kind)) left right ≡ true) ⌝ }
 {
     match kind {
         0 => right,
@@ -77,21 +74,15 @@ fn gate_flaws(kind: u8, left: u32, right: u32, w: u32) -> u32
 
 // Whether no gate is faulty.
 fn gates_good(table: &[u8], inputs: usize, gates: usize) -> bool
-    requires { ⌜ (6 + 5 * gates ≤ length (now table)) × (inputs + gates ≤ 65535) ⌝ }
-    ensures { λ r. ⌜
-        (r ≡ true
-        → gatesFault 0 inputs
-        (gatesFrom gates (drop 6 (now (table .entry))) (drop (6 + gates) (now (table .entry))))
-        ≡ none)
-        ⌝ }
+    requires { ⌜ HasGates (now table) gates × (inputs + gates ≤ 65535) ⌝ }
+    ensures { λ r. ⌜ (r ≡ true → gatesFault 0 inputs (tableOf (now (table .entry)) .gates) ≡ none) ⌝ }
 {
     let mut flaws: u32 = 0;
     let mut w = inputs as u32;
     let mut g = 0;
     while g < gates {
-        let left = tables::field(table, 6 + gates + 4 * g) as u32;
-        let right = tables::field(table, 8 + gates + 4 * g) as u32;
-        flaws = flaws | gate_flaws(table[6 + g], left, right, w);
+        let x = tables::gate_at(table, gates, g);
+        flaws = flaws | gate_flaws(x.kind, x.left as u32, x.right as u32, w);
         w += 1;
         g += 1;
     }
@@ -100,37 +91,21 @@ fn gates_good(table: &[u8], inputs: usize, gates: usize) -> bool
 
 // The first faulty gate: it is looked for only where there is one.
 fn gates_fault(table: &[u8], inputs: usize, gates: usize) -> tables::Refusal
-    requires { ⌜ (6 + 5 * gates ≤ length (now table)) × (inputs + gates ≤ 65535) ⌝ }
-    ensures { λ r. ⌜
-        Refused
-        (gatesFault 0 inputs
-        (gatesFrom gates (drop 6 (now (table .entry))) (drop (6 + gates) (now (table .entry)))))
-        r
-        ⌝ }
+    requires { ⌜ HasGates (now table) gates × (inputs + gates ≤ 65535) ⌝ }
+    ensures { λ r. ⌜ Refused (gatesFault 0 inputs (tableOf (now (table .entry)) .gates)) r ⌝ }
 {
     if gates_good(table, inputs, gates) {
-        return tables::Refusal {
-            number: 0,
-            place: 0,
-        };
+        return tables::refuse(0, 0);
     }
     let mut g = 0;
     let found = 'gates: loop {
         if g == gates {
-            break 'gates tables::Refusal {
-                number: 0,
-                place: 0,
-            };
+            break 'gates tables::refuse(0, 0);
         }
-        let left = tables::field(table, 6 + gates + 4 * g);
-        let right = tables::field(table, 8 + gates + 4 * g);
-        let number = gate_number(table[6 + g], left, right, inputs + g);
+        let x = tables::gate_at(table, gates, g);
+        let number = gate_number(x.kind, x.left, x.right, inputs + g);
         if number != 0 {
-            let place = g as u32;
-            break 'gates tables::Refusal {
-                number: number,
-                place: place,
-            };
+            break 'gates tables::refuse(number, g);
         }
         g += 1;
     };
@@ -138,65 +113,41 @@ fn gates_fault(table: &[u8], inputs: usize, gates: usize) -> tables::Refusal
 }
 
 // The first output that is no wire.
-fn outputs_fault(table: &[u8], start: usize, outputs: usize, wires: usize) -> tables::Refusal
-    requires { ⌜ (start + 2 * outputs ≤ length (now table)) × (outputs ≤ 65535) ⌝ }
-    ensures { λ r. ⌜ Refused (outputsFault 0 wires (wordsFrom outputs (drop start (now (table .entry))))) r ⌝ }
+fn outputs_fault(table: &[u8], gates: usize, outputs: usize, wires: usize) -> tables::Refusal
+    requires { ⌜ HasOutputs (now table) gates outputs × (outputs ≤ 65535) ⌝ }
+    ensures { λ r. ⌜ Refused (outputsFault 0 wires (tableOf (now (table .entry)) .outputs)) r ⌝ }
 {
     let mut o = 0;
     while o < outputs {
-        if tables::field(table, start + 2 * o) >= wires {
-            let place = o as u32;
-            return tables::Refusal {
-                number: 5,
-                place: place,
-            };
+        if tables::output_at(table, gates, outputs, o) >= wires {
+            return tables::refuse(5, o);
         }
         o += 1;
     }
-    tables::Refusal {
-        number: 0,
-        place: 0,
-    }
-}
-
-// The number of the first of the checks on sizes and length that refuses, else 0.
-fn sizes_number(table: &[u8]) -> u8
-    ensures { λ r. ⌜ SizesSay (now (table .entry)) r ⌝ }
-{
-    if table.len() < 6 {
-        return 1;
-    }
-    let inputs = tables::field(table, 0);
-    let gates = tables::field(table, 2);
-    let outputs = tables::field(table, 4);
-    if inputs == 0 || outputs == 0 || inputs + gates > 65535 {
-        return 2;
-    }
-    if table.len() != 6 + 5 * gates + 2 * outputs {
-        return 1;
-    }
-    0
+    tables::refuse(0, 0)
 }
 
 // The first refusal of a table: its sizes, its length, its gates one by one, its outputs.
 pub fn table_fault(table: &[u8]) -> tables::Refusal
     ensures { λ r. ⌜ Refused (tableFault (now (table .entry))) r ⌝ }
 {
-    let number = sizes_number(table);
-    if number != 0 {
-        return tables::Refusal {
-            number: number,
-            place: 0,
-        };
+    if table.len() < 6 {
+        return tables::refuse(1, 0);
     }
     let inputs = tables::field(table, 0);
     let gates = tables::field(table, 2);
     let outputs = tables::field(table, 4);
+    if (inputs == 0) | ((outputs == 0) | (inputs + gates > 65535)) {
+        return tables::refuse(2, 0);
+    }
+    if table.len() != 6 + 5 * gates + 2 * outputs {
+        return tables::refuse(1, 0);
+    }
     let found = gates_fault(table, inputs, gates);
     if found.number != 0 {
         return found;
     }
-    outputs_fault(table, 6 + 5 * gates, outputs, inputs + gates)
+    outputs_fault(table, gates, outputs, inputs + gates)
 }
 
 // Checks a table: the number of its wires.
@@ -208,9 +159,5 @@ pub fn check_table(table: &[u8]) -> tables::Answer
         return tables::refused(found);
     }
     let wires = tables::field(table, 0) + tables::field(table, 2);
-    tables::Answer {
-        number: 0,
-        place: 0,
-        value: wires as u32,
-    }
+    tables::done(found, wires as u32)
 }

@@ -3,23 +3,12 @@ ghost use mathlib.Core.Path.{_≡_};
 ghost use mathlib.Core.List.{[], _∷_};
 ghost use Prim.Native.Nat.{_+_, _*_, _≤_, _<_};
 ghost use lib.ListN.{length, take, drop};
-ghost use Rattle.tables.specs.Refusals.{fault};
-ghost use Rattle.tables.specs.Says.{over, putAt, Refused};
-ghost use Rattle.tables.proofs.Lists.{Bits};
+ghost use Rattle.tables.specs.Runs.{Bits};
+ghost use Rattle.tables.specs.Says.{over, Refused};
+ghost use Rattle.tables.specs.Inside.{putAt};
 ghost use Rattle.masks.specs.Codes.{xorAll, encode, decodeFrom};
 ghost use Rattle.masks.specs.Shares.{sharesOf};
 ghost use Rattle.masks.specs.Says.{encodeFault, EncodeSays, decodeFault, DecodeSays};
-
-// A number and a place as a value.
-fn fault_at(number: u8, place: usize) -> tables::Refusal
-    requires { ⌜ place ≤ 65535 ⌝ }
-    ensures { λ r. ⌜ Refused (fault number place) r ⌝ }
-{
-    tables::Refusal {
-        number: number,
-        place: place as u32,
-    }
-}
 
 // The refusal of encoding for a buffer of the given length: 6, 8, 10, 11, 9 in that order.
 fn encode_fault(order: u8, secrets: &[u8], tape: &[u8], room: usize) -> tables::Refusal
@@ -31,28 +20,21 @@ fn encode_fault(order: u8, secrets: &[u8], tape: &[u8], room: usize) -> tables::
     }
     let count = secrets.len();
     if count > 65535 {
-        return fault_at(8, 0);
+        return tables::refuse(8, 0);
     }
     let bits = 2 * order as usize;
     let shares = (bits + 1) * count;
     if shares > 65535 {
-        return fault_at(8, 0);
+        return tables::refuse(8, 0);
     }
     if tape.len() != bits * count {
-        return fault_at(10, 0);
+        return tables::refuse(10, 0);
     }
-    let bad = tables::first_bad(secrets);
-    if bad < count {
-        return fault_at(11, bad);
-    }
-    let bad = tables::first_bad(tape);
-    if bad < tape.len() {
-        return fault_at(11, count + bad);
-    }
-    if room < shares {
-        return fault_at(9, 0);
-    }
-    fault_at(0, 0)
+    let bad = tables::first_of(
+        tables::bits_fault(secrets, 0),
+        tables::bits_fault(tape, count),
+    );
+    tables::first_of(bad, tables::refuse_if(room < shares, 9))
 }
 
 // Writes the shares of one secret: 2t tape bits, and their XOR with the secret.
@@ -105,17 +87,13 @@ pub fn encode_secrets(order: u8, secrets: &[u8], tape: &[u8], out: &mut [u8]) ->
     ensures { λ r. ⌜ EncodeSays
         order (now (secrets .entry)) (now (tape .entry)) (now (out .entry)) (now (out .exit)) r ⌝ }
 {
-    let fault = encode_fault(order, secrets, tape, out.len());
-    if fault.number != 0 {
-        return tables::refused(fault);
+    let found = encode_fault(order, secrets, tape, out.len());
+    if found.number != 0 {
+        return tables::refused(found);
     }
     let t = order as usize;
     encode_all(t, secrets, tape, out);
-    tables::Answer {
-        number: 0,
-        place: 0,
-        value: ((2 * t + 1) * secrets.len()) as u32,
-    }
+    tables::done(found, ((2 * t + 1) * secrets.len()) as u32)
 }
 
 // The refusal of decoding for a buffer of the given length: 6, 8, 10, 11, 9 in that order.
@@ -128,20 +106,16 @@ fn decode_fault(order: u8, shares: &[u8], room: usize) -> tables::Refusal
     }
     let len = shares.len();
     if len > 65535 {
-        return fault_at(8, 0);
+        return tables::refuse(8, 0);
     }
     let n = 2 * order as usize + 1;
     if len % n != 0 {
-        return fault_at(10, 0);
+        return tables::refuse(10, 0);
     }
-    let bad = tables::first_bad(shares);
-    if bad < len {
-        return fault_at(11, bad);
-    }
-    if room < len / n {
-        return fault_at(9, 0);
-    }
-    fault_at(0, 0)
+    tables::first_of(
+        tables::bits_fault(shares, 0),
+        tables::refuse_if(room < len / n, 9),
+    )
 }
 
 // The XOR of n neighbouring shares.
@@ -176,16 +150,12 @@ fn decode_all(shares: &[u8], n: usize, count: usize, out: &mut [u8])
 pub fn decode_shares(order: u8, shares: &[u8], out: &mut [u8]) -> tables::Answer
     ensures { λ r. ⌜ DecodeSays order (now (shares .entry)) (now (out .entry)) (now (out .exit)) r ⌝ }
 {
-    let fault = decode_fault(order, shares, out.len());
-    if fault.number != 0 {
-        return tables::refused(fault);
+    let found = decode_fault(order, shares, out.len());
+    if found.number != 0 {
+        return tables::refused(found);
     }
     let n = 2 * order as usize + 1;
     let count = shares.len() / n;
     decode_all(shares, n, count, out);
-    tables::Answer {
-        number: 0,
-        place: 0,
-        value: count as u32,
-    }
+    tables::done(found, count as u32)
 }

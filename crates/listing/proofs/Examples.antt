@@ -5,7 +5,7 @@ use mathlib.Core.List.{List, [], _∷_, _++_}
 use Prim.Native.Nat.{ℕ}
 use Rattle.tables.specs.Tables.{gatesFrom, wordsFrom, tableOf, gatesFault, outputsFault, tableFault}
 use Rattle.text.specs.Text.{digits, lineOf}
-use Rattle.listing.specs.Listing.{gateLines, outputLines, listed}
+use Rattle.listing.specs.Listing.{gateLines, outputLines, joined, tableText}
 
 -- `w2 = AND w0 w1`
 abbrev andLine : List ℕ
@@ -28,22 +28,22 @@ abbrev outLine : List ℕ
 outLine = 111 ∷ 117 ∷ 116 ∷ 48 ∷ 32 ∷ 61 ∷ 32 ∷ 119 ∷ 50 ∷ 10 ∷ []
 
 -- document 01's AND
-pub the-and : listed (2 ∷ 0 ∷ 1 ∷ 0 ∷ 1 ∷ 0 ∷ 2 ∷ 0 ∷ 0 ∷ 1 ∷ 0 ∷ 2 ∷ 0 ∷ []) ≡ andLine ++ outLine
-unfolding listed tableFault tableOf gatesFrom wordsFrom gatesFault outputsFault gateLines outputLines lineOf digits
+pub the-and : tableText (2 ∷ 0 ∷ 1 ∷ 0 ∷ 1 ∷ 0 ∷ 2 ∷ 0 ∷ 0 ∷ 1 ∷ 0 ∷ 2 ∷ 0 ∷ []) ≡ andLine ++ outLine
+unfolding tableText tableFault tableOf gatesFrom wordsFrom gatesFault outputsFault gateLines outputLines joined lineOf digits
 the-and = refl
 
 -- AND, NOT, XOR and a random bit
 pub each-kind :
-    listed
+    tableText
     (2 ∷ 0 ∷ 4 ∷ 0 ∷ 1 ∷ 0 ∷ 2 ∷ 0 ∷ 1 ∷ 3
     ∷ 0 ∷ 0 ∷ 1 ∷ 0 ∷ 0 ∷ 0 ∷ 0 ∷ 0 ∷ 1 ∷ 0 ∷ 2 ∷ 0 ∷ 0 ∷ 0 ∷ 0 ∷ 0 ∷ 2 ∷ 0 ∷ [])
     ≡ andLine ++ (notLine ++ (xorLine ++ (randomLine ++ outLine)))
-unfolding listed tableFault tableOf gatesFrom wordsFrom gatesFault outputsFault gateLines outputLines lineOf digits
+unfolding tableText tableFault tableOf gatesFrom wordsFrom gatesFault outputsFault gateLines outputLines joined lineOf digits
 each-kind = refl
 
 -- five bytes: `refused 1 0`
 pub five-bytes :
-    listed (1 ∷ 0 ∷ 0 ∷ 0 ∷ 1 ∷ [])
+    tableText (1 ∷ 0 ∷ 0 ∷ 0 ∷ 1 ∷ [])
     ≡ 114 ∷ 101 ∷ 102 ∷ 117 ∷ 115 ∷ 101 ∷ 100 ∷ 32 ∷ 49 ∷ 32 ∷ 48 ∷ 10 ∷ []
-unfolding listed tableFault tableOf gatesFrom wordsFrom gatesFault outputsFault gateLines outputLines lineOf digits
+unfolding tableText tableFault tableOf gatesFrom wordsFrom gatesFault outputsFault gateLines outputLines joined lineOf digits
 five-bytes = refl

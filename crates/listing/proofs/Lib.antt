@@ -1,5 +1,4 @@
 -- Laws that the proofs of listing cite.
-pub mod Pieces
 pub mod Lines
+pub mod Loops
 pub mod Examples
-pub mod Cut

@@ -3,14 +3,14 @@
 -- 01, "Gate table"). A table that 1 to 5 refuse has the one line `refused`, number, place.
 -- Assumes nothing.
 use mathlib.Core.Path.{_≡_}
+use mathlib.Core.Bool.{true, cond}
 use mathlib.Core.List.{List, [], _∷_, _++_}
-use Prim.Native.Nat.{ℕ, suc}
-use lib.Dec.{ltb}
-use lib.ListN.{length}
-use Rattle.tables.specs.Refusals.{pick, passed}
-use Rattle.tables.specs.Tables.{Kind, NOT, XOR, AND, RANDOM, UNKNOWN, Gate, Table, tableOf, tableFault}
-use Rattle.tables.specs.Says.{over}
-use Rattle.text.specs.Text.{decimal, lineOf, refusalLine}
+use Prim.Native.Nat.{ℕ, suc, _<_}
+use lib.ListN.{getD}
+use Rattle.tables.specs.Refusals.{passed}
+use Rattle.tables.specs.Tables.{Kind, NOT, XOR, AND, RANDOM, UNKNOWN, Gate, Table, word, tableOf, tableFault}
+use Rattle.tables.specs.Tables.{Operands, none-read, left-read, both-read, operandsOf}
+use Rattle.text.specs.Text.{decimal, lineOf, refusalLine, PutsAll}
 
 -- `w` and the wire's number
 abbrev pub wireName : ℕ → List ℕ
@@ -20,7 +20,7 @@ wireName w = 119 ∷ decimal w
 abbrev pub outName : ℕ → List ℕ
 outName o = 111 ∷ 117 ∷ 116 ∷ decimal o
 
--- the words `=`, `NOT`, `XOR`, `AND` and `RANDOM`
+-- `=`
 abbrev pub equalsWord : List ℕ
 equalsWord = 61 ∷ []
 
@@ -40,13 +40,23 @@ andWord = 65 ∷ 78 ∷ 68 ∷ []
 abbrev pub randomWord : List ℕ
 randomWord = 82 ∷ 65 ∷ 78 ∷ 68 ∷ 79 ∷ 77 ∷ []
 
--- what stands after `=`: the kind and the operands that it has; a byte that is no kind has no word
+-- the word of a kind; a byte that is no kind has none
+abbrev pub kindWord : Kind → List (List ℕ)
+kindWord NOT = notWord ∷ []
+kindWord XOR = xorWord ∷ []
+kindWord AND = andWord ∷ []
+kindWord RANDOM = randomWord ∷ []
+kindWord (UNKNOWN k) = []
+
+-- the names of the operands that are read
+abbrev pub operandWords : Operands → ℕ → ℕ → List (List ℕ)
+operandWords none-read l r = []
+operandWords left-read l r = wireName l ∷ []
+operandWords both-read l r = wireName l ∷ wireName r ∷ []
+
+-- what stands after `=`: the kind and the operands that it reads
 abbrev pub kindWords : Kind → ℕ → ℕ → List (List ℕ)
-kindWords NOT l r = notWord ∷ wireName l ∷ []
-kindWords XOR l r = xorWord ∷ wireName l ∷ wireName r ∷ []
-kindWords AND l r = andWord ∷ wireName l ∷ wireName r ∷ []
-kindWords RANDOM l r = randomWord ∷ []
-kindWords (UNKNOWN k) l r = []
+kindWords k l r = kindWord k ++ operandWords (operandsOf k) l r
 
 -- the line of the gate that drives wire w
 abbrev pub gateLine : ℕ → Gate → List ℕ
@@ -57,29 +67,41 @@ abbrev pub outputLine : ℕ → ℕ → List ℕ
 outputLine o w = lineOf (outName o) (equalsWord ∷ wireName w ∷ [])
 
 -- the lines of gates that drive the wires from w on
-unfoldable pub gateLines : ℕ → List Gate → List ℕ
+unfoldable pub gateLines : ℕ → List Gate → List (List ℕ)
 gateLines w [] = []
-gateLines w (g ∷ gs) = gateLine w g ++ gateLines (suc w) gs
+gateLines w (g ∷ gs) = gateLine w g ∷ gateLines (suc w) gs
 
 -- the lines of outputs from position o on
-unfoldable pub outputLines : ℕ → List ℕ → List ℕ
+unfoldable pub outputLines : ℕ → List ℕ → List (List ℕ)
 outputLines o [] = []
-outputLines o (w ∷ ws) = outputLine o w ++ outputLines (suc o) ws
+outputLines o (w ∷ ws) = outputLine o w ∷ outputLines (suc o) ws
 
 -- the lines of a table: its gates, then its outputs
-abbrev pub tableLines : Table → List ℕ
+abbrev pub tableLines : Table → List (List ℕ)
 tableLines t = gateLines (t .inputs) (t .gates) ++ outputLines 0 (t .outputs)
 
+-- lines one after the other
+unfoldable pub joined : List (List ℕ) → List ℕ
+joined [] = []
+joined (l ∷ ls) = l ++ joined ls
+
 -- the text of the bytes of a table
-unfoldable pub listed : List ℕ → List ℕ
-listed s =
-    let f = tableFault s in pick (passed f) (tableLines (tableOf s)) (refusalLine (f .number) (f .place))
+unfoldable pub tableText : List ℕ → List ℕ
+tableText s =
+    let f = tableFault s in cond (passed f) (joined (tableLines (tableOf s))) (refusalLine (f .number) (f .place))
 
 -- the bytes that hold every table's text: 27 a gate and 18 an output, 65,536 of each
 abbrev pub listRoom : ℕ
 listRoom = 2949120
 
--- the text of a table stands at the front of the lent bytes, and r is its length; fewer than `listRoom` are left as they were
-pub record ListSays (s b b′ : List ℕ) (r : ℕ) : Type 0 where
-  pub bytes : b′ ≡ pick (ltb (length b) listRoom) b (over (listed s) b)
-  pub length-is : r ≡ pick (ltb (length b) listRoom) 0 (length (listed s))
+-- listing a table: its text stands at the front of the lent bytes; fewer than it has are left as they were
+abbrev pub ListSays : List ℕ → List ℕ → List ℕ → ℕ → Type 0
+ListSays s b b′ r = PutsAll (tableText s) b b′ r
+
+-- for contracts of private functions: a table that 1 to 5 accept, as the two bytes of a field state its outputs
+abbrev pub Listed : List ℕ → Type 0
+Listed s = (passed (tableFault s) ≡ true) × (word s 4 < 65536)
+
+-- for contracts of private functions: a table's line number j
+abbrev pub lineAt : List ℕ → ℕ → List ℕ
+lineAt s j = getD (tableLines (tableOf s)) j []

@@ -1,115 +1,143 @@
 -- From the refusals of mapping to its answer: the refusal, or the free share, the mapped tape and both runs.
 -- Assumes nothing.
-use mathlib.Core.Path.{_≡_, sym, ap, _∙_, subst}
+use mathlib.Core.Path.{_≡_, sym, ap, _∙_}
+use mathlib.Core.Bool.{true}
 use mathlib.Core.List.{List}
-use Prim.Native.Nat.{ℕ, _≤_, _<_}
+use Prim.Native.Nat.{ℕ, _*_, _≤_, _<_}
 use native.Mathlib.Omega.{arith}
+use lib.Dec.{leb}
+use borrow.Author.Tests.{leb-true}
 use lib.ListN.{length, replicate, take, drop, length-replicate}
 use lib.Seq.{take-at}
-use Rattle.tables.specs.Refusals.{none}
-use Rattle.tables.specs.Tables.{tableOf, tableBytes}
-use Rattle.tables.specs.Says.{over}
-use Rattle.masks.specs.Gadgets.{isw}
-use Rattle.masks.specs.Wires.{maskedTable}
-use Rattle.assembling.proofs.Fitting.{bytes-are}
-use Rattle.sizing.specs.declared.Plan as DP
-use Rattle.sizing.specs.Plans.{PlanReady, planBytes}
-use Rattle.sizing.proofs.Planning.{plan-fits}
-use Rattle.marking.specs.Origins.{orderOf}
-use Rattle.marking.proofs.Ready.{ready-order, ready-own, ready-shares}
+use Rattle.tables.specs.declared.Answer as DA
 use Rattle.tables.specs.declared.Refusal as DR
-use Rattle.maps.specs.Maps.{freeShare}
-use Rattle.maps.specs.Says.{mapFault, MapSays}
-use Rattle.maps.specs.Claims.{Free}
-use Rattle.maps.proofs.Free.{marks-two, free-laws}
-use Rattle.probing.specs.Seeing.{Probes}
-use Rattle.probing.specs.Faults.{MapRefused, MapReady}
+use Rattle.tables.specs.Tables.{wires, tableOf, tableBytes}
+use Rattle.tables.specs.Says.{over}
+use Rattle.tables.proofs.Tests.{and-true}
+use Rattle.tables.proofs.Answers.{refused-fails, answered-refused, answered-none}
+use Rattle.masks.specs.Shares.{sharesOf}
+use Rattle.masks.specs.Gadgets.{isw}
+use Rattle.masks.specs.Wires.{marks, origins, maskedTable, tapeLong}
+use Rattle.masks.proofs.Lawful.{isw-lawful}
+use Rattle.sizing.specs.declared.Plan as DP
+use Rattle.sizing.specs.declared.Planned as DN
+use Rattle.sizing.specs.declared.Planned.the-variants as Planned
+use Rattle.sizing.specs.Plans.{PlanReady, PlanSays, planBytes}
+use Rattle.sizing.proofs.Planning.{Planned-Ready, planned-as, planned-refused, planned-ready, plan-passed, plan-fits, plan-bytes}
+use Rattle.maps.specs.Maps.{carried, freeShare}
+use Rattle.maps.specs.Claims.{allBelow}
+use Rattle.maps.specs.Laws.{Free}
+use Rattle.maps.specs.Says.{mapFault, MapDone}
+use Rattle.maps.proofs.Faults.{MapGood, map-good}
+use Rattle.maps.proofs.Begun.{secrets-are, tape-is}
+use Rattle.maps.proofs.Free.{marks-two, few-carried, free-laws}
 use Rattle.mapping.specs.Working.{WorkReady, WorkSays}
-use Rattle.probing.proofs.Faults.{MapGood, map-good, clean-map}
-
-module _ (s : List ℕ) (o : ℕ) (xs ys ts ps a b c : List ℕ) where
-  pub map-refused :
-      {r : DR.Refusal} → MapRefused s o xs ys ts ps (length a) (length b) (length c) r
-      → MapSays s o xs ys ts ps a a b b c c (record { number = r .number; place = r .place; value = 0 })
-  map-refused R =
-      record {
-        answer = record { number = R .refusal .number; place = R .refusal .place; value = rw (R .refuses) };
-        mapped-tape = rw (R .refuses);
-        first-run = rw (R .refuses);
-        second-run = rw (R .refuses);
-      }
 
 -- the masked table stands at the front of the buffer that it is written into
 pub table-front :
-    (b : List ℕ) {s : List ℕ} {p : DP.Plan} {l : ℕ} {b′ : List ℕ} → PlanReady s (orderOf p) p → l ≡ planBytes p
-    → b′ ≡ over (tableBytes (maskedTable isw (orderOf p) (tableOf s))) b
-    → take l b′ ≡ tableBytes (maskedTable isw (orderOf p) (tableOf s))
+    (b : List ℕ) {s : List ℕ} {p : DP.Plan} {l : ℕ} {b′ : List ℕ} → PlanReady s p → l ≡ planBytes p
+    → b′ ≡ over (tableBytes (maskedTable isw (p .order) (tableOf s))) b
+    → take l b′ ≡ tableBytes (maskedTable isw (p .order) (tableOf s))
 table-front b {s} {p} {l} R e w =
-    let M = tableBytes (maskedTable isw (orderOf p) (tableOf s)) in
-    rw w (take-at M (drop (length M) b) l (bytes-are R ∙ sym e))
+    let M = tableBytes (maskedTable isw (p .order) (tableOf s)) in
+    rw w (take-at M (drop (length M) b) l (plan-bytes R ∙ sym e))
 
 -- a cleared buffer of l bytes has room for as many
 pub room-at : (b l : ℕ) → b ≤ l → b ≤ length {A = ℕ} (replicate l 0)
 room-at b l h = omega (arith, length-replicate {A = ℕ} l 0)
 
 -- every masked table has at most as many bytes as the largest buffer
-pub bytes-few : {s : List ℕ} {o : ℕ} {p : DP.Plan} → PlanReady s o p → planBytes p ≤ 458751
-bytes-few R = let f = plan-fits R in omega (arith, f .wires, f .outputs)
+pub bytes-few : {s : List ℕ} {p : DP.Plan} → PlanReady s p → planBytes p ≤ 458746
+bytes-few {s} {p} R =
+    let f = plan-fits R in
+    let shares : p .shares * p .inputs ≡ sharesOf (p .order) * tableOf s .inputs = rw (R .shares, R .inputs) in
+    omega (arith, f .wires, f .outputs, plan-passed R .plain .some-input)
 
-module _ (a b c : List ℕ) {s : List ℕ} {o : ℕ} {xs ys ts ps : List ℕ} {p : DP.Plan}
-    (R : MapReady s o xs ys ts ps (length a) (length b) (length c) p) where
-  good : MapGood o p xs ys ts ps (length a) (length b) (length c)
-  good = map-good s o xs ys ts ps (length a) (length b) (length c) (R .plan) (R .passes)
+-- a call that is refused; a, b and c are the lengths lent
+pub map-refused :
+    (s : List ℕ) (o : ℕ) (xs ys ts ps : List ℕ) (a b c : ℕ) {x y z : List ℕ} {r : DN.Planned} {f : DR.Refusal} {q : DA.Answer}
+    → PlanSays (mapFault isw s o xs ys ts ps a b c) s o r → r ≡ Planned.Refused f
+    → q ≡ record { number = f .number; place = f .place; value = 0 }
+    → MapDone (mapFault isw s o xs ys ts ps a b c) isw (marks isw) (tableOf s) o xs ys ts ps x x y y z z q
+map-refused s o xs ys ts ps a b c P is e =
+    let R = planned-refused (planned-as P is) in
+    let fails = refused-fails (R .0) (R .1) in
+    rw e
+    (record {
+      answer = answered-refused (R .0) (R .1);
+      mapped-tape = rw fails;
+      first-run = rw fails;
+      second-run = rw fails;
+    })
 
-  own : PlanReady s (orderOf p) p
-  own = ready-own s o p (R .plan)
+-- a call that is not refused
+module _ (s : List ℕ) (o : ℕ) (xs ys ts ps : List ℕ) (a b c : ℕ) {r : DN.Planned} {p : DP.Plan}
+    (P : PlanSays (mapFault isw s o xs ys ts ps a b c) s o r) (is : r ≡ Planned.Ready p) where
+  plan : Planned-Ready (mapFault isw s o xs ys ts ps a b c) s o p
+  plan = planned-ready (planned-as P is)
 
-  pub free-ready : PlanReady s (orderOf p) p × Probes ps (p .wires)
-  free-ready = (own, good .probes)
+  good : MapGood isw s o xs ys ts ps a b c
+  good = map-good isw s o xs ys ts ps a b c (rw (plan .none))
 
-  same-order : orderOf p ≡ o
-  same-order = ready-order s o p (R .plan)
+  -- the plan's sizes at the order of the call
+  wires-are : p .wires ≡ wires (maskedTable isw o (tableOf s))
+  wires-are = plan .ready .wires ∙ ap (λ (y : ℕ). wires (maskedTable isw y (tableOf s))) (plan .order)
 
-  free : Free isw (tableOf s) o ps
-  free = free-laws isw marks-two o (tableOf s) ps (good .few)
+  tape-are : p .tape ≡ tapeLong isw o (tableOf s)
+  tape-are = plan .ready .tape ∙ ap (λ (y : ℕ). tapeLong isw y (tableOf s)) (plan .order)
 
-  module _ (k : ℕ) (e : k ≡ freeShare isw (orderOf p) (tableOf s) ps) where
-    free-is : k ≡ freeShare isw o (tableOf s) ps
-    free-is = e ∙ ap (λ (y : ℕ). freeShare isw y (tableOf s) ps) same-order
+  probes : (leb (length ps) o ≡ true) × (allBelow (wires (maskedTable isw o (tableOf s))) ps ≡ true)
+  probes = and-true (leb (length ps) o) _ (good .probes)
+
+  pub free-ready : PlanReady s p × (allBelow (p .wires) ps ≡ true)
+  free-ready = (plan .ready, rw wires-are (probes .1))
+
+  free :
+      Free (sharesOf o) (carried (marks isw) (origins isw o (tableOf s)) ps) (freeShare isw (marks isw) o (tableOf s) ps)
+  unfolding freeShare
+  free =
+      free-laws (sharesOf o) _
+      (few-carried (marks isw) (marks-two isw-lawful) (origins isw o (tableOf s)) o ps (leb-true (length ps) o (probes .0)))
+
+  module _ {k : ℕ} (e : k ≡ freeShare isw (marks isw) (p .order) (tableOf s) ps) where
+    free-is : k ≡ freeShare isw (marks isw) o (tableOf s) ps
+    free-is = e ∙ ap (λ (y : ℕ). freeShare isw (marks isw) y (tableOf s) ps) (plan .order)
+
+    free-few : k ≤ p .shares
+    free-few = omega (arith, free-is, free .to-n, plan .ready .shares, plan .order)
 
     pub free-small : k < 4294967296
-    free-small = omega (arith, free-is, free .to-n, R .plan .shares, ready-shares s o p (R .plan))
+    free-small = omega (arith, free-few, plan-fits (plan .ready) .shares)
 
-    pub work-ready : WorkReady s p k xs ys ts a b c
-    work-ready =
+    pub work-ready : {x y z : List ℕ} → a ≡ length x → b ≡ length y → c ≡ length z → WorkReady s p k xs ys ts x y z
+    work-ready ex ey ez =
+        let first = secrets-are (tableOf s) xs (good .first) in
+        let second = secrets-are (tableOf s) ys (good .second) in
+        let tape = tape-is isw o (tableOf s) ts (good .tape) in
         record {
-          plan = own;
+          plan = plan .ready;
           from-1 = omega (arith, free-is, free .from-1);
-          to-n = omega (arith, free-is, free .to-n, R .plan .shares);
-          first = good .first;
-          second = good .second;
-          tape = good .tape;
-          first-bits = good .first-bits;
-          second-bits = good .second-bits;
-          tape-bits = good .tape-bits;
-          mapped = good .mapped;
-          one = good .one;
-          other = good .other;
+          to-n = free-few;
+          first = first .0 ∙ sym (plan .ready .inputs);
+          second = second .0 ∙ sym (plan .ready .inputs);
+          tape = tape .0 ∙ sym tape-are;
+          first-bits = first .1;
+          second-bits = second .1;
+          tape-bits = tape .1;
+          mapped = omega (arith, good .mapped, tape-are);
+          one = omega (arith, good .one, wires-are);
+          other = omega (arith, good .other, wires-are);
         }
 
     pub map-done :
-        {a′ b′ c′ : List ℕ} → WorkSays s (orderOf p) k xs ys ts a a′ b b′ c c′
-        → MapSays s o xs ys ts ps a a′ b b′ c c′ (record { number = 0; place = 0; value = k })
-    map-done {a′} {b′} {c′} W =
-        let passes = R .passes in
-        let none : mapFault s o xs ys ts ps (length a) (length b) (length c) ≡ none =
-        clean-map s o xs ys ts ps (length a) (length b) (length c) passes in
-        let U : WorkSays s o (freeShare isw o (tableOf s) ps) xs ys ts a a′ b b′ c c′ =
-        subst (λ (y : ℕ). WorkSays s o y xs ys ts a a′ b b′ c c′) free-is
-        (subst (λ (y : ℕ). WorkSays s y k xs ys ts a a′ b b′ c c′) same-order W) in
+        {x x′ y y′ z z′ : List ℕ} → WorkSays s (p .order) k xs ys ts x x′ y y′ z z′
+        → MapDone (mapFault isw s o xs ys ts ps a b c) isw (marks isw) (tableOf s) o xs ys ts ps x x′ y y′ z z′
+        (record { number = 0; place = 0; value = k })
+    map-done W =
+        let U = rw (plan .order, free-is) at W in
         record {
-          answer = record { number = rw none; place = rw none; value = rw none free-is };
-          mapped-tape = rw none (U .mapped);
-          first-run = rw none (U .one);
-          second-run = rw none (U .other);
+          answer = rw free-is (answered-none (plan .none));
+          mapped-tape = rw (plan .none) (U .mapped);
+          first-run = rw (plan .none) (U .one);
+          second-run = rw (plan .none) (U .other);
         }

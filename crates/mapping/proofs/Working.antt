@@ -2,49 +2,45 @@
 -- runs. The walk's bits are the mapped tape's by the law of the walk.
 -- Assumes nothing.
 use mathlib.Core.Path.{_≡_, refl, sym, ap, ap₂, subst, _∙_}
-use mathlib.Core.Bool.{true}
 use mathlib.Core.List.{List, _++_, map}
-use Prim.Native.Nat.{ℕ, suc, _+_, _-_, _*_, _≤_, _<_}
+use Prim.Native.Nat.{ℕ, suc, _+_, _-_, _*_, _≤_}
 use native.Mathlib.Nat.{mul-le-mul}
 use native.Mathlib.Omega.{arith}
-use lib.ListN.{length, take, drop, length-append, length-drop, List·getD-append}
+use lib.ListN.{length, take, drop, length-append, length-drop}
 use lib.Seq.{length-take-le, take-at, drop-at}
 use borrow.Rule.Slice.PartAt.{part-to-end}
 use borrow.Rule.Slice.PartMut.{midOf, putMid, mid-len}
-use Rattle.tables.specs.Refusals.{passed}
-use Rattle.tables.specs.Tables.{Gate, Table, wires, tableOf, tableBytes, tableFault}
-use Rattle.tables.specs.Runs.{run, runFrom, randoms}
-use Rattle.tables.specs.Says.{over, putAt}
-use Rattle.tables.proofs.Lists.{Bits, bits-take, bits-drop}
+use Rattle.tables.specs.Tables.{Gate, Table, wires, tableOf, tableBytes}
+use Rattle.tables.specs.Runs.{Bits, run, runFrom, randoms}
+use Rattle.tables.specs.Says.{over}
+use Rattle.tables.proofs.Lists.{bits-take, bits-drop}
 use Rattle.tables.proofs.Run.{run-length}
-use Rattle.tables.proofs.Accept.{Plain, PlainGates}
+use Rattle.tables.proofs.Accept.{Plain}
 use Rattle.tables.proofs.Format.{inputs-written, gates-written}
-use Rattle.tables.proofs.Put.{put-zero, put-append, part-put}
+use Rattle.tables.proofs.Put.{put-zero, put-then, part-put, over-length, over-over}
 use Rattle.running.specs.Running.{RunReady}
-use Rattle.running.proofs.RunTable.{over-length, over-over}
 use Rattle.masks.specs.Shares.{sharesOf, tri}
 use Rattle.masks.specs.Gadgets.{isw}
-use Rattle.masks.specs.Wires.{driverOf, inputShares, masked, draws, totalOf, maskedTable, tapeLong}
+use Rattle.masks.specs.Wires.{driverOf, inputShares, masked, maskedTable, tapeLong}
 use Rattle.masks.specs.Codes.{encode, maskedRun}
-use Rattle.masks.proofs.Sum.{up-length}
+use Rattle.masks.proofs.Orders.{order-range}
 use Rattle.masks.proofs.Lawful.{isw-lawful}
 use Rattle.masks.proofs.Costs.{masked-tape}
 use Rattle.masks.proofs.Placed.{placed-inputs}
-use Rattle.masks.proofs.Passed.{plain-passed}
-use Rattle.masks.proofs.Codes.{encode-length, encode-bits}
+use Rattle.masks.proofs.Codes.{encode-bits}
 use Rattle.sizing.specs.declared.Plan as DP
 use Rattle.sizing.specs.Plans.{PlanReady}
-use Rattle.sizing.proofs.Planning.{order-range, plan-inputs, plan-fits}
-use Rattle.marking.specs.Origins.{orderOf}
+use Rattle.sizing.proofs.Planning.{plan-passed, plan-inputs, plan-fits}
 use Rattle.maps.specs.Maps.{flipped, inputFlips, mapGates, mappedAt}
 use Rattle.maps.specs.Walk.{offset, inRow, walked, Crossing}
 use Rattle.maps.specs.Claims.{WrittenBack}
 use Rattle.maps.proofs.Inputs.{flipped-length, flipped-bits}
+use Rattle.maps.proofs.Begun.{shares-long, plain-inputs}
 use Rattle.maps.proofs.TwoRuns.{mapped-length}
 use Rattle.maps.proofs.Walked.{crossing-masked, walked-mapped}
 use Rattle.maps.proofs.Written.{written}
 use Rattle.walking.specs.Walking.{WalkReady, walkedBits, WalkSays}
-use Rattle.mapping.specs.Working.{BeginReady, BegunSays, WorkReady, WorkSays}
+use Rattle.mapping.specs.Working.{BeginReady, BegunSays, PlanWalk, WorkReady, WorkSays}
 
 -- products of small numbers
 pub small-products : (n d : ℕ) → d ≤ n → n ≤ 31 → (n * d ≤ 961) × (d * d ≤ 961)
@@ -99,7 +95,7 @@ walk-as ef et ep w = rw (← ef, ← et, ← ep) w
 
 module _ {s : List ℕ} {p : DP.Plan} {k : ℕ} {xs ys ts m a b : List ℕ} (W : WorkReady s p k xs ys ts m a b) where
   abbrev o : ℕ
-  o = orderOf p
+  o = p .order
 
   abbrev t : Table
   t = tableOf s
@@ -110,18 +106,21 @@ module _ {s : List ℕ} {p : DP.Plan} {k : ℕ} {xs ys ts m a b : List ℕ} (W :
   abbrev M : Table
   M = maskedTable isw o t
 
-  abbrev R : PlanReady s o p
+  abbrev R : PlanReady s p
   R = W .plan
 
-  -- the tape bits of the inputs, and those of the random gates
-  abbrev place : ℕ
-  place = 2 * o * p .inputs
+  -- the wires of the inputs' shares; the tape bits of the inputs, and those of the random gates
+  abbrev w : ℕ
+  w = p .shares * p .inputs
+
+  abbrev split : ℕ
+  split = 2 * o * p .inputs
 
   abbrev front : List ℕ
-  front = take place ts
+  front = take split ts
 
   abbrev rs : List ℕ
-  rs = drop place ts
+  rs = drop split ts
 
   -- the front of the mapped tape, and both encodings
   abbrev F : List ℕ
@@ -134,20 +133,23 @@ module _ {s : List ℕ} {p : DP.Plan} {k : ℕ} {xs ys ts m a b : List ℕ} (W :
   E′ = encode o ys F
 
   order-fits : (1 ≤ o) × (o ≤ 15)
-  order-fits = order-range o (plain-passed s o (R .passes) .order)
+  order-fits = order-range o (plan-passed R .order)
 
   plain : Plain t
-  plain = plain-passed s o (R .passes) .plain
+  plain = plan-passed R .plain
 
   back : WrittenBack s o
-  back = written s o (R .passes)
+  back = written s o (rw (R .none))
 
-  place-is : place ≡ 2 * o * t .inputs
-  place-is = ap (λ (i : ℕ). 2 * o * i) (R .inputs)
+  split-is : split ≡ 2 * o * t .inputs
+  split-is = ap (λ (i : ℕ). 2 * o * i) (R .inputs)
 
-  tape-parts : p .tape ≡ place + randoms (M .gates)
+  inputs-are : w ≡ n * t .inputs
+  inputs-are = ap₂ (λ (x y : ℕ). x * y) (R .shares) (R .inputs)
+
+  tape-parts : p .tape ≡ split + randoms (M .gates)
   unfolding tapeLong
-  tape-parts = R .tape ∙ ap (λ (y : ℕ). y + randoms (M .gates)) (sym place-is)
+  tape-parts = R .tape ∙ ap (λ (y : ℕ). y + randoms (M .gates)) (sym split-is)
 
   first-long : length xs ≡ t .inputs
   first-long = W .first ∙ R .inputs
@@ -155,27 +157,23 @@ module _ {s : List ℕ} {p : DP.Plan} {k : ℕ} {xs ys ts m a b : List ℕ} (W :
   second-long : length ys ≡ t .inputs
   second-long = W .second ∙ R .inputs
 
-  pub place-fits : place ≤ length ts
-  place-fits = omega (arith, tape-parts, W .tape)
+  pub split-fits : split ≤ length ts
+  split-fits = omega (arith, tape-parts, W .tape)
 
-  front-long : length front ≡ place
-  front-long = length-take-le place ts place-fits
+  front-long : length front ≡ split
+  front-long = length-take-le split ts split-fits
 
-  front-each : length front ≡ 2 * o * length xs
-  front-each = front-long ∙ ap (λ (i : ℕ). 2 * o * i) (sym (W .first))
-
-  F-long : length F ≡ place
+  F-long : length F ≡ split
   F-long = flipped-length front (inputFlips o k xs ys) ∙ front-long
 
   E-long : length E ≡ n * t .inputs
-  E-long = encode-length o xs front front-each ∙ ap (λ (i : ℕ). n * i) first-long
+  E-long = shares-long o (t .inputs) xs front first-long (front-long ∙ split-is)
 
   E′-long : length E′ ≡ n * t .inputs
-  E′-long =
-      encode-length o ys F (F-long ∙ ap (λ (i : ℕ). 2 * o * i) (sym (W .second))) ∙ ap (λ (i : ℕ). n * i) second-long
+  E′-long = shares-long o (t .inputs) ys F second-long (F-long ∙ split-is)
 
-  inputs-are : p .shares * p .inputs ≡ n * t .inputs
-  inputs-are = ap₂ (λ (x y : ℕ). x * y) (R .shares) (R .inputs)
+  front-bits : Bits front
+  front-bits = bits-take split ts (W .tape-bits)
 
   pub begin-ready : BeginReady o xs ys front m a b
   begin-ready =
@@ -185,95 +183,65 @@ module _ {s : List ℕ} {p : DP.Plan} {k : ℕ} {xs ys ts m a b : List ℕ} (W :
         flip = record {
           order = order-fits .1;
           second = second-long ∙ sym first-long;
-          tape = front-each;
+          tape = front-long ∙ ap (λ (i : ℕ). 2 * o * i) (sym (W .first));
           room = omega (arith, front-long, tape-parts, W .mapped);
           first-bits = W .first-bits;
           second-bits = W .second-bits;
-          tape-bits = bits-take place ts (W .tape-bits);
+          tape-bits = front-bits;
         };
         one = omega (arith, inputs-are, fits .inputs, W .one);
         other = omega (arith, inputs-are, fits .inputs, W .other);
       }
 
-  -- the masked table's bytes are accepted and read as the masked table
-  bytes-pass : passed (tableFault (tableBytes M)) ≡ true
-  bytes-pass = rw (back .unrefused)
-
   gates-are : tableOf (tableBytes M) .gates ≡ M .gates
   gates-are = ap (λ (x : Table). x .gates) (back .read-back)
 
   rest-long : length rs ≡ randoms (M .gates)
-  rest-long = omega (arith, length-drop place ts, tape-parts, W .tape)
+  rest-long = omega (arith, length-drop split ts, tape-parts, W .tape)
 
   masked-gates : M .gates ≡ map driverOf (masked isw n 0 (n * t .inputs) (inputShares n (t .inputs)) (t .gates))
   unfolding maskedTable
   masked-gates = refl
 
-  plain-gates : PlainGates (length (inputShares n (t .inputs))) (t .gates)
-  plain-gates =
-      subst (λ (y : ℕ). PlainGates y (t .gates)) (sym (up-length (t .inputs) 0 _)) (plain .gates)
-
-  crossing : Crossing (n * t .inputs) (M .gates)
+  crossing : Crossing w (tableOf (tableBytes M) .gates)
   crossing =
-      subst (λ (l : List Gate). Crossing (n * t .inputs) l) (sym masked-gates)
-      (crossing-masked n 0 (n * t .inputs) (inputShares n (t .inputs)) (t .gates) (omega arith) plain-gates
+      rw (inputs-are, gates-are, masked-gates)
+      (crossing-masked n 0 (n * t .inputs) (inputShares n (t .inputs)) (t .gates) (omega arith) (plain-inputs n t plain)
       (placed-inputs n (t .inputs)))
 
-  -- a run of the masked table may begin with an encoding
-  run-ready :
-      (e v v₀ : List ℕ) → v ≡ over e v₀ → length e ≡ n * t .inputs → Bits e → p .wires ≤ length v₀
-      → RunReady (tableBytes M) rs v (p .shares * p .inputs) (p .wires - p .shares * p .inputs)
-  run-ready e v v₀ ev long bits room =
-      let fits = plan-fits R in
-      let same : p .wires ≡ M .inputs + length (M .gates) = R .wires in
-      let long-v : length v ≡ length v₀ =
-      ap length ev ∙ over-length e v₀ (omega (arith, long, inputs-are, fits .inputs)) in
-      record {
-        accepted = bytes-pass;
-        inputs = plan-inputs R ∙ sym (inputs-written M);
-        gates = omega (arith, gates-written M, plan-inputs R);
-        random = omega (arith, rest-long, ap randoms gates-are);
-        random-bits = bits-drop place ts (W .tape-bits);
-        room = omega (arith, fits .inputs);
-        input-bits = λ i h.
-            rw (ev, List·getD-append e (drop (length e) v₀) 0 i (omega (arith, long, inputs-are))) (bits i);
-      }
+  -- a run that was begun with the shares e
+  module _ {v : List ℕ} (e v₀ : List ℕ) (long : length e ≡ n * t .inputs) (ev : v ≡ over e v₀) where
+    taken : take w v ≡ e
+    taken = rw ev (take-at e (drop (length e) v₀) w (long ∙ sym inputs-are))
 
-  F-bits : Bits F
-  F-bits = flipped-bits front (inputFlips o k xs ys) (bits-take place ts (W .tape-bits))
+    run-ready : Bits e → p .wires ≤ length v₀ → RunReady (tableBytes M) rs v w (p .wires - w)
+    run-ready bits room =
+        let fits = plan-fits R in
+        let same : p .wires ≡ M .inputs + length (M .gates) = R .wires in
+        let long-v : length v ≡ length v₀ =
+        ap length ev ∙ over-length e v₀ (omega (arith, long, inputs-are, fits .inputs)) in
+        record {
+          accepted = rw (back .unrefused);
+          inputs = plan-inputs R ∙ sym (inputs-written M);
+          gates = omega (arith, gates-written M, plan-inputs R);
+          random = omega (arith, rest-long, ap randoms gates-are);
+          random-bits = bits-drop split ts (W .tape-bits);
+          room = omega (arith, fits .inputs);
+          input-bits = rw taken bits;
+        }
+
+    -- what the walk leaves of it, over what was lent
+    run-left :
+        {v′ : List ℕ} (us : List ℕ) → v′ ≡ over (runFrom (tableOf (tableBytes M) .gates) us (take w v)) v
+        → v′ ≡ over (runFrom (M .gates) us e) v₀
+    run-left us h =
+        let ran = runFrom (M .gates) us e in
+        let short : length e ≤ length ran = omega (arith, run-length (M .gates) us e) in
+        h ∙ rw (gates-are, taken, ev) (over-over e ran v₀ short)
 
   -- the part of the tape that the random gates take
-  pub rest-part : midOf place (length ts - place) ts ≡ rs
-  rest-part = part-to-end ts place
-
-  -- the second run's random bits have room after those of the inputs
-  walk-room : {m₁ : List ℕ} → m₁ ≡ over F m → length rs ≤ length (midOf place (length m₁ - place) m₁)
-  walk-room {m₁} em =
-      let long : length m₁ ≡ length m =
-      ap length em ∙ over-length F m (omega (arith, F-long, tape-parts, W .mapped)) in
-      omega (
-        arith,
-        length-drop place ts,
-        mid-len place (length m₁) m₁ (omega arith),
-        W .tape,
-        W .mapped,
-      )
-
-  pub walk-ready :
-      {s′ rs′ m₁ a′ b′ : List ℕ} → s′ ≡ tableBytes M → rs′ ≡ rs → m₁ ≡ over F m → a′ ≡ over E a → b′ ≡ over E′ b
-      → WalkReady s′ rs′ (midOf place (length m₁ - place) m₁) a′ b′ (p .shares * p .inputs)
-      (p .wires - p .shares * p .inputs)
-  walk-ready {s′} {rs′} {m₁} {a′} {b′} es er em ea eb =
-      let front-bits : Bits front = bits-take place ts (W .tape-bits) in
-      rw (es, er) (record {
-        one = run-ready E a′ a ea E-long (encode-bits o xs front (W .first-bits) front-bits) (W .one);
-        other = run-ready E′ b′ b eb E′-long (encode-bits o ys F (W .second-bits) F-bits) (W .other);
-        exact = rest-long ∙ ap randoms (sym gates-are);
-        room = walk-room em;
-        crossing =
-            subst (λ (l : List Gate). Crossing (p .shares * p .inputs) l) (sym gates-are)
-            (subst (λ (y : ℕ). Crossing y (M .gates)) (sym inputs-are) crossing);
-      })
+  pub rest-part : midOf split (length ts - split) ts ≡ rs
+  rest-part = part-to-end ts split
 
   -- the mapped tape's bits of the random gates
   abbrev rest : List ℕ
@@ -281,58 +249,29 @@ module _ {s : List ℕ} {p : DP.Plan} {k : ℕ} {xs ys ts m a b : List ℕ} (W :
 
   mapped-parts : mappedAt isw o t k xs ys ts ≡ F ++ rest
   unfolding mappedAt
-  mapped-parts = ap {A = ℕ} {B = List ℕ} pieces (sym place-is)
-    where
-      pieces : ℕ → List ℕ
-      pieces q =
-          let first = flipped (take q ts) (inputFlips o k xs ys) in
-          first
-          ++ mapGates isw n k 0 (n * t .inputs) (inputShares n (t .inputs)) (t .gates) (drop q ts)
-          (encode o xs (take q ts))
-          (encode o ys first)
+  mapped-parts = rw split-is
 
-  encoded : (e v v₀ : List ℕ) → v ≡ over e v₀ → length e ≡ n * t .inputs → take (p .shares * p .inputs) v ≡ e
-  encoded e v v₀ ev long = rw ev (take-at e (drop (length e) v₀) (p .shares * p .inputs) (long ∙ sym inputs-are))
-
-  -- the walk's bits, from the share number on
-  abbrev walks : ℕ → List Gate → List ℕ → List ℕ → List ℕ
-  walks q gs vs us = walked (inRow (offset q (k - 1)) (offset q k)) (tri q) 0 gs rs vs us
-
-  walks-are : walks n (M .gates) E E′ ≡ rest
+  walks-are : walked (inRow (offset n (k - 1)) (offset n k)) (tri n) 0 (M .gates) rs E E′ ≡ rest
   walks-are =
       let d = k - 1 in
       let from = W .from-1 in
       let next : suc d ≡ k = omega arith in
-      let below : d < n = omega (arith, W .to-n, R .shares) in
-      let two : 2 ≤ n = omega (arith, order-fits .0) in
-      let draws-are : length rs ≡ totalOf (λ kd. draws kd n) (t .gates) =
-      omega (arith, length-drop place ts, W .tape, R .tape, masked-tape isw-lawful o t, place-is) in
       let law =
-      walked-mapped n d 0 (n * t .inputs) (inputShares n (t .inputs)) (t .gates) rs E E′ two below plain-gates
+      walked-mapped n d 0 (n * t .inputs) (inputShares n (t .inputs)) (t .gates) rs E E′
+      (omega (arith, order-fits .0))
+      (omega (arith, W .to-n, R .shares))
+      (plain-inputs n t plain)
       (placed-inputs n (t .inputs))
       E-long
       E′-long
-      draws-are in
+      (omega (arith, length-drop split ts, W .tape, R .tape, masked-tape isw-lawful o t, split-is)) in
       subst
       (λ (y : ℕ). walked (inRow (offset n d) (offset n y)) (tri n) 0 (M .gates) rs E E′
       ≡ mapGates isw n y 0 (n * t .inputs) (inputShares n (t .inputs)) (t .gates) rs E E′)
       next
       (ap (λ (l : List Gate). walked (inRow (offset n d) (offset n (suc d))) (tri n) 0 l rs E E′) masked-gates ∙ law)
 
-  bits-are :
-      {s′ a′ b′ : List ℕ} → s′ ≡ tableBytes M → a′ ≡ over E a → b′ ≡ over E′ b
-      → walkedBits s′ (p .shares * p .inputs) (offset (p .shares) (k - 1)) (offset (p .shares) k) (tri (p .shares)) rs a′ b′
-      ≡ rest
-  bits-are {s′} {a′} {b′} es ea eb =
-      let gates : tableOf s′ .gates ≡ M .gates = ap (λ (l : List ℕ). tableOf l .gates) es ∙ gates-are in
-      let vs = take (p .shares * p .inputs) a′ in
-      let us = take (p .shares * p .inputs) b′ in
-      ap (λ (q : ℕ). walks q (tableOf s′ .gates) vs us) (R .shares)
-      ∙ ap (λ (l : List Gate). walks n l vs us) gates
-      ∙ ap₂ (λ (x y : List ℕ). walks n (M .gates) x y) (encoded E a′ a ea E-long) (encoded E′ b′ b eb E′-long)
-      ∙ walks-are
-
-  rest-fits : place + length rest ≡ p .tape
+  rest-fits : split + length rest ≡ p .tape
   rest-fits =
       let whole = mapped-length isw-lawful t o k plain xs ys ts first-long second-long (W .tape ∙ R .tape) in
       omega (arith, ap length mapped-parts, length-append F rest, F-long, whole, R .tape)
@@ -340,88 +279,61 @@ module _ {s : List ℕ} {p : DP.Plan} {k : ℕ} {xs ys ts m a b : List ℕ} (W :
   -- a run of the masked table on a tape
   run-parts :
       (zs us : List ℕ)
-      → maskedRun isw o t zs us ≡ runFrom (M .gates) (drop place us) (encode o zs (take place us))
+      → maskedRun isw o t zs us ≡ runFrom (M .gates) (drop split us) (encode o zs (take split us))
   unfolding maskedRun run
-  run-parts zs us = ap (λ (q : ℕ). runFrom (M .gates) (drop q us) (encode o zs (take q us))) (sym place-is)
+  run-parts zs us = rw split-is
 
-  -- what the walk leaves of a run, over what was begun
-  run-left :
-      {s′ v v′ : List ℕ} (e us v₀ : List ℕ) → s′ ≡ tableBytes M → v ≡ over e v₀ → length e ≡ n * t .inputs
-      → v′ ≡ over (runFrom (tableOf s′ .gates) us (take (p .shares * p .inputs) v)) v
-      → v′ ≡ over (runFrom (M .gates) us e) v₀
-  run-left {s′} {v} {v′} e us v₀ es ev long w =
-      let gates : tableOf s′ .gates ≡ M .gates = ap (λ (l : List ℕ). tableOf l .gates) es ∙ gates-are in
-      let ran = runFrom (M .gates) us e in
-      let short : length e ≤ length ran = omega (arith, run-length (M .gates) us e) in
-      w
-      ∙ ap (λ (l : List Gate). over (runFrom l us (take (p .shares * p .inputs) v)) v) gates
-      ∙ ap (λ (l : List ℕ). over (runFrom (M .gates) us l) v) (encoded e v v₀ ev long)
-      ∙ ap {A = List ℕ} {B = List ℕ} (over ran) ev
-      ∙ over-over e ran v₀ short
+  -- both runs begun, and the front of the mapped tape put
+  module _ {s′ rs′ m₁ a₁ b₁ : List ℕ} (es : s′ ≡ tableBytes M) (er : rs′ ≡ rs) (B : BegunSays o k xs ys front m m₁ a a₁ b b₁) where
+    begun-long : length m₁ ≡ length m
+    begun-long = ap length (B .mapped) ∙ over-length F m (omega (arith, F-long, tape-parts, W .mapped))
 
-  module _ {s′ rs′ m₁ m₂ part a₁ a₂ b₁ b₂ : List ℕ} (es : s′ ≡ tableBytes M) (er : rs′ ≡ rs) (em : m₁ ≡ over F m)
-      (ea : a₁ ≡ over E a)
-      (eb : b₁ ≡ over E′ b)
-      (walks-on : WalkSays s′ rs′ (p .shares * p .inputs) (offset (p .shares) (k - 1)) (offset (p .shares) k) (tri (p .shares))
-      (midOf place (length m₁ - place) m₁)
-      part
-      a₁
-      a₂
-      b₁
-      b₂)
-      (put : m₂ ≡ putMid place (length m₁ - place) m₁ part) where
-    walk :
-        WalkSays s′ rs (p .shares * p .inputs) (offset (p .shares) (k - 1)) (offset (p .shares) k) (tri (p .shares))
-        (midOf place (length m₁ - place) m₁)
-        part
-        a₁
-        a₂
-        b₁
-        b₂
-    walk =
-        subst
-        (λ (l : List ℕ). WalkSays s′ l (p .shares * p .inputs) (offset (p .shares) (k - 1)) (offset (p .shares) k)
-        (tri (p .shares))
-        (midOf place (length m₁ - place) m₁)
-        part
-        a₁
-        a₂
-        b₁
-        b₂)
-        er
-        walks-on
-
-    mapped-left : m₂ ≡ over (F ++ rest) m
-    mapped-left =
-        let long : length m₁ ≡ length m =
-        ap length em ∙ over-length F m (omega (arith, F-long, tape-parts, W .mapped)) in
-        let written : part ≡ over rest (midOf place (length m₁ - place) m₁) =
-        walk .mapped ∙ ap (λ (l : List ℕ). over l (midOf place (length m₁ - place) m₁)) (bits-are es ea eb) in
-        let fits = rest-fits in
-        let room = W .mapped in
-        let here : m₂ ≡ putAt place rest m₁ =
-        put ∙ part-put place (length m₁) rest m₁ (omega arith) (omega arith) (omega arith) written in
-        let begun : m₁ ≡ putAt 0 F m = em ∙ sym (put-zero F m) in
-        let at : place ≡ 0 + length F = omega (arith, F-long) in
-        here
-        ∙ ap₂ (λ (q : ℕ) (l : List ℕ). putAt q rest l) at begun
-        ∙ put-append 0 F rest m (omega (arith, F-long))
-        ∙ put-zero (F ++ rest) m
-
-    pub work-done : WorkSays s o k xs ys ts m m₂ a a₂ b b₂
-    work-done =
-        let mapped = mappedAt isw o t k xs ys ts in
-        let other-bits : drop place mapped ≡ rest = rw mapped-parts (drop-at F rest place F-long) in
-        let other-front : take place mapped ≡ F = rw mapped-parts (take-at F rest place F-long) in
-        let second : maskedRun isw o t ys mapped ≡ runFrom (M .gates) rest E′ =
-        run-parts ys mapped ∙ ap₂ (λ (x y : List ℕ). runFrom (M .gates) x (encode o ys y)) other-bits other-front in
-        record {
-          mapped = rw mapped-parts mapped-left;
-          one = rw (run-parts xs ts) (run-left E rs a es ea E-long (walk .one));
+    pub walk-ready : WalkReady s′ rs′ (midOf split (length m₁ - split) m₁) a₁ b₁ w (p .wires - w)
+    walk-ready =
+        let long = begun-long in
+        let fits = W .mapped in
+        let tape = tape-parts in
+        rw (es, er) (record {
+          one = run-ready E a E-long (B .one) (encode-bits o xs front (W .first-bits) front-bits) (W .one);
           other =
-              rw second
-              (run-left E′ rest b es eb E′-long
-              (walk .other
-              ∙ ap (λ (l : List ℕ). over (runFrom (tableOf s′ .gates) l (take (p .shares * p .inputs) b₁)) b₁)
-              (bits-are es ea eb)));
-        }
+              run-ready E′ b E′-long (B .other)
+              (encode-bits o ys F (W .second-bits) (flipped-bits front (inputFlips o k xs ys) front-bits))
+              (W .other);
+          exact = rest-long ∙ ap randoms (sym gates-are);
+          room = omega (arith, rest-long, mid-len split (length m₁) m₁ (omega arith));
+          crossing = crossing;
+        })
+
+    module _ {m₂ part a₂ b₂ : List ℕ}
+        (walks : PlanWalk p k s′ rs′ (midOf split (length m₁ - split) m₁) part a₁ a₂ b₁ b₂)
+        (put : m₂ ≡ putMid split (length m₁ - split) m₁ part) where
+      walk : PlanWalk p k (tableBytes M) rs (midOf split (length m₁ - split) m₁) part a₁ a₂ b₁ b₂
+      walk = rw (es, er) at walks
+
+      bits-are : walkedBits (tableBytes M) w (offset (p .shares) (k - 1)) (offset (p .shares) k) (tri (p .shares)) rs a₁ b₁ ≡ rest
+      bits-are = rw (gates-are, taken E a E-long (B .one), taken E′ b E′-long (B .other), R .shares) walks-are
+
+      mapped-left : m₂ ≡ over (F ++ rest) m
+      mapped-left =
+          let long = begun-long in
+          let fits = rest-fits in
+          let room = W .mapped in
+          let mid = midOf split (length m₁ - split) m₁ in
+          let written : part ≡ over rest mid = walk .mapped ∙ ap (λ (l : List ℕ). over l mid) bits-are in
+          put-then 0 F rest m
+          (omega (arith, F-long))
+          (B .mapped ∙ sym (put-zero F m))
+          (omega (arith, F-long))
+          (put ∙ part-put split (length m₁) rest m₁ (omega arith) (omega arith) (omega arith) written)
+          ∙ put-zero (F ++ rest) m
+
+      pub work-done : WorkSays s o k xs ys ts m m₂ a a₂ b b₂
+      work-done =
+          let mapped = mappedAt isw o t k xs ys ts in
+          let second : maskedRun isw o t ys mapped ≡ runFrom (M .gates) rest E′ =
+          run-parts ys mapped ∙ rw (mapped-parts, drop-at F rest split F-long, take-at F rest split F-long) in
+          record {
+            mapped = rw mapped-parts mapped-left;
+            one = rw (run-parts xs ts) (run-left E a E-long (B .one) rs (walk .one));
+            other = rw second (run-left E′ b E′-long (B .other) rest (rw bits-are at (walk .other)));
+          }

@@ -1,21 +1,23 @@
+-- For contracts inside the library only: no promise of a call cites this.
 -- What the work of mapping takes and leaves, once nothing is refused (document 01, "Marks and the mapped tape"): both runs are
 -- begun with the encodings, the front of the mapped tape is put, and the walk does the rest.
 -- Assumes nothing.
 use mathlib.Core.Path.{_≡_}
 use mathlib.Core.List.{List}
-use Prim.Native.Nat.{ℕ, _*_, _≤_}
+use Prim.Native.Nat.{ℕ, _-_, _*_, _≤_}
 use lib.ListN.{length}
 use Rattle.tables.specs.Tables.{tableOf}
 use Rattle.tables.specs.Says.{over}
-use Rattle.tables.proofs.Lists.{Bits}
-use Rattle.masks.specs.Shares.{sharesOf}
+use Rattle.tables.specs.Runs.{Bits}
+use Rattle.masks.specs.Shares.{sharesOf, tri}
 use Rattle.masks.specs.Gadgets.{isw}
 use Rattle.masks.specs.Codes.{encode, maskedRun}
 use Rattle.sizing.specs.declared.Plan as DP
 use Rattle.sizing.specs.Plans.{PlanReady}
-use Rattle.marking.specs.Origins.{orderOf}
 use Rattle.maps.specs.Maps.{flipped, inputFlips, mappedAt}
+use Rattle.maps.specs.Walk.{offset}
 use Rattle.walking.specs.Flipping.{FlipReady}
+use Rattle.walking.specs.Walking.{WalkSays}
 
 -- both encodings and the front of the mapped tape have room
 pub record BeginReady (o : ℕ) (xs ys ts m a b : List ℕ) : Type 0 where
@@ -29,9 +31,15 @@ pub record BegunSays (o k : ℕ) (xs ys ts m m′ a a′ b b′ : List ℕ) : Ty
   pub one : a′ ≡ over (encode o xs ts) a
   pub other : b′ ≡ over (encode o ys (flipped ts (inputFlips o k xs ys))) b
 
+-- the walk over the bytes s of the masked table of a plan, where k is the free share
+abbrev pub PlanWalk :
+    DP.Plan → ℕ → List ℕ → List ℕ → List ℕ → List ℕ → List ℕ → List ℕ → List ℕ → List ℕ → Type 0
+PlanWalk p k s rs m m′ a a′ b b′ =
+    WalkSays s rs (p .shares * p .inputs) (offset (p .shares) (k - 1)) (offset (p .shares) k) (tri (p .shares)) m m′ a a′ b b′
+
 -- a plan, a share number k, both secrets, a tape, and room for the mapped tape and both runs
 pub record WorkReady (s : List ℕ) (p : DP.Plan) (k : ℕ) (xs ys ts m a b : List ℕ) : Type 0 where
-  pub plan : PlanReady s (orderOf p) p
+  pub plan : PlanReady s p
   pub from-1 : 1 ≤ k
   pub to-n : k ≤ p .shares
   pub first : length xs ≡ p .inputs

@@ -2,13 +2,13 @@
 ghost use mathlib.Core.Path.{_≡_};
 ghost use Prim.Native.Nat.{_-_, _*_, _≤_, _<_};
 ghost use lib.ListN.{length};
-ghost use Rattle.masks.specs.Shares.{tri};
+ghost use Rattle.masks.specs.Gadgets.{isw};
+ghost use Rattle.masks.specs.Wires.{marks};
 ghost use Rattle.sizing.specs.Plans.{PlanFits, planBytes};
-ghost use Rattle.marking.specs.Origins.{orderOf};
-ghost use Rattle.mapping.specs.Working.{BeginReady, BegunSays, WorkReady, WorkSays};
+ghost use Rattle.mapping.specs.Working.{BeginReady, BegunSays, PlanWalk, WorkReady, WorkSays};
 ghost use Rattle.maps.specs.Says.{MapSays};
 ghost use Rattle.maps.specs.Walk.{offset};
-ghost use Rattle.walking.specs.Walking.{WalkReady, WalkSays};
+ghost use Rattle.walking.specs.Walking.{WalkReady};
 
 // How many pairs of n shares come before those whose lower share is d, counted from 0.
 fn row_start(n: usize, d: usize) -> usize
@@ -61,11 +61,7 @@ fn walk_plan(
         × PlanFits p
         × (1 ≤ k)
         × (k ≤ p .shares) ⌝ }
-    ensures { λ _. ⌜ WalkSays (now (masked .entry)) (now (random .entry))
-        (p .shares * p .inputs)
-        (offset (p .shares) (k - 1))
-        (offset (p .shares) k)
-        (tri (p .shares))
+    ensures { λ _. ⌜ PlanWalk p k (now (masked .entry)) (now (random .entry))
         (now (mapped .entry))
         (now (mapped .exit))
         (now (one .entry))
@@ -77,7 +73,7 @@ fn walk_plan(
     let inputs = n * p.inputs;
     let from = row_start(n, k - 1);
     let to = row_start(n, k);
-    let pairs = sizing::pair_count(n);
+    let pairs = masks::pair_count(n);
     walking::walk(
         masked,
         inputs,
@@ -107,7 +103,7 @@ fn map_with(
 )
     requires { ⌜ WorkReady (now table) p k (now first) (now second) (now tape) (now mapped) (now one) (now other)
         × (planBytes p ≤ length (now masked)) ⌝ }
-    ensures { λ _. ⌜ WorkSays (now (table .entry)) (orderOf p) k
+    ensures { λ _. ⌜ WorkSays (now (table .entry)) (p .order) k
         (now (first .entry))
         (now (second .entry))
         (now (tape .entry))
@@ -118,17 +114,25 @@ fn map_with(
         (now (other .entry))
         (now (other .exit)) ⌝ }
 {
-    let order = p.shares / 2;
-    let place = 2 * order * p.inputs;
+    let split = 2 * p.order * p.inputs;
     let bytes = sizing::plan_bytes(p);
     assembling::mask_into(table, p, masked);
-    begin_runs(order, k, first, second, &tape[..place], mapped, one, other);
+    begin_runs(
+        p.order,
+        k,
+        first,
+        second,
+        &tape[..split],
+        mapped,
+        one,
+        other,
+    );
     walk_plan(
         &masked[..bytes],
         p,
         k,
-        &tape[place..],
-        &mut mapped[place..],
+        &tape[split..],
+        &mut mapped[split..],
         one,
         other,
     );
@@ -148,7 +152,7 @@ fn map_small(
 )
     requires { ⌜ WorkReady (now table) p k (now first) (now second) (now tape) (now mapped) (now one) (now other)
         × (planBytes p ≤ 8192) ⌝ }
-    ensures { λ _. ⌜ WorkSays (now (table .entry)) (orderOf p) k
+    ensures { λ _. ⌜ WorkSays (now (table .entry)) (p .order) k
         (now (first .entry))
         (now (second .entry))
         (now (tape .entry))
@@ -188,7 +192,7 @@ fn map_middle(
 )
     requires { ⌜ WorkReady (now table) p k (now first) (now second) (now tape) (now mapped) (now one) (now other)
         × (planBytes p ≤ 65536) ⌝ }
-    ensures { λ _. ⌜ WorkSays (now (table .entry)) (orderOf p) k
+    ensures { λ _. ⌜ WorkSays (now (table .entry)) (p .order) k
         (now (first .entry))
         (now (second .entry))
         (now (tape .entry))
@@ -227,7 +231,7 @@ fn map_large(
     other: &mut [u8],
 )
     requires { ⌜ WorkReady (now table) p k (now first) (now second) (now tape) (now mapped) (now one) (now other) ⌝ }
-    ensures { λ _. ⌜ WorkSays (now (table .entry)) (orderOf p) k
+    ensures { λ _. ⌜ WorkSays (now (table .entry)) (p .order) k
         (now (first .entry))
         (now (second .entry))
         (now (tape .entry))
@@ -238,7 +242,7 @@ fn map_large(
         (now (other .entry))
         (now (other .exit)) ⌝ }
 {
-    let mut masked = [0u8; 458751];
+    let mut masked = [0u8; tables::LONGEST];
     map_with(
         table,
         p,
@@ -266,7 +270,7 @@ fn map_work(
     other: &mut [u8],
 )
     requires { ⌜ WorkReady (now table) p k (now first) (now second) (now tape) (now mapped) (now one) (now other) ⌝ }
-    ensures { λ _. ⌜ WorkSays (now (table .entry)) (orderOf p) k
+    ensures { λ _. ⌜ WorkSays (now (table .entry)) (p .order) k
         (now (first .entry))
         (now (second .entry))
         (now (tape .entry))
@@ -302,7 +306,7 @@ pub fn map_tape(
     one: &mut [u8],
     other: &mut [u8],
 ) -> tables::Answer
-    ensures { λ r. ⌜ MapSays (now (table .entry)) order
+    ensures { λ r. ⌜ MapSays isw (marks isw) (now (table .entry)) order
         (now (first .entry))
         (now (second .entry))
         (now (tape .entry))
@@ -328,11 +332,7 @@ pub fn map_tape(
     );
     match planned {
         sizing::Planned::Refused(f) => {
-            return tables::Answer {
-                number: f.number,
-                place: f.place,
-                value: 0,
-            };
+            return tables::refused(f);
         }
         sizing::Planned::Ready(p) => {
             let k = probing::free_share(table, p, probes);

@@ -10,51 +10,30 @@ use lib.Dec.{eqb}
 use lib.ListN.{length, getD, drop, length-append, length-map, length-drop, List·getD-append}
 use lib.Seq.{getD-drop, getD-append-add}
 use borrow.Author.Tests.{ne-eqb}
-use Rattle.tables.specs.Tables.{Kind, NOT, XOR, AND, RANDOM, UNKNOWN, Gate, gate}
+use Rattle.tables.specs.Tables.{Kind, NOT, XOR, AND, RANDOM, UNKNOWN, Gate, gate, total}
 use Rattle.tables.specs.Runs.{xor, randoms}
 use Rattle.tables.proofs.Tests.{or-intro}
 use Rattle.tables.proofs.Lists.{All, all-append, all-getD}
 use Rattle.tables.proofs.Run.{Solves, solves-append}
 use Rattle.tables.proofs.Accept.{PlainGate, PlainGates}
 use Rattle.masks.specs.Shares.{upFrom, inTurn, Pair, pairOf, pairs, tri, pairAt}
-use Rattle.masks.specs.Gadgets.{isIn, Five, first, second, third, fourth, fifth, allFive, place, Gadget}
-use Rattle.masks.specs.Wires.{
-  Origin,
-  andPart,
-  pair,
-  own,
-  sum,
-  xorShare,
-  Wire,
-  wire,
-  marks,
-  driverOf,
-  share,
-  adding,
-  pairWires,
-  rowWires,
-  pairWire,
-  andWires,
-  newWires,
-  newShares,
-  cost,
-  draws,
-  totalOf,
-  masked,
-  sharesAfter,
-}
+use Rattle.masks.specs.Gadgets.{isIn, Five, first, second, third, fourth, fifth, allFive, indexOf, Gadget}
+use Rattle.masks.specs.Wires.{Origin, andPart, pair, own, sum, xorShare, Wire, wire, marks, driverOf, share}
+use Rattle.masks.specs.Wires.{adding, pairWires, rowWires, pairWire, andWires, newWires, newShares, cost, draws, masked, sharesAfter}
 use Rattle.masks.proofs.Sum.{up-length, up-at}
 use Rattle.masks.proofs.Rows.{pairs-length, pairs-in, pair-at, row-length, row-all}
 use Rattle.masks.proofs.Each.{Each, each-append, each-at, each-in-turn, each-up, each-rows, in-turn-length}
 use Rattle.masks.proofs.Lawful.{Lawful}
 use Rattle.masks.proofs.Costs.{adding-length, pairs-span, rows-span, new-length, new-draws}
+use Rattle.masks.proofs.Shares.{xor-values}
 use Rattle.masks.proofs.And.{rowTerms, and-pair, and-row}
-use Rattle.maps.specs.Maps.{pairFlip, gateFlips, gatesFlips}
+use Rattle.maps.specs.Maps.{pairFlip, gateFlips}
+use Rattle.maps.specs.Laws.{gatesFlips}
 use Rattle.maps.proofs.Flips.{gate-flips-length}
 use Rattle.masks.proofs.Hiding.{Hiding, not-first}
 
 -- shares other than k have the same value in both runs
-abbrev pub Off : (ℕ → ℕ) → (ℕ → ℕ) → ℕ → List ℕ → Type 0
+abbrev Off : (ℕ → ℕ) → (ℕ → ℕ) → ℕ → List ℕ → Type 0
 Off v u k a = (i : ℕ) → i < length a → (suc i ≡ k → ⊥) → v (share a i) ≡ u (share a i)
 
 -- a wire that does not carry k
@@ -66,7 +45,7 @@ abbrev pub Alike : ℕ → (ℕ → ℕ) → (ℕ → ℕ) → ℕ → List ℕ 
 Alike n v u k a = (length a ≡ n) × Off v u k a
 
 -- what is known of the right operand, where a gate has one
-abbrev pub OfRight : Kind → Type 0 → Type 0
+abbrev OfRight : Kind → Type 0 → Type 0
 OfRight NOT T = Unit {0}
 OfRight XOR T = T
 OfRight AND T = T
@@ -83,7 +62,7 @@ map-at f (x ∷ xs) (suc q) d h = map-at f xs q d (omega arith)
 
 -- what holds of each of the five wires
 each-five :
-    (P : ℕ → Wire → Type 0) (w : ℕ) (x : Five → Wire) → ((f : Five) → P (w + place f) (x f)) → Each P w (map x allFive)
+    (P : ℕ → Wire → Type 0) (w : ℕ) (x : Five → Wire) → ((f : Five) → P (w + indexOf f) (x f)) → Each P w (map x allFive)
 unfolding Each
 each-five P w x h = (
   subst (λ (y : ℕ). P y (x first)) (omega arith) (h first),
@@ -98,21 +77,6 @@ each-five P w x h = (
     ),
   ),
 )
-
--- the value of each XOR of shares
-xors-drive :
-    (m t w c : ℕ) (x y : ℕ → ℕ) (o : ℕ → Origin) (r v : ℕ → ℕ)
-    → Solves w c (map driverOf (upFrom m t (λ i. wire (gate XOR (x i) (y i)) (o i)))) r v
-    → (i : ℕ) → i < m → v (w + i) ≡ xor (v (x (t + i))) (v (y (t + i)))
-unfolding upFrom Solves
-xors-drive zero t w c x y o r v s i h = absurd (omega arith)
-xors-drive (suc m) t w c x y o r v s zero h =
-    let e : t + 0 ≡ t = omega arith in
-    ap v {x = w + 0} {y = w} (omega arith) ∙ rw e (s .0)
-xors-drive (suc m) t w c x y o r v s (suc i) h =
-    let e : t + suc i ≡ suc t + i = omega arith in
-    ap v {x = w + suc i} {y = suc w + i} (omega arith)
-    ∙ rw e (xors-drive m (suc t) (suc w) (c + 0) x y o r v (s .1) i (omega arith))
 
 -- a running sum of what agrees agrees
 adding-agrees :
@@ -262,7 +226,7 @@ not-off a w k v u o h (suc i) l ne =
     ap v at ∙ o (suc i) (omega (arith, length-drop 1 a)) ne ∙ sym (ap u at)
 
 -- one gate, by kind
-pub new-agrees :
+new-agrees :
     {G : Gadget} (H : Hiding G) (kd : Kind) (n g w c k p l r′ : ℕ) (a b : List ℕ) (r s v u : ℕ → ℕ) → 1 ≤ n
     → PlainGate p kd l r′ → Alike n v u k a → OfRight kd (Alike n v u k b) → ((p : ℕ) → v p ≤ 1)
     → ((p : ℕ) → u p ≤ 1) → ((q : ℕ) → r q ≤ 1) → Solves w c (map driverOf (newWires G kd n g w a b)) r v
@@ -277,9 +241,9 @@ new-agrees H NOT n g w c k p l r′ a b r s v u h x sa sb bv bu br sv su fl =
 new-agrees H XOR n g w c k p l r′ a b r s v u h x sa sb bv bu br sv su fl =
     let here : (i : ℕ) → i < n → (suc (0 + i) ≡ k → ⊥) → v (w + i) ≡ u (w + i) =
     λ i hi ne.
-    xors-drive n 0 w c (share a) (share b) (xorShare g) r v sv i hi
+    xor-values n 0 w c (share a) (share b) (xorShare g) r v sv i hi
     ∙ ap₂ xor (sa .1 (0 + i) (omega (arith, sa .0)) ne) (sb .1 (0 + i) (omega (arith, sb .0)) ne)
-    ∙ sym (xors-drive n 0 w c (share a) (share b) (xorShare g) s u su i hi) in
+    ∙ sym (xor-values n 0 w c (share a) (share b) (xorShare g) s u su i hi) in
     let off : Off v u k (newShares XOR n w a) =
     λ i hi ne.
     let below : i < n = omega (arith, up-length n w (λ (z : ℕ). z)) in
@@ -291,7 +255,7 @@ new-agrees H AND n g w c k p l r′ a b r s v u h x sa sb bv bu br sv su fl =
 new-agrees H RANDOM n g w c k p l r′ a b r s v u h x sa sb bv bu br sv su fl = absurd x
 new-agrees H (UNKNOWN d) n g w c k p l r′ a b r s v u h x sa sb bv bu br sv su fl = absurd x
 
-pub new-shares-length :
+new-shares-length :
     (kd : Kind) (n w p l r : ℕ) (a : List ℕ) → 1 ≤ n → PlainGate p kd l r → length a ≡ n
     → length (newShares kd n w a) ≡ n
 new-shares-length NOT n w p l r a h x e = omega (arith, length-drop 1 a)
@@ -301,7 +265,7 @@ new-shares-length RANDOM n w p l r a h x e = absurd x
 new-shares-length (UNKNOWN c) n w p l r a h x e = absurd x
 
 -- the operands of a plain gate, of wires that all have a property
-pub left-of :
+left-of :
     (P : List ℕ → Type 0) (kd : Kind) (l r : ℕ) (S : List (List ℕ)) → PlainGate (length S) kd l r → All P S
     → P (getD S l [])
 left-of P NOT l r S x A = all-getD P S l [] A x
@@ -310,7 +274,7 @@ left-of P AND l r S x A = all-getD P S l [] A (x .0)
 left-of P RANDOM l r S x A = absurd x
 left-of P (UNKNOWN c) l r S x A = absurd x
 
-pub right-of :
+right-of :
     (P : List ℕ → Type 0) (kd : Kind) (l r : ℕ) (S : List (List ℕ)) → PlainGate (length S) kd l r → All P S
     → OfRight kd (P (getD S r []))
 right-of P NOT l r S x A = tt
@@ -320,7 +284,7 @@ right-of P RANDOM l r S x A = absurd x
 right-of P (UNKNOWN c) l r S x A = absurd x
 
 -- the random bits of the second run: the first m and those after them
-pub flips-split :
+flips-split :
     (fs gs : List ℕ) (m t c : ℕ) (r s : ℕ → ℕ) → length fs ≡ m
     → ((q : ℕ) → q < m + t → s (c + q) ≡ xor (r (c + q)) (getD (fs ++ gs) q 0))
     → ((q : ℕ) → q < m → s (c + q) ≡ xor (r (c + q)) (getD fs q 0))
@@ -333,7 +297,7 @@ flips-split fs gs m t c r s e h = (
 )
 
 -- the equations of the first gate's wires and of the others
-pub masked-split :
+masked-split :
     {G : Gadget} (L : Lawful G) (kd : Kind) (n g w c : ℕ) (a b : List ℕ) (rest : List Wire) (r v : ℕ → ℕ)
     → Solves w c (map driverOf (newWires G kd n g w a b ++ rest)) r v
     → Solves w c (map driverOf (newWires G kd n g w a b)) r v
@@ -353,11 +317,11 @@ pub masked-agrees :
     → PlainGates (length S) gs → ((p : ℕ) → v p ≤ 1) → ((p : ℕ) → u p ≤ 1) → ((q : ℕ) → r q ≤ 1)
     → Solves w c (map driverOf (masked G n g w S gs)) r v
     → Solves w c (map driverOf (masked G n g w S gs)) s u
-    → ((q : ℕ) → q < totalOf (λ kd. draws kd n) gs
+    → ((q : ℕ) → q < total (λ kd. draws kd n) gs
     → s (c + q) ≡ xor (r (c + q)) (getD (gatesFlips G n k w S gs v u) q 0))
     → All (Alike n v u k) S
     → Each (Kept G k v u) w (masked G n g w S gs) × All (Alike n v u k) (sharesAfter n w S gs)
-unfolding All Each masked sharesAfter PlainGates totalOf gatesFlips
+unfolding All Each masked sharesAfter PlainGates total gatesFlips
 masked-agrees H n g w c k S [] r s v u h x bv bu br sv su fl A = (tt, A)
 masked-agrees {G} H n g w c k S (y ∷ ys) r s v u h x bv bu br sv su fl A =
     let kd = y .kind in
@@ -371,7 +335,7 @@ masked-agrees {G} H n g w c k S (y ∷ ys) r s v u h x bv bu br sv su fl A =
     let tv = masked-split (H .lawful) kd n g w c a b rest r v sv in
     let tu = masked-split (H .lawful) kd n g w c a b rest s u su in
     let fs = flips-split (gateFlips G kd n k a b v u) (gatesFlips G n k (w + cost kd n) T ys v u) (draws kd n)
-    (totalOf (λ kd. draws kd n) ys) c r s (gate-flips-length G kd n k a b v u) fl in
+    (total (λ kd. draws kd n) ys) c r s (gate-flips-length G kd n k a b v u) fl in
     let one = new-agrees H kd n g w c k (length S) (y .left) (y .right) a b r s v u h (x .0) sa sb bv bu br
     (tv .0) (tu .0) (fs .0) in
     let long : w + cost kd n ≡ w + length ws = ap (λ (z : ℕ). w + z) (sym (new-length G kd n g w a b)) in

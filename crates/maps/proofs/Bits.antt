@@ -7,7 +7,8 @@ use Prim.Native.Nat.{ℕ, suc, _<_}
 use lib.Dec.{eqb, ltb, leb}
 use borrow.Author.Tests.{leb-true, le-leb, ltb-true, eqb-true, eq-eqb}
 use Rattle.tables.proofs.Tests.{and-true, and-intro}
-use Rattle.tables.proofs.Lists.{Bits, bits-nil, bits-cons, All}
+use Rattle.tables.specs.Runs.{Bits}
+use Rattle.tables.proofs.Lists.{bits-nil, bits-cons, All}
 use Rattle.maps.specs.Claims.{allBits, allBelow, same}
 
 pub all-bits : (ts : List ℕ) → allBits ts ≡ true → Bits ts
@@ -27,11 +28,11 @@ all-below w (p ∷ ps) h =
     let both = and-true (ltb p w) (allBelow w ps) h in
     (ltb-true p w (both .0), all-below w ps (both .1))
 
-pub same-refl : (xs : List ℕ) → same xs xs ≡ true
+same-refl : (xs : List ℕ) → same xs xs ≡ true
 same-refl [] = refl
 same-refl (x ∷ xs) = and-intro (eqb x x) (same xs xs) (eq-eqb x x refl) (same-refl xs)
 
-pub same-eq : (xs ys : List ℕ) → same xs ys ≡ true → xs ≡ ys
+same-eq : (xs ys : List ℕ) → same xs ys ≡ true → xs ≡ ys
 same-eq [] [] h = refl
 same-eq [] (y ∷ ys) h = cc
 same-eq (x ∷ xs) [] h = cc
@@ -39,7 +40,7 @@ same-eq (x ∷ xs) (y ∷ ys) h =
     let both = and-true (eqb x y) (same xs ys) h in
     cc (eqb-true x y (both .0), same-eq xs ys (both .1))
 
-pub eq-same : (xs ys : List ℕ) → xs ≡ ys → same xs ys ≡ true
+eq-same : (xs ys : List ℕ) → xs ≡ ys → same xs ys ≡ true
 eq-same xs ys e = rw e (same-refl ys)
 
 -- two tests of equality agree where each equation gives the other

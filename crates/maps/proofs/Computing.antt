@@ -12,8 +12,8 @@ use lib.Seq.{drop-cons}
 use Rattle.tables.specs.Tables.{Table, wires}
 use Rattle.tables.specs.Runs.{run, readAll}
 use Rattle.tables.proofs.Lists.{All, all-map}
-use Rattle.tables.proofs.Run.{Solves, run-solves, run-keep}
-use Rattle.tables.proofs.Accept.{PlainGates, Plain, plain-earlier}
+use Rattle.tables.proofs.Run.{Solves, run-solves, run-keep, read-length}
+use Rattle.tables.proofs.Accept.{Plain, plain-earlier}
 use Rattle.masks.specs.Shares.{sharesOf, upFrom}
 use Rattle.masks.specs.Gadgets.{Gadget}
 use Rattle.masks.specs.Wires.{inputShares, sharesAfter, outputShares, maskedTable}
@@ -25,12 +25,7 @@ use Rattle.masks.proofs.Codes.{encode-adds, joined, decode-groups, decode-encod
 use Rattle.masks.proofs.Shares.{Shared, masked-shares}
 use Rattle.maps.specs.Claims.{isTape, areSecrets, Computes}
 use Rattle.maps.proofs.Bits.{all-bits}
-use Rattle.maps.proofs.Begun.{secrets-long, secret-bits, front-long, shares-long, value-bits, values-solve, value-of-input}
-
-read-length : (vs ws : List ℕ) → length (readAll vs ws) ≡ length ws
-unfolding readAll
-read-length vs [] = refl
-read-length vs (w ∷ ws) = ap suc (read-length vs ws)
+use Rattle.maps.proofs.Begun.{secrets-are, tape-is, tape-front-long, plain-inputs, begun-long, value-bits, values-solve, value-of-input}
 
 read-sum : (vs ws : List ℕ) → sumOf (λ b. b) (readAll vs ws) ≡ sumOf (λ w. getD vs w 0) ws
 unfolding readAll sumOf
@@ -88,22 +83,26 @@ module _ {G : Gadget} (L : Lawful G) (o : ℕ) (t : Table) (P : Plain t) where
       let n = sharesOf o in
       let vs = maskedRun G o t xs ts in
       let es = encode o xs (take (2 * o * t .inputs) ts) in
+      let secrets = secrets-are t xs hx in
       let hi : i < t .inputs = omega (arith, up-length (t .inputs) 0 (λ i. upFrom n (n * i) (λ w. w))) in
       let at : getD (inputShares n (t .inputs)) i [] ≡ upFrom n (n * i) (λ w. w) =
       up-at (t .inputs) 0 (λ i. upFrom n (n * i) (λ w. w)) i [] hi
       ∙ ap (λ (y : ℕ). upFrom n (n * y) (λ w. w)) {x = 0 + i} {y = i} (omega arith) in
       let fits : n * i + n ≤ n * t .inputs = omega (arith, mul-le-mul-left n hi) in
-      let long = shares-long L o t P xs ts hx ht in
+      let long = begun-long L o t P xs ts hx ht in
       let same : sumOf (λ p. getD vs p 0) (upFrom n (n * i) (λ w. w)) ≡ sumOf (λ p. getD es p 0) (upFrom n (n * i) (λ w. w)) =
       sum-cong _ _ _ (up-all _ n (n * i) _ (λ p _ k. value-of-input L o t P xs ts hx ht p (omega arith))) in
       let sums : sumOf (λ p. getD vs p 0) (upFrom n (n * i) (λ w. w)) % 2 ≡ getD xs i 0 =
       ap (λ (y : ℕ). y % 2) (same ∙ window-sum n (n * i) es (omega (arith, long)))
-      ∙ encode-adds o xs _ i (front-long L o t P xs ts hx ht) (secret-bits L o t P xs ts hx ht) (omega (arith, secrets-long L o t P xs ts hx ht)) in
+      ∙ encode-adds o xs _ i
+      (tape-front-long L o t ts (tape-is G o t ts ht .0) ∙ rw (secrets .0))
+      (secrets .1)
+      (omega (arith, secrets .0)) in
       let plain : getD (run t xs []) i 0 ≡ getD xs i 0 =
-      run-keep (t .gates) [] xs i (omega (arith, secrets-long L o t P xs ts hx ht)) in
+      run-keep (t .gates) [] xs i (omega (arith, secrets-are t xs hx .0)) in
       rw at (up-length n (n * i) _, sums ∙ sym plain)
 
-  pub shared-all :
+  shared-all :
       (xs ts : List ℕ) → areSecrets t xs ≡ true → isTape G o t ts ≡ true
       → Shared (sharesOf o) (λ p. getD (maskedRun G o t xs ts) p 0) (λ i. getD (run t xs []) i 0)
       (sharesAfter (sharesOf o) (sharesOf o * t .inputs) (inputShares (sharesOf o) (t .inputs)) (t .gates))
@@ -114,10 +113,10 @@ module _ {G : Gadget} (L : Lawful G) (o : ℕ) (t : Table) (P : Plain t) where
       let long : length S ≡ t .inputs = up-length (t .inputs) 0 _ in
       masked-shares L n 0 (n * t .inputs) 0 0 S (t .gates) _ _ (λ c. getD {A = ℕ} [] c 0) _ (omega arith)
       (value-bits L o t P xs ts hx ht)
-      (subst (λ (y : ℕ). PlainGates y (t .gates)) (sym long) (P .gates))
+      (plain-inputs n t P)
       (values-solve L o t P xs ts hx ht)
       (subst (λ (y : ℕ). Solves y 0 (t .gates) (λ c. getD {A = ℕ} [] c 0) (λ i. getD (run t xs []) i 0)) (sym long)
-      (run-solves (t .inputs) (t .gates) [] xs (secrets-long L o t P xs ts hx ht) (plain-earlier (t .inputs) (t .gates) (P .gates))))
+      (run-solves (t .inputs) (t .gates) [] xs (secrets-are t xs hx .0) (plain-earlier (t .inputs) (t .gates) (P .gates))))
       (shared-inputs xs ts hx ht)
 
   pub computes : Computes G t o

@@ -2,12 +2,14 @@
 -- a tape and its image, taken in either order, is both counts.
 -- Assumes nothing.
 use mathlib.Core.Path.{_≡_, refl, ap, sym, _∙_}
-use mathlib.Core.Bool.{Bool, true}
+use mathlib.Core.Bool.{Bool, true, _&&_, cond}
 use mathlib.Core.List.{List, [], _∷_, _++_, map}
 use Prim.Native.Nat.{ℕ, zero, suc, _+_}
 use native.Mathlib.Omega.{arith}
+use lib.Dec.{eqb}
 use lib.ListN.{length}
-use Rattle.tables.specs.Refusals.{pick}
+use borrow.Author.Tests.{eq-eqb}
+use Rattle.tables.proofs.Tests.{and-intro}
 use Rattle.maps.specs.Claims.{allBits, allTapes, same, howMany}
 use Rattle.maps.proofs.Bits.{all-bits, same-both}
 
@@ -32,7 +34,19 @@ unfolding howMany
 many-map f h [] = refl
 many-map f h (x ∷ xs) = omega (arith, many-map f h xs)
 
-many-total : (n : ℕ) (f : List ℕ → Bool) → howMany f (allTapes n) ≡ total n (λ ts. pick (f ts) 1 0)
+many-all : (xs : List (List ℕ)) → howMany (λ ts. true) xs ≡ length xs
+unfolding howMany
+many-all [] = refl
+many-all (x ∷ xs) = omega (arith, many-all xs)
+
+-- tests that agree count alike
+pub many-same :
+    (f g : List ℕ → Bool) → ((ts : List ℕ) → f ts ≡ g ts) → (xs : List (List ℕ)) → howMany f xs ≡ howMany g xs
+unfolding howMany
+many-same f g e [] = refl
+many-same f g e (x ∷ xs) = rw (e x, many-same f g e xs)
+
+many-total : (n : ℕ) (f : List ℕ → Bool) → howMany f (allTapes n) ≡ total n (λ ts. cond (f ts) 1 0)
 unfolding howMany allTapes total
 many-total zero f = omega arith
 many-total (suc n) f =
@@ -79,7 +93,7 @@ total-swap (suc n) m v =
 
 -- a sum over the tapes that equal one tape is the value there
 total-at :
-    (n : ℕ) (ts : List ℕ) (v : List ℕ → ℕ) → BitsOf n ts → total n (λ us. pick (same ts us) (v us) 0) ≡ v ts
+    (n : ℕ) (ts : List ℕ) (v : List ℕ → ℕ) → BitsOf n ts → total n (λ us. cond (same ts us) (v us) 0) ≡ v ts
 unfolding total
 total-at zero [] v b = refl
 total-at zero (t ∷ ts) v b = absurd (omega (arith, b .0))
@@ -90,7 +104,16 @@ total-at (suc n) (suc zero ∷ ts) v b =
     omega (arith, total-zero n, total-at n ts (λ us. v (1 ∷ us)) (omega (arith, b .0), b .1))
 total-at (suc n) (suc (suc t) ∷ ts) v b = absurd (omega (arith, all-bits (suc (suc t) ∷ ts) (b .1) 0))
 
--- every list of n bits stands exactly once among all of them
+-- everything among them is a list of n bits
+pub tapes : (n : ℕ) → howMany (λ ts. eqb (length ts) n && allBits ts) (allTapes n) ≡ length (allTapes n)
+tapes n =
+    many-total n (λ ts. eqb (length ts) n && allBits ts)
+    ∙ total-same n _ (λ ts. 1)
+    (λ ts b. rw (and-intro (eqb (length ts) n) (allBits ts) (eq-eqb (length ts) n (b .0)) (b .1)))
+    ∙ sym (many-total n (λ ts. true))
+    ∙ many-all (allTapes n)
+
+-- every list of n bits stands exactly once among them
 pub once :
     (n : ℕ) (ts : List ℕ) → length ts ≡ n → allBits ts ≡ true → howMany (λ us. same ts us) (allTapes n) ≡ 1
 once n ts long bits = many-total n (λ us. same ts us) ∙ total-at n ts (λ us. 1) (long, bits)
@@ -105,15 +128,15 @@ pub same-count :
     → ((ts : List ℕ) → BitsOf n ts → f ts ≡ g (φ ts))
     → howMany f (allTapes n) ≡ howMany g (allTapes n)
 same-count n φ ψ f g to from there back agree =
-    let one : List ℕ → ℕ = λ us. pick (g us) 1 0 in
-    let images : total n (λ ts. pick (f ts) 1 0) ≡ total n (λ ts. total n (λ us. pick (same (φ ts) us) (one us) 0)) =
+    let one : List ℕ → ℕ = λ us. cond (g us) 1 0 in
+    let images : total n (λ ts. cond (f ts) 1 0) ≡ total n (λ ts. total n (λ us. cond (same (φ ts) us) (one us) 0)) =
     total-same n _ _ (λ ts b. rw (agree ts b) (sym (total-at n (φ ts) one (to ts b)))) in
     let swapped : (ts us : List ℕ) → BitsOf n ts → BitsOf n us → same (φ ts) us ≡ same (ψ us) ts =
     λ ts us b c. same-both (φ ts) us (ψ us) ts (λ e. ap ψ (sym e) ∙ there ts b) (λ e. ap φ (sym e) ∙ back us c) in
-    let sources : (us : List ℕ) → BitsOf n us → total n (λ ts. pick (same (φ ts) us) (one us) 0) ≡ one us =
+    let sources : (us : List ℕ) → BitsOf n us → total n (λ ts. cond (same (φ ts) us) (one us) 0) ≡ one us =
     λ us c. total-same n _ _ (λ ts b. rw (swapped ts us b c)) ∙ total-at n (ψ us) (λ ts. one us) (from us c) in
     many-total n f
     ∙ images
-    ∙ total-swap n n (λ ts us. pick (same (φ ts) us) (one us) 0)
+    ∙ total-swap n n (λ ts us. cond (same (φ ts) us) (one us) 0)
     ∙ total-same n _ one sources
     ∙ sym (many-total n g)

@@ -4,7 +4,7 @@
 use mathlib.Core.Path.{_≡_, refl, sym, ap, _∙_, subst}
 use mathlib.Core.Bool.{Bool, true, false, _&&_}
 use mathlib.Core.List.{List, [], _∷_, _++_, map, map-append, append-assoc}
-use Prim.Native.Nat.{ℕ, zero, suc, _+_, _-_, _*_, _≤_, _<_}
+use Prim.Native.Nat.{ℕ, zero, suc, _+_, _*_, _≤_, _<_}
 use native.Mathlib.Omega.{arith}
 use borrow.Author.Tests.{eq-eqb, ne-eqb, leb-true, le-leb, lt-ltb, le-ltb}
 use lib.Dec.{eqb, ltb, leb}
@@ -13,11 +13,13 @@ use Rattle.tables.specs.Tables.{Kind, NOT, XOR, AND, RANDOM, UNKNOWN, Gate, gat
 use Rattle.tables.proofs.Accept.{PlainGate, PlainGates}
 use Rattle.masks.specs.Shares.{upFrom, inTurn, Pair, pairOf, pairsFrom, pairs, tri, row}
 use Rattle.masks.specs.Gadgets.{first, fifth, isw}
-use Rattle.masks.specs.Wires.{Wire, wire, Origin, andPart, sum, driverOf, share, adding, pairWires, rowWires, pairWire, andWires, newWires, newShares, cost, masked}
+use Rattle.masks.specs.Wires.{Wire, wire, Origin, andPart, sum, driverOf, share, adding}
+use Rattle.masks.specs.Wires.{pairWires, rowWires, pairWire, andWires, newWires, newShares, cost, masked}
 use Rattle.masks.proofs.Sum.{up-length}
 use Rattle.masks.proofs.Rows.{pairs-length}
 use Rattle.maps.specs.Walk.{offset, inRow, nextPair, flatFlip}
-use Rattle.maps.specs.Maps.{pairFlip, gateFlips, gatesFlips}
+use Rattle.maps.specs.Maps.{pairFlip, gateFlips}
+use Rattle.maps.specs.Laws.{gatesFlips}
 
 -- the flips of the random gates in order; T says which pairs have the free share first, m is the number of pairs
 unfoldable pub flatFlips : (ℕ → Bool) → ℕ → ℕ → List Gate → (ℕ → ℕ) → (ℕ → ℕ) → List ℕ
@@ -32,7 +34,7 @@ flatFlips T m q (g ∷ gs) v u =
     ]
 
 -- gates that draw no bit are passed over
-pub flat-adding :
+flat-adding :
     (T : ℕ → Bool) (m q : ℕ) (o : ℕ → Origin) (i last next : ℕ) (zs : List ℕ) (hs : List Gate) (v u : ℕ → ℕ)
     → flatFlips T m q (map driverOf (adding o i last next zs) ++ hs) v u ≡ flatFlips T m q hs v u
 unfolding flatFlips adding

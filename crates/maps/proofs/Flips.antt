@@ -7,19 +7,20 @@ use Prim.Native.Nat.{ℕ, zero, suc, _+_, _≤_, _<_}
 use native.Mathlib.Omega.{arith}
 use lib.ListN.{length, getD, take, drop, length-append, length-map, length-drop, take-append-drop}
 use lib.Seq.{length-take-le, take-at, drop-at}
-use Rattle.tables.specs.Tables.{Kind, NOT, XOR, AND, RANDOM, UNKNOWN, Gate}
+use Rattle.tables.specs.Tables.{Kind, NOT, XOR, AND, RANDOM, UNKNOWN, Gate, total}
 use Rattle.tables.specs.Runs.{runFrom, randoms}
 use Rattle.tables.proofs.Lists.{All, all-map}
 use Rattle.tables.proofs.Accept.{PlainGate, PlainGates}
 use Rattle.tables.proofs.Run.{run-length, run-keep, run-append, run-prefix}
 use Rattle.masks.specs.Shares.{pairs}
 use Rattle.masks.specs.Gadgets.{differs, Gadget}
-use Rattle.masks.specs.Wires.{driverOf, newWires, newShares, cost, draws, totalOf, masked}
+use Rattle.masks.specs.Wires.{driverOf, newWires, newShares, cost, draws, masked}
 use Rattle.masks.proofs.Rows.{pairs-length, pairs-in}
 use Rattle.masks.proofs.Lawful.{Lawful}
 use Rattle.masks.proofs.Costs.{new-length, new-draws, all-of}
 use Rattle.masks.proofs.Placed.{Stands, Placed, share-below, placed-at, placed-step}
-use Rattle.maps.specs.Maps.{flipped, pairFlip, gateFlips, mapGates, gatesFlips}
+use Rattle.maps.specs.Maps.{flipped, pairFlip, gateFlips, mapGates}
+use Rattle.maps.specs.Laws.{gatesFlips}
 use Rattle.maps.proofs.Inputs.{flipped-length, flipped-append, flipped-nil, zero-append}
 
 pub gate-flips-length :
@@ -32,8 +33,8 @@ gate-flips-length G (UNKNOWN c) n k a b v u = refl
 
 pub gates-flips-length :
     (G : Gadget) (n k w : ℕ) (S : List (List ℕ)) (gs : List Gate) (v u : ℕ → ℕ)
-    → length (gatesFlips G n k w S gs v u) ≡ totalOf (λ kd. draws kd n) gs
-unfolding gatesFlips totalOf
+    → length (gatesFlips G n k w S gs v u) ≡ total (λ kd. draws kd n) gs
+unfolding gatesFlips total
 gates-flips-length G n k w S [] v u = refl
 gates-flips-length G n k w S (x ∷ xs) v u =
     length-append (gateFlips G (x .kind) n k (getD S (x .left) []) (getD S (x .right) []) v u) _
@@ -45,7 +46,7 @@ map-same f g [] a = refl
 map-same f g (x ∷ xs) a = ap₂ (λ (y : ℕ) (ys : List ℕ). y ∷ ys) (a .0) (map-same f g xs (a .1))
 
 -- two runs agree on the wires before w
-abbrev pub SameBelow : ℕ → (ℕ → ℕ) → (ℕ → ℕ) → Type 0
+abbrev SameBelow : ℕ → (ℕ → ℕ) → (ℕ → ℕ) → Type 0
 SameBelow w v v′ = (q : ℕ) → q < w → v q ≡ v′ q
 
 differs-local :
@@ -70,7 +71,7 @@ and-flips-local G n k w a b v u v′ u′ sa sb ev eu =
     (pairs-in n))
 
 -- what a gate flips depends on the wires of its operands' shares alone
-pub gate-flips-local :
+gate-flips-local :
     (G : Gadget) (kd : Kind) (n k w l r : ℕ) (S : List (List ℕ)) (v u v′ u′ : ℕ → ℕ) → PlainGate (length S) kd l r
     → Placed n w S → SameBelow w v v′ → SameBelow w u u′
     → gateFlips G kd n k (getD S l []) (getD S r []) v u ≡ gateFlips G kd n k (getD S l []) (getD S r []) v′ u′
@@ -85,7 +86,7 @@ differs-sym : (v u : ℕ → ℕ) (a b : ℕ) → differs v u a b ≡ differs u 
 differs-sym v u a b = omega arith
 
 -- swapping the runs changes nothing
-pub gate-flips-sym :
+gate-flips-sym :
     (G : Gadget) (kd : Kind) (n k : ℕ) (a b : List ℕ) (v u : ℕ → ℕ)
     → gateFlips G kd n k a b v u ≡ gateFlips G kd n k a b u v
 gate-flips-sym G NOT n k a b v u = refl
@@ -115,7 +116,7 @@ differs-none : (v : ℕ → ℕ) (a b : ℕ) → differs v v a b ≡ 0
 differs-none v a b = omega arith
 
 -- one run against itself flips nothing
-pub gate-flips-none :
+gate-flips-none :
     (G : Gadget) → ((k i j : ℕ) → G .flip k i j 0 0 ≡ 0) → (kd : Kind) (n k : ℕ) (a b : List ℕ) (v : ℕ → ℕ) (i : ℕ)
     → getD (gateFlips G kd n k a b v v) i 0 ≡ 0
 gate-flips-none G none NOT n k a b v i = refl
@@ -147,6 +148,37 @@ pub flipped-split :
 flipped-split d rs fs hs e h =
     ap (λ (ts : List ℕ). flipped ts (fs ++ hs)) (sym (take-append-drop d rs))
     ∙ flipped-append (take d rs) (drop d rs) fs hs (length-take-le d rs h ∙ sym e)
+
+-- M is rs with flips that depend on M itself, and no other list is
+pub record Fixed (rs : List ℕ) (flips : List ℕ → List ℕ) (M : List ℕ) : Type 0 where
+  pub holds : M ≡ flipped rs (flips M)
+  pub only : (ss : List ℕ) → ss ≡ flipped rs (flips ss) → ss ≡ M
+
+-- that, where the first d bits are flipped whatever follows them
+pub fixed-step :
+    (d : ℕ) (rs front next : List ℕ) (flips : List ℕ → List ℕ) (later : List ℕ → List ℕ → List ℕ) → d ≤ length rs
+    → length front ≡ d
+    → ((ps qs : List ℕ) → length ps ≡ d → flipped rs (flips (ps ++ qs)) ≡ front ++ flipped (drop d rs) (later ps qs))
+    → Fixed (drop d rs) (later front) next → Fixed rs flips (front ++ next)
+fixed-step d rs front next flips later enough long law F =
+    record {
+      holds = ap (λ (M : List ℕ). front ++ M) (F .holds) ∙ sym (law front next long);
+      only = λ ss e.
+          let ps = take d ss in
+          let qs = drop d ss in
+          let whole : ps ++ qs ≡ ss = take-append-drop d ss in
+          let long-s : length ss ≡ length rs = ap length e ∙ flipped-length rs _ in
+          let rest = flipped (drop d rs) (later ps qs) in
+          let both : ss ≡ front ++ rest =
+          e
+          ∙ ap (λ (M : List ℕ). flipped rs (flips M)) (sym whole)
+          ∙ law ps qs (length-take-le d ss (omega arith)) in
+          let first : ps ≡ front = ap (take d) both ∙ take-at front rest d long in
+          let second : qs ≡ rest = ap (drop d) both ∙ drop-at front rest d long in
+          sym whole
+          ∙ ap₂ (λ (p q : List ℕ). p ++ q) first
+          (F .only qs (second ∙ ap (λ (M : List ℕ). flipped (drop d rs) (later M qs)) first));
+    }
 
 -- the gates' flips, read off the complete runs from vs on the random bits rs and from us on the random bits ss
 abbrev pub runsFlips :
@@ -260,46 +292,19 @@ module _ {G : Gadget} (L : Lawful G) (n k g w : ℕ) (S : List (List ℕ)) (x : 
       front-length : length (front rs vs us) ≡ bitsTaken
       front-length = flipped-length (take bitsTaken rs) (flipsAt vs us) ∙ length-take-le bitsTaken rs enough
 
-      -- the law holds from x on where it holds from the next gate on
-      holds-step :
-          next rs vs us ≡ flipped (drop bitsTaken rs) (nextFlips rs vs us (front rs vs us) (next rs vs us))
-          → mapGates G n k g w S (x ∷ xs) rs vs us
-          ≡ flipped rs (runsFlips G n k g w S (x ∷ xs) rs (mapGates G n k g w S (x ∷ xs) rs vs us) vs us)
-      holds-step after =
-          subst (λ (M : List ℕ). M ≡ flipped rs (runsFlips G n k g w S (x ∷ xs) rs M vs us)) (sym (map-step rs vs us))
-          (ap (λ (M : List ℕ). front rs vs us ++ M) after ∙ sym (law-step (front rs vs us) (next rs vs us) front-length))
-
-      -- only the map has the law from x on where only it has the law from the next gate on
-      only-step :
-          (ss : List ℕ)
-          → ((qs : List ℕ)
-          → qs ≡ flipped (drop bitsTaken rs) (nextFlips rs vs us (front rs vs us) qs) → qs ≡ next rs vs us)
-          → ss ≡ flipped rs (runsFlips G n k g w S (x ∷ xs) rs ss vs us)
-          → ss ≡ mapGates G n k g w S (x ∷ xs) rs vs us
-      only-step ss after e =
-          let ps = take bitsTaken ss in
-          let qs = drop bitsTaken ss in
-          let whole : ps ++ qs ≡ ss = take-append-drop bitsTaken ss in
-          let long : length ss ≡ length rs = ap length e ∙ flipped-length rs _ in
-          let long-p : length ps ≡ bitsTaken = length-take-le bitsTaken ss (omega arith) in
-          let rest = flipped (drop bitsTaken rs) (nextFlips rs vs us ps qs) in
-          let both : ss ≡ front rs vs us ++ rest =
-          e
-          ∙ ap (λ (M : List ℕ). flipped rs (runsFlips G n k g w S (x ∷ xs) rs M vs us)) (sym whole)
-          ∙ law-step ps qs long-p in
-          let first : ps ≡ front rs vs us =
-          ap (take bitsTaken) both ∙ take-at (front rs vs us) rest bitsTaken front-length in
-          let second : qs ≡ rest = ap (drop bitsTaken) both ∙ drop-at (front rs vs us) rest bitsTaken front-length in
-          let is-next : qs ≡ next rs vs us =
-          after qs
-          (second ∙ ap (λ (M : List ℕ). flipped (drop bitsTaken rs) (nextFlips rs vs us M qs)) first) in
-          sym whole ∙ ap₂ (λ (p q : List ℕ). p ++ q) first is-next ∙ sym (map-step rs vs us)
+      -- the law from x on follows from that of the next gate on
+      map-fixed :
+          Fixed (drop bitsTaken rs) (nextFlips rs vs us (front rs vs us)) (next rs vs us)
+          → Fixed rs (λ ss. runsFlips G n k g w S (x ∷ xs) rs ss vs us) (mapGates G n k g w S (x ∷ xs) rs vs us)
+      map-fixed F =
+          subst (Fixed rs (λ ss. runsFlips G n k g w S (x ∷ xs) rs ss vs us)) (sym (map-step rs vs us))
+          (fixed-step bitsTaken rs (front rs vs us) (next rs vs us) _ (nextFlips rs vs us) enough front-length law-step F)
 
 -- the random bits of the gates that follow x
 rest-long :
-    (n : ℕ) (x : Gate) (xs : List Gate) (rs : List ℕ) → length rs ≡ totalOf (λ kd. draws kd n) (x ∷ xs)
-    → (draws (x .kind) n ≤ length rs) × (length (drop (draws (x .kind) n) rs) ≡ totalOf (λ kd. draws kd n) xs)
-unfolding totalOf
+    (n : ℕ) (x : Gate) (xs : List Gate) (rs : List ℕ) → length rs ≡ total (λ kd. draws kd n) (x ∷ xs)
+    → (draws (x .kind) n ≤ length rs) × (length (drop (draws (x .kind) n) rs) ≡ total (λ kd. draws kd n) xs)
+unfolding total
 rest-long n x xs rs e = (omega arith, omega (arith, length-drop (draws (x .kind) n) rs))
 
 next-plain :
@@ -321,43 +326,24 @@ flips-nil :
 unfolding gatesFlips
 flips-nil G n k w S rs v u = flipped-nil rs
 
--- the second run's random bits are the first's with the flips that the complete runs give
-pub map-gates-flips :
+-- the second run's random bits are the first's with the flips that the complete runs give, and no others are
+pub map-gates-fixed :
     {G : Gadget} (L : Lawful G) (n k g w : ℕ) (S : List (List ℕ)) (gs : List Gate) (rs vs us : List ℕ) → 1 ≤ n
-    → PlainGates (length S) gs → Placed n w S → length vs ≡ w → length us ≡ w
-    → length rs ≡ totalOf (λ kd. draws kd n) gs
-    → mapGates G n k g w S gs rs vs us
-    ≡ flipped rs (runsFlips G n k g w S gs rs (mapGates G n k g w S gs rs vs us) vs us)
+    → PlainGates (length S) gs → Placed n w S → length vs ≡ w → length us ≡ w → length rs ≡ total (λ kd. draws kd n) gs
+    → Fixed rs (λ ss. runsFlips G n k g w S gs rs ss vs us) (mapGates G n k g w S gs rs vs us)
 unfolding PlainGates
-map-gates-flips {G} L n k g w S [] rs vs us h P placed ev eu long =
-    map-nil G n k g w S rs vs us ∙ sym (flips-nil G n k w S rs _ _)
-map-gates-flips {G} L n k g w S (x ∷ xs) rs vs us h P placed ev eu long =
+map-gates-fixed {G} L n k g w S [] rs vs us h P placed ev eu long =
+    let none = map-nil G n k g w S rs vs us in
+    record {
+      holds = none ∙ sym (flips-nil G n k w S rs _ _);
+      only = λ ss e. e ∙ flips-nil G n k w S rs _ _ ∙ sym none;
+    }
+map-gates-fixed {G} L n k g w S (x ∷ xs) rs vs us h P placed ev eu long =
     let rest = rest-long n x xs rs long in
-    holds-step L n k g w S x xs (P .0) placed rs vs us ev eu (rest .0)
-    (map-gates-flips L n k (suc g) _ _ xs _ _ _ h
+    map-fixed L n k g w S x xs (P .0) placed rs vs us ev eu (rest .0)
+    (map-gates-fixed L n k (suc g) _ _ xs _ _ _ h
     (next-plain n w S x xs (P .1))
     (placed-step (x .kind) n w (x .left) (x .right) S h (P .0) placed)
     (next-length L n k g w S x xs rs vs ev)
     (next-length L n k g w S x xs _ us eu)
     (rest .1))
-
--- no other random bits are
-pub map-gates-only :
-    {G : Gadget} (L : Lawful G) (n k g w : ℕ) (S : List (List ℕ)) (gs : List Gate) (rs vs us ss : List ℕ) → 1 ≤ n
-    → PlainGates (length S) gs → Placed n w S → length vs ≡ w → length us ≡ w
-    → length rs ≡ totalOf (λ kd. draws kd n) gs
-    → ss ≡ flipped rs (runsFlips G n k g w S gs rs ss vs us) → ss ≡ mapGates G n k g w S gs rs vs us
-unfolding PlainGates
-map-gates-only {G} L n k g w S [] rs vs us ss h P placed ev eu long e =
-    e ∙ flips-nil G n k w S rs _ _ ∙ sym (map-nil G n k g w S rs vs us)
-map-gates-only {G} L n k g w S (x ∷ xs) rs vs us ss h P placed ev eu long e =
-    let rest = rest-long n x xs rs long in
-    only-step L n k g w S x xs (P .0) placed rs vs us ev eu (rest .0) ss
-    (λ qs.
-    map-gates-only L n k (suc g) _ _ xs _ _ _ qs h
-    (next-plain n w S x xs (P .1))
-    (placed-step (x .kind) n w (x .left) (x .right) S h (P .0) placed)
-    (next-length L n k g w S x xs rs vs ev)
-    (next-length L n k g w S x xs _ us eu)
-    (rest .1))
-    e

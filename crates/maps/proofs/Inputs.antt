@@ -2,7 +2,7 @@
 -- secrets differ by, the encodings of both secrets agree off the free share.
 -- Assumes nothing.
 use mathlib.Core.Path.{_≡_, refl, sym, ap, _∙_}
-use mathlib.Core.Bool.{Bool, true, false}
+use mathlib.Core.Bool.{Bool, true, false, cond}
 use mathlib.Core.List.{List, [], _∷_, _++_}
 use Prim.Native.Nat.{ℕ, zero, suc, _+_, _*_, _%_, _≤_, _<_}
 use native.Mathlib.Nat.{mul-zero}
@@ -11,9 +11,8 @@ use lib.Dec.{eqb, ltb}
 use lib.ListN.{length, getD, take, drop, length-append, List·getD-append}
 use lib.Seq.{getD-at, take-at, drop-append-add}
 use borrow.Author.Tests.{ltb-true, ltb-false, eqb-true, eqb-false, ne-eqb}
-use Rattle.tables.specs.Refusals.{pick}
-use Rattle.tables.specs.Runs.{xor}
-use Rattle.tables.proofs.Lists.{Bits, bits-cons, bits-take, bits-drop}
+use Rattle.tables.specs.Runs.{xor, Bits}
+use Rattle.tables.proofs.Lists.{bits-cons, bits-take, bits-drop}
 use Rattle.masks.specs.Shares.{sharesOf, upFrom}
 use Rattle.masks.specs.Codes.{xorAll, encode}
 use Rattle.masks.proofs.Sum.{sumOf, up-length, up-at}
@@ -86,7 +85,7 @@ flipped-none (t ∷ ts) (f ∷ fs) h none =
     rw (same, flipped-none ts fs (λ i. h (suc i)) (λ i. none (suc i)))
 
 -- flips are added, modulo 2
-pub flipped-adds :
+flipped-adds :
     (ts fs : List ℕ) → length ts ≡ length fs
     → sumOf (λ b. b) (flipped ts fs) % 2 ≡ (sumOf (λ b. b) ts + sumOf (λ b. b) fs) % 2
 unfolding flipped sumOf
@@ -97,7 +96,7 @@ flipped-adds (t ∷ ts) (f ∷ fs) e = omega (arith, flipped-adds ts fs (omega a
 
 -- d at number k, and 0 elsewhere
 abbrev onlyAt : ℕ → ℕ → ℕ → ℕ
-onlyAt k d s = pick (eqb s k) d 0
+onlyAt k d s = cond (eqb s k) d 0
 
 only-not : (k d s : ℕ) → (s ≡ k → ⊥) → onlyAt k d s ≡ 0
 only-not k d s n = rw (ne-eqb s k n)
@@ -105,7 +104,7 @@ only-not k d s n = rw (ne-eqb s k n)
 only-none : (k s : ℕ) → onlyAt k 0 s ≡ 0
 only-none k s = go (eqb s k)
   where
-    go : (t : Bool) → _≡_ {A = ℕ} (pick t 0 0) 0
+    go : (t : Bool) → _≡_ {A = ℕ} (cond t 0 0) 0
     go true = refl
     go false = refl
 
@@ -124,7 +123,7 @@ only-adds (suc c) s k d h l = go (eqb s k) refl (only-adds c (suc s) k d)
     go :
         (t : Bool) → eqb s k ≡ t
         → (suc s ≤ k → k < suc s + c → sumOf (λ b. b) (upFrom c (suc s) (onlyAt k d)) ≡ d)
-        → pick t d 0 + sumOf (λ b. b) (upFrom c (suc s) (onlyAt k d)) ≡ d
+        → cond t d 0 + sumOf (λ b. b) (upFrom c (suc s) (onlyAt k d)) ≡ d
     go true e f =
         let here = eqb-true s k e in
         omega (arith, only-past c (suc s) k d (omega arith))
@@ -147,7 +146,7 @@ zero-append (x ∷ xs) ys hx hy (suc i) = zero-append xs ys (λ j. hx (suc j)) h
 
 -- what one input flips
 abbrev pub flipsOf : ℕ → ℕ → ℕ → ℕ → List ℕ
-flipsOf o k x y = upFrom (2 * o) 1 (λ s. pick (eqb s k) (xor x y) 0)
+flipsOf o k x y = upFrom (2 * o) 1 (λ s. cond (eqb s k) (xor x y) 0)
 
 pub flips-long : (o k x y : ℕ) → length (flipsOf o k x y) ≡ 2 * o
 flips-long o k x y = up-length (2 * o) 1 (onlyAt k (xor x y))
@@ -185,7 +184,7 @@ input-flips-none o k (x ∷ xs) i =
     (zero-append (upFrom (2 * o) 1 (onlyAt k 0)) (inputFlips o k xs xs) (only-zero (2 * o) 1 k) (input-flips-none o k xs) i)
 
 -- the flips of input i
-pub input-flips-of :
+input-flips-of :
     (o k : ℕ) (xs ys : List ℕ) (i : ℕ) → length xs ≡ length ys → i < length xs
     → bitsOf o (inputFlips o k xs ys) i ≡ flipsOf o k (getD xs i 0) (getD ys i 0)
 unfolding inputFlips
@@ -211,7 +210,7 @@ input-bits o k xs ys ts i e h =
     )
 
 -- one input: where one of the bits is flipped, the last share stays
-pub last-kept :
+last-kept :
     (o k x y : ℕ) (bs : List ℕ) → 1 ≤ k → k ≤ 2 * o → length bs ≡ 2 * o → x ≤ 1 → y ≤ 1
     → xorAll x bs ≡ xorAll y (flipped bs (flipsOf o k x y))
 last-kept o k x y bs h l long hx hy =
@@ -222,7 +221,7 @@ last-kept o k x y bs h l long hx hy =
     xor-all x bs hx ∙ omega arith ∙ sym (xor-all y (flipped bs fs) hy)
 
 -- one input: off share k the groups agree
-pub group-off :
+group-off :
     (o k x y : ℕ) (bs : List ℕ) → 1 ≤ k → k ≤ sharesOf o → x ≤ 1 → y ≤ 1 → Bits bs → length bs ≡ 2 * o
     → (s : ℕ) → s < sharesOf o → (suc s ≡ k → ⊥)
     → getD (group x bs) s 0 ≡ getD (group y (flipped bs (flipsOf o k x y))) s 0
@@ -235,7 +234,9 @@ group-off o k x y bs h l hx hy hb long s hs off = go (ltb s (2 * o)) refl
     go true e =
         let low = ltb-true s (2 * o) e in
         let none : getD fs s 0 ≡ 0 =
-        up-at (2 * o) 1 (onlyAt k (xor x y)) s 0 low ∙ ap (onlyAt k (xor x y)) {x = 1 + s} {y = suc s} (omega arith) ∙ only-not k (xor x y) (suc s) off in
+        up-at (2 * o) 1 (onlyAt k (xor x y)) s 0 low
+        ∙ ap (onlyAt k (xor x y)) {x = 1 + s} {y = suc s} (omega arith)
+        ∙ only-not k (xor x y) (suc s) off in
         let kept : getD (flipped bs fs) s 0 ≡ getD bs s 0 =
         flipped-at bs fs s (omega arith) (omega (arith, flips-long o k x y)) ∙ omega (arith, hb s) in
         List·getD-append bs (xorAll x bs ∷ []) 0 s (omega arith)

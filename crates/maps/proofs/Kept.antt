@@ -9,22 +9,23 @@ use native.Mathlib.Nat.{mul-le-mul-left}
 use native.Mathlib.Omega.{arith}
 use lib.ListN.{length, getD, take, drop}
 use lib.Seq.{take-at, drop-at}
-use Rattle.tables.specs.Tables.{Table}
+use Rattle.tables.specs.Tables.{Table, total}
 use Rattle.tables.specs.Runs.{xor}
 use Rattle.tables.proofs.Lists.{All, bits-take, bits-drop}
-use Rattle.tables.proofs.Accept.{PlainGates, Plain}
+use Rattle.tables.proofs.Accept.{Plain}
 use Rattle.masks.specs.Shares.{sharesOf, upFrom}
 use Rattle.masks.specs.Gadgets.{isIn, Gadget}
-use Rattle.masks.specs.Wires.{originOf, Origin, inputShare, marks, draws, totalOf, inputShares, inputOrigins, maskedWires, origins}
+use Rattle.masks.specs.Wires.{originOf, Origin, inputShare, marks, draws, inputShares, inputOrigins, maskedWires, origins}
 use Rattle.masks.specs.Codes.{encode, maskedRun}
 use Rattle.masks.proofs.Sum.{up-length, up-at, up-all}
 use Rattle.masks.proofs.Each.{Each, each-append, each-up, each-rows, each-map}
 use Rattle.masks.proofs.Costs.{all-of, input-origins-length}
-use Rattle.maps.specs.Maps.{flipped, inputFlips, gatesFlips, tapeFlips}
+use Rattle.maps.specs.Maps.{flipped, inputFlips}
+use Rattle.maps.specs.Laws.{gatesFlips, tapeFlips}
 use Rattle.maps.specs.Claims.{isTape, areSecrets}
 use Rattle.maps.proofs.Inputs.{flipped-take, flipped-drop, flipped-at, input-flips-length, encode-off}
 use Rattle.maps.proofs.Flips.{gates-flips-length}
-use Rattle.maps.proofs.Begun.{secrets-long, secret-bits, tape-bits, front-long, rest-long, value-bits, values-solve, value-of-input}
+use Rattle.maps.proofs.Begun.{secrets-are, tape-is, tape-front-long, rest-long, plain-inputs, value-bits, values-solve, value-of-input}
 use Rattle.masks.proofs.Hiding.{Hiding, not-first}
 use Rattle.maps.proofs.Agree.{Alike, Kept, masked-agrees}
 
@@ -32,41 +33,51 @@ module _ {G : Gadget} (H : Hiding G) (o : ℕ) (t : Table) (P : Plain t) (k : �
     (xs ys ts ms : List ℕ) (hx : areSecrets t xs ≡ true) (hy : areSecrets t ys ≡ true) (ht : isTape G o t ts ≡ true)
     (hm : isTape G o t ms ≡ true)
     (law : ms ≡ flipped ts (tapeFlips G o t k xs ys (maskedRun G o t xs ts) (maskedRun G o t ys ms))) where
+  -- the values of both runs, and the tape bits of the inputs
+  abbrev v : ℕ → ℕ
+  v p = getD (maskedRun G o t xs ts) p 0
+
+  abbrev u : ℕ → ℕ
+  u p = getD (maskedRun G o t ys ms) p 0
+
+  abbrev m : ℕ
+  m = 2 * o * t .inputs
+
+  -- what the gates flip
+  abbrev fs : List ℕ
+  fs = gatesFlips G (sharesOf o) k (sharesOf o * t .inputs) (inputShares (sharesOf o) (t .inputs)) (t .gates) v u
+
   -- a wire with an origin that does not carry k
   abbrev Same : ℕ → Origin → Type 0
-  Same w x =
-      isIn k (marks G x) ≡ false → getD (maskedRun G o t xs ts) w 0 ≡ getD (maskedRun G o t ys ms) w 0
+  Same w x = isIn k (marks G x) ≡ false → v w ≡ u w
 
   same-length : length xs ≡ length ys
-  same-length = secrets-long (H .lawful) o t P xs ts hx ht ∙ sym (secrets-long (H .lawful) o t P ys ms hy hm)
+  same-length = secrets-are t xs hx .0 ∙ sym (secrets-are t ys hy .0)
 
-  flips-long : length (inputFlips o k xs ys) ≡ 2 * o * t .inputs
-  flips-long =
-      input-flips-length o k xs ys same-length
-      ∙ ap (λ (y : ℕ). 2 * o * y) (secrets-long (H .lawful) o t P xs ts hx ht)
+  flips-long : length (inputFlips o k xs ys) ≡ m
+  flips-long = input-flips-length o k xs ys same-length ∙ rw (secrets-are t xs hx .0)
 
-  front : take (2 * o * t .inputs) ms ≡ flipped (take (2 * o * t .inputs) ts) (inputFlips o k xs ys)
+  front : take m ms ≡ flipped (take m ts) (inputFlips o k xs ys)
   unfolding tapeFlips
   front =
-      ap (take (2 * o * t .inputs)) law
-      ∙ flipped-take (2 * o * t .inputs) ts _
-      ∙ ap (flipped (take (2 * o * t .inputs) ts)) (take-at (inputFlips o k xs ys) _ _ flips-long)
+      ap (take m) law
+      ∙ flipped-take m ts _
+      ∙ ap (flipped (take m ts)) (take-at (inputFlips o k xs ys) _ _ flips-long)
 
   -- input share s of input i
   input-same :
       (i s : ℕ) → i < t .inputs → s < sharesOf o → (suc s ≡ k → ⊥)
-      → getD (maskedRun G o t xs ts) (sharesOf o * i + s) 0 ≡ getD (maskedRun G o t ys ms) (sharesOf o * i + s) 0
+      → v (sharesOf o * i + s) ≡ u (sharesOf o * i + s)
   input-same i s hi hs off =
       let n = sharesOf o in
       let below : n * i + s < n * t .inputs = omega (arith, mul-le-mul-left n hi) in
-      let m = 2 * o * t .inputs in
       value-of-input (H .lawful) o t P xs ts hx ht (n * i + s) below
       ∙ encode-off o k xs ys (take m ts) k1 kn same-length
-      (secret-bits (H .lawful) o t P xs ts hx ht)
-      (secret-bits (H .lawful) o t P ys ms hy hm)
-      (bits-take m ts (tape-bits (H .lawful) o t P xs ts hx ht))
-      (front-long (H .lawful) o t P xs ts hx ht)
-      i s (omega (arith, secrets-long (H .lawful) o t P xs ts hx ht)) hs off
+      (secrets-are t xs hx .1)
+      (secrets-are t ys hy .1)
+      (bits-take m ts (tape-is G o t ts ht .1))
+      (tape-front-long (H .lawful) o t ts (tape-is G o t ts ht .0) ∙ rw (secrets-are t xs hx .0))
+      i s (omega (arith, secrets-are t xs hx .0)) hs off
       ∙ ap (λ (l : List ℕ). getD (encode o ys l) (n * i + s) 0) (sym front)
       ∙ sym (value-of-input (H .lawful) o t P ys ms hy hm (n * i + s) below)
 
@@ -78,15 +89,10 @@ module _ {G : Gadget} (H : Hiding G) (o : ℕ) (t : Table) (P : Plain t) (k : �
       (λ i hi.
       each-up Same n 0 (0 + n * i) (λ s. inputShare i s)
       (λ s hs lacks.
-      subst (λ (w : ℕ). getD (maskedRun G o t xs ts) w 0 ≡ getD (maskedRun G o t ys ms) w 0)
-      {x = n * i + s}
-      {y = 0 + n * i + s}
-      (omega arith)
+      subst (λ (w : ℕ). v w ≡ u w) {x = n * i + s} {y = 0 + n * i + s} (omega arith)
       (input-same i s hi hs (λ e. not-first k (suc (0 + s)) [] lacks .0 (omega arith)))))
 
-  inputs-alike :
-      All (Alike (sharesOf o) (λ p. getD (maskedRun G o t xs ts) p 0) (λ p. getD (maskedRun G o t ys ms) p 0) k)
-      (inputShares (sharesOf o) (t .inputs))
+  inputs-alike : All (Alike (sharesOf o) v u k) (inputShares (sharesOf o) (t .inputs))
   inputs-alike =
       let n = sharesOf o in
       up-all _ (t .inputs) 0 (λ i. upFrom n (n * i) (λ w. w))
@@ -98,22 +104,10 @@ module _ {G : Gadget} (H : Hiding G) (o : ℕ) (t : Table) (P : Plain t) (k : �
       ))
 
   random-flips :
-      (q : ℕ) → q < totalOf (λ kd. draws kd (sharesOf o)) (t .gates)
-      → getD (drop (2 * o * t .inputs) ms) (0 + q) 0
-      ≡ xor (getD (drop (2 * o * t .inputs) ts) (0 + q) 0)
-      (getD
-      (gatesFlips G (sharesOf o) k (sharesOf o * t .inputs) (inputShares (sharesOf o) (t .inputs)) (t .gates)
-      (λ p. getD (maskedRun G o t xs ts) p 0)
-      (λ p. getD (maskedRun G o t ys ms) p 0))
-      q
-      0)
+      (q : ℕ) → q < total (λ kd. draws kd (sharesOf o)) (t .gates)
+      → getD (drop m ms) (0 + q) 0 ≡ xor (getD (drop m ts) (0 + q) 0) (getD fs q 0)
   unfolding tapeFlips
   random-flips q h =
-      let m = 2 * o * t .inputs in
-      let fs =
-      gatesFlips G (sharesOf o) k (sharesOf o * t .inputs) (inputShares (sharesOf o) (t .inputs)) (t .gates)
-      (λ p. getD (maskedRun G o t xs ts) p 0)
-      (λ p. getD (maskedRun G o t ys ms) p 0) in
       let rest : drop m ms ≡ flipped (drop m ts) fs =
       ap (drop m) law
       ∙ flipped-drop m ts _
@@ -122,22 +116,22 @@ module _ {G : Gadget} (H : Hiding G) (o : ℕ) (t : Table) (P : Plain t) (k : �
       rw e
       (ap (λ (l : List ℕ). getD l q 0) rest
       ∙ flipped-at (drop m ts) fs q
-      (omega (arith, rest-long (H .lawful) o t P xs ts hx ht))
+      (omega (arith, rest-long (H .lawful) o t ts (tape-is G o t ts ht .0)))
       (omega (
         arith,
         gates-flips-length G (sharesOf o) k (sharesOf o * t .inputs) (inputShares (sharesOf o) (t .inputs)) (t .gates)
-            (λ p. getD (maskedRun G o t xs ts) p 0)
-            (λ p. getD (maskedRun G o t ys ms) p 0),
+            v
+            u,
       )))
 
-  gates-kept : Each (Kept G k (λ p. getD (maskedRun G o t xs ts) p 0) (λ p. getD (maskedRun G o t ys ms) p 0)) (sharesOf o * t .inputs) (maskedWires G o t)
+  gates-kept : Each (Kept G k v u) (sharesOf o * t .inputs) (maskedWires G o t)
   gates-kept =
       let n = sharesOf o in
       masked-agrees H n 0 (n * t .inputs) 0 k (inputShares n (t .inputs)) (t .gates) _ _ _ _ (omega arith)
-      (subst (λ (y : ℕ). PlainGates y (t .gates)) (sym (up-length (t .inputs) 0 _)) (P .gates))
+      (plain-inputs n t P)
       (value-bits (H .lawful) o t P xs ts hx ht)
       (value-bits (H .lawful) o t P ys ms hy hm)
-      (bits-drop (2 * o * t .inputs) ts (tape-bits (H .lawful) o t P xs ts hx ht))
+      (bits-drop m ts (tape-is G o t ts ht .1))
       (values-solve (H .lawful) o t P xs ts hx ht)
       (values-solve (H .lawful) o t P ys ms hy hm)
       random-flips

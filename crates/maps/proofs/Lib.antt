@@ -1,6 +1,7 @@
--- Laws of the map, demands 2 and 3, and document 01's examples.
+-- Laws of the map, and demands 2 and 3.
 pub mod Bits
 pub mod Count
+pub mod Faults
 pub mod Free
 pub mod Inputs
 pub mod Flips
@@ -14,4 +15,3 @@ pub mod Computing
 pub mod Written
 pub mod Whole
 pub mod Assurance
-pub mod Examples

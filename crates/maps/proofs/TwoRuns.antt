@@ -1,51 +1,35 @@
 -- The mapped tape is document 01's: in the two complete runs the tapes differ exactly where its rules say, and no other
 -- tape does. As the rules treat both runs alike, mapping from y to x leads back.
 -- Assumes nothing.
-use mathlib.Core.Path.{_≡_, refl, sym, ap, ap₂, _∙_, subst}
+use mathlib.Core.Path.{_≡_, sym, ap, ap₂, _∙_, subst}
 use mathlib.Core.Bool.{true}
 use mathlib.Core.List.{List, _++_, map}
-use Prim.Native.Nat.{ℕ, _+_, _*_, _≤_}
+use Prim.Native.Nat.{ℕ, _*_}
 use native.Mathlib.Omega.{arith}
 use lib.Dec.{eqb}
-use lib.ListN.{length, getD, take, drop, length-drop, take-append-drop}
-use lib.Seq.{length-take-le, take-at, drop-at}
+use lib.ListN.{length, getD, take, drop}
+use lib.Seq.{take-at, drop-at}
 use borrow.Author.Tests.{eq-eqb}
 use Rattle.tables.specs.Tables.{Table}
-use Rattle.tables.specs.Runs.{runFrom}
+use Rattle.tables.specs.Runs.{runFrom, Bits}
 use Rattle.tables.proofs.Tests.{and-intro}
-use Rattle.tables.proofs.Lists.{Bits}
-use Rattle.tables.proofs.Accept.{PlainGates, Plain}
+use Rattle.tables.proofs.Accept.{Plain}
 use Rattle.masks.specs.Shares.{sharesOf}
 use Rattle.masks.specs.Gadgets.{Gadget}
-use Rattle.masks.specs.Wires.{driverOf, draws, totalOf, inputShares, maskedWires, tapeLong}
+use Rattle.masks.specs.Wires.{driverOf, inputShares, maskedWires, tapeLong}
 use Rattle.masks.specs.Codes.{encode, maskedRun}
-use Rattle.masks.proofs.Sum.{up-length}
 use Rattle.masks.proofs.Lawful.{Lawful}
-use Rattle.masks.proofs.Costs.{masked-tape}
 use Rattle.masks.proofs.Placed.{placed-inputs}
-use Rattle.masks.proofs.Codes.{encode-length}
-use Rattle.maps.specs.Maps.{flipped, inputFlips, mapGates, gatesFlips, mappedAt, tapeFlips}
-use Rattle.maps.specs.Claims.{allBits, isTape, areSecrets, TwoRuns}
+use Rattle.maps.specs.Maps.{flipped, inputFlips, mapGates, mappedAt}
+use Rattle.maps.specs.Laws.{gatesFlips, tapeFlips}
+use Rattle.maps.specs.Claims.{allBits, isTape, areSecrets}
+use Rattle.maps.specs.Laws.{TwoRuns}
 use Rattle.maps.proofs.Bits.{bits-all}
-use Rattle.maps.proofs.Inputs.{
-  flipped-length,
-  flipped-bits,
-  flipped-twice,
-  flipped-none,
-  input-flips-length,
-  input-flips-sym,
-  input-flips-none,
-  zero-append,
-}
-use Rattle.maps.proofs.Begun.{run-is, secrets-are, tape-is}
-use Rattle.maps.proofs.Flips.{
-  flipped-split,
-  runsFlips,
-  gates-flips-sym,
-  gates-flips-none,
-  map-gates-flips,
-  map-gates-only,
-}
+use Rattle.maps.proofs.Inputs.{flipped-length, flipped-bits, flipped-twice, flipped-none, input-flips-length}
+use Rattle.maps.proofs.Inputs.{input-flips-sym, input-flips-none, zero-append}
+use Rattle.maps.proofs.Begun.{run-is, secrets-are, tape-is, enough, tape-front-long, rest-long, shares-long, plain-inputs}
+use Rattle.maps.proofs.Flips.{flipped-split, runsFlips, gates-flips-sym, gates-flips-none, Fixed, fixed-step}
+use Rattle.maps.proofs.Flips.{map-gates-fixed}
 
 pub is-tape :
     (G : Gadget) (o : ℕ) (t : Table) (ts : List ℕ) → length ts ≡ tapeLong G o t → Bits ts → isTape G o t ts ≡ true
@@ -55,7 +39,7 @@ is-tape G o t ts long bits =
     (bits-all ts bits)
 
 -- swapping the secrets and their runs changes nothing
-pub tape-flips-sym :
+tape-flips-sym :
     (G : Gadget) (o : ℕ) (t : Table) (k : ℕ) (xs ys vs us : List ℕ) → length xs ≡ length ys
     → tapeFlips G o t k xs ys vs us ≡ tapeFlips G o t k ys xs us vs
 unfolding tapeFlips
@@ -63,7 +47,7 @@ tape-flips-sym G o t k xs ys vs us e =
     ap₂ (λ (f h : List ℕ). f ++ h) (input-flips-sym o k xs ys e) (gates-flips-sym G (sharesOf o) k _ _ (t .gates) _ _)
 
 -- one run against itself flips nothing
-pub tape-flips-none :
+tape-flips-none :
     (G : Gadget) → ((k i j : ℕ) → G .flip k i j 0 0 ≡ 0) → (o : ℕ) (t : Table) (k : ℕ) (xs vs : List ℕ) (i : ℕ)
     → getD (tapeFlips G o t k xs xs vs vs) i 0 ≡ 0
 unfolding tapeFlips
@@ -101,34 +85,11 @@ module _ {G : Gadget} (L : Lawful G) (t : Table) (o k : ℕ) (P : Plain t) (xs y
       values
       (encode o ys ps)
 
-  mapped-is : mappedAt G o t k xs ys ts ≡ front ++ rest
-  unfolding mappedAt
-  mapped-is = refl
-
-  enough : inputBits ≤ length ts
-  enough = omega (arith, masked-tape L o t)
-
-  rest-long : length (drop inputBits ts) ≡ totalOf (λ kd. draws kd (sharesOf o)) (t .gates)
-  rest-long = length-drop inputBits ts ∙ omega (arith, masked-tape L o t)
-
-  take-long : length (take inputBits ts) ≡ inputBits
-  take-long = length-take-le inputBits ts enough
-
   front-long : length front ≡ inputBits
-  front-long = flipped-length (take inputBits ts) (inputFlips o k xs ys) ∙ take-long
+  front-long = flipped-length (take inputBits ts) (inputFlips o k xs ys) ∙ tape-front-long L o t ts long
 
   flips-long : length (inputFlips o k xs ys) ≡ inputBits
   flips-long = input-flips-length o k xs ys (long-x ∙ sym long-y) ∙ rw long-x
-
-  values-long : length values ≡ sharesOf o * t .inputs
-  values-long = encode-length o xs (take inputBits ts) (take-long ∙ rw long-x) ∙ rw long-x
-
-  others-long : length (encode o ys front) ≡ sharesOf o * t .inputs
-  others-long = encode-length o ys front (front-long ∙ rw long-y) ∙ rw long-y
-
-  plain : PlainGates (length (inputShares (sharesOf o) (t .inputs))) (t .gates)
-  plain =
-      subst (λ (z : ℕ). PlainGates z (t .gates)) (sym (up-length (t .inputs) 0 _)) (P .gates)
 
   -- the law of a second tape in two parts
   law-parts :
@@ -142,7 +103,7 @@ module _ {G : Gadget} (L : Lawful G) (t : Table) (o k : ℕ) (P : Plain t) (xs y
       let second : maskedRun G o t ys (ps ++ qs) ≡ runFrom hs qs (encode o ys ps) =
       run-is G o t ys (ps ++ qs)
       ∙ ap₂ (λ (p q : List ℕ). runFrom hs q (encode o ys p)) (take-at ps qs inputBits e) (drop-at ps qs inputBits e) in
-      flipped-split inputBits ts (inputFlips o k xs ys) _ flips-long enough
+      flipped-split inputBits ts (inputFlips o k xs ys) _ flips-long (enough L o t ts long)
       ∙ ap₂
       (λ (A B : List ℕ).
       front
@@ -151,65 +112,32 @@ module _ {G : Gadget} (L : Lawful G) (t : Table) (o k : ℕ) (P : Plain t) (xs y
       (run-is G o t xs ts)
       second
 
-  -- the mapped tape has the law
-  pub mapped-flips :
-      mappedAt G o t k xs ys ts
-      ≡ flipped ts (tapeFlips G o t k xs ys (maskedRun G o t xs ts) (maskedRun G o t ys (mappedAt G o t k xs ys ts)))
-  mapped-flips =
-      let holds =
-      map-gates-flips L (sharesOf o) k 0 (sharesOf o * t .inputs) _ (t .gates) (drop inputBits ts) values _
+  -- the mapped tape has the law, and no other tape has it
+  mapped-fixed :
+      Fixed ts (λ us. tapeFlips G o t k xs ys (maskedRun G o t xs ts) (maskedRun G o t ys us)) (mappedAt G o t k xs ys ts)
+  unfolding mappedAt
+  mapped-fixed =
+      fixed-step inputBits ts front rest _ restFlips (enough L o t ts long) front-long law-parts
+      (map-gates-fixed L (sharesOf o) k 0 (sharesOf o * t .inputs) _ (t .gates) (drop inputBits ts) values _
       (omega arith)
-      plain
+      (plain-inputs (sharesOf o) t P)
       (placed-inputs (sharesOf o) (t .inputs))
-      values-long
-      others-long
-      rest-long in
-      subst
-      (λ (M : List ℕ). M ≡ flipped ts (tapeFlips G o t k xs ys (maskedRun G o t xs ts) (maskedRun G o t ys M)))
-      (sym mapped-is)
-      (ap (λ (M : List ℕ). front ++ M) holds ∙ sym (law-parts front rest front-long))
-
-  -- only the mapped tape has it
-  pub mapped-only :
-      (us : List ℕ) → us ≡ flipped ts (tapeFlips G o t k xs ys (maskedRun G o t xs ts) (maskedRun G o t ys us))
-      → us ≡ mappedAt G o t k xs ys ts
-  mapped-only us e =
-      let ps = take inputBits us in
-      let qs = drop inputBits us in
-      let whole : ps ++ qs ≡ us = take-append-drop inputBits us in
-      let long-u : length us ≡ length ts = ap length e ∙ flipped-length ts _ in
-      let long-p : length ps ≡ inputBits = length-take-le inputBits us (omega (arith, enough)) in
-      let after = flipped (drop inputBits ts) (restFlips ps qs) in
-      let both : us ≡ front ++ after =
-      e
-      ∙ ap (λ (M : List ℕ). flipped ts (tapeFlips G o t k xs ys (maskedRun G o t xs ts) (maskedRun G o t ys M)))
-      (sym whole)
-      ∙ law-parts ps qs long-p in
-      let first : ps ≡ front = ap (take inputBits) both ∙ take-at front after inputBits front-long in
-      let second : qs ≡ after = ap (drop inputBits) both ∙ drop-at front after inputBits front-long in
-      let is-rest : qs ≡ rest =
-      map-gates-only L (sharesOf o) k 0 (sharesOf o * t .inputs) _ (t .gates) (drop inputBits ts) values _ qs
-      (omega arith)
-      plain
-      (placed-inputs (sharesOf o) (t .inputs))
-      values-long
-      others-long
-      rest-long
-      (second ∙ ap (λ (M : List ℕ). flipped (drop inputBits ts) (restFlips M qs)) first) in
-      sym whole ∙ ap₂ (λ (p q : List ℕ). p ++ q) first is-rest ∙ sym mapped-is
+      (shares-long o (t .inputs) xs _ long-x (tape-front-long L o t ts long))
+      (shares-long o (t .inputs) ys front long-y front-long)
+      (rest-long L o t ts long))
 
   pub mapped-length : length (mappedAt G o t k xs ys ts) ≡ tapeLong G o t
-  mapped-length = ap length mapped-flips ∙ flipped-length ts _ ∙ long
+  mapped-length = ap length (mapped-fixed .holds) ∙ flipped-length ts _ ∙ long
 
-  pub mapped-bits : Bits ts → Bits (mappedAt G o t k xs ys ts)
-  mapped-bits bits = subst Bits (sym mapped-flips) (flipped-bits ts _ bits)
+  mapped-bits : Bits ts → Bits (mappedAt G o t k xs ys ts)
+  mapped-bits bits = subst Bits (sym (mapped-fixed .holds)) (flipped-bits ts _ bits)
 
 -- equal secrets map a tape to itself
 pub mapped-itself :
     {G : Gadget} (L : Lawful G) → ((k i j : ℕ) → G .flip k i j 0 0 ≡ 0) → (t : Table) (o k : ℕ) → Plain t
     → (xs ts : List ℕ) → length xs ≡ t .inputs → length ts ≡ tapeLong G o t → Bits ts → mappedAt G o t k xs xs ts ≡ ts
 mapped-itself {G} L none t o k P xs ts long-x long bits =
-    sym (mapped-only L t o k P xs xs ts long-x long-x long ts
+    sym (mapped-fixed L t o k P xs xs ts long-x long-x long .only ts
     (sym (flipped-none ts _ bits (tape-flips-none G none o t k xs (maskedRun G o t xs ts)))))
 
 -- the map is document 01's
@@ -219,9 +147,9 @@ pub two-runs :
 two-runs {G} L none t o k P =
     record {
       flips = λ xs ys ts hx hy ht.
-          mapped-flips L t o k P xs ys ts (secrets-are t xs hx .0) (secrets-are t ys hy .0) (tape-is G o t ts ht .0);
+          mapped-fixed L t o k P xs ys ts (secrets-are t xs hx .0) (secrets-are t ys hy .0) (tape-is G o t ts ht .0) .holds;
       only = λ xs ys ts us hx hy ht.
-          mapped-only L t o k P xs ys ts (secrets-are t xs hx .0) (secrets-are t ys hy .0) (tape-is G o t ts ht .0) us;
+          mapped-fixed L t o k P xs ys ts (secrets-are t xs hx .0) (secrets-are t ys hy .0) (tape-is G o t ts ht .0) .only us;
       itself = λ xs ts hx ht.
           mapped-itself L none t o k P xs ts (secrets-are t xs hx .0) (tape-is G o t ts ht .0) (tape-is G o t ts ht .1);
     }
@@ -248,11 +176,11 @@ module _ {G : Gadget} (L : Lawful G) (t : Table) (o k : ℕ) (P : Plain t) (xs y
       let vx = maskedRun G o t xs ts in
       let vy = maskedRun G o t ys us in
       let there : us ≡ flipped ts (tapeFlips G o t k xs ys vx vy) =
-      mapped-flips L t o k P xs ys ts long-x long-y (tape .0) in
+      mapped-fixed L t o k P xs ys ts long-x long-y (tape .0) .holds in
       let back : flipped us (tapeFlips G o t k xs ys vx vy) ≡ ts =
       ap (λ (M : List ℕ). flipped M (tapeFlips G o t k xs ys vx vy)) there
       ∙ flipped-twice ts (tapeFlips G o t k xs ys vx vy) (tape .1) in
       let law : ts ≡ flipped us (tapeFlips G o t k ys xs vy vx) =
       sym back ∙ ap (flipped us) (tape-flips-sym G o t k xs ys vx vy (long-x ∙ sym long-y)) in
       let long-u = mapped-length L t o k P xs ys ts long-x long-y (tape .0) in
-      sym (mapped-only L t o k P ys xs us long-y long-x long-u ts law)
+      sym (mapped-fixed L t o k P ys xs us long-y long-x long-u .only ts law)

@@ -2,48 +2,30 @@
 -- of the complete runs, and the law of the two runs holds; only the mapped tape satisfies it.
 -- Assumes nothing.
 use mathlib.Core.Path.{_≡_, refl, sym, ap, ap₂, _∙_, subst}
-use mathlib.Core.Bool.{Bool}
+use mathlib.Core.Bool.{Bool, cond}
 use mathlib.Core.List.{List, [], _∷_, _++_, map, map-append}
 use Prim.Native.Nat.{ℕ, zero, suc, _+_, _-_, _*_, _≤_, _<_}
 use native.Mathlib.Nat.{mul-le-mul-left}
 use native.Mathlib.Omega.{arith}
 use lib.ListN.{length, getD, length-append, List·getD-append}
-use Rattle.tables.specs.Refusals.{pick}
-use Rattle.tables.specs.Tables.{Kind, NOT, XOR, AND, RANDOM, UNKNOWN, Gate, gate}
+use Rattle.tables.specs.Tables.{Kind, NOT, XOR, AND, RANDOM, UNKNOWN, Gate, gate, noGate, total}
 use Rattle.tables.specs.Runs.{xor, drawn, runFrom, randoms}
 use Rattle.tables.proofs.Lists.{All}
 use Rattle.tables.proofs.Run.{run-keep}
 use Rattle.tables.proofs.Accept.{PlainGate, PlainGates}
 use Rattle.masks.specs.Shares.{upFrom, inTurn, Pair, pairs, tri, row}
 use Rattle.masks.specs.Gadgets.{first, fifth, isw}
-use Rattle.masks.specs.Wires.{
-  draws,
-  totalOf,
-  wire,
-  Origin,
-  andPart,
-  sum,
-  driverOf,
-  share,
-  adding,
-  pairWires,
-  rowWires,
-  pairWire,
-  andWires,
-  newWires,
-  newShares,
-  cost,
-  masked,
-}
+use Rattle.masks.specs.Wires.{draws, wire, Origin, andPart, sum, driverOf, share, adding}
+use Rattle.masks.specs.Wires.{pairWires, rowWires, pairWire, andWires, newWires, newShares, cost, masked}
 use Rattle.masks.proofs.Sum.{up-length, up-all}
 use Rattle.masks.proofs.Rows.{pairs-length, pairs-in, row-length, tri-closed}
 use Rattle.masks.proofs.Lawful.{isw-lawful}
 use Rattle.masks.proofs.Costs.{masked-draws}
 use Rattle.masks.proofs.Placed.{Stands, Placed, share-below, placed-at, placed-step}
 use Rattle.maps.specs.Maps.{flipped, mapGates}
-use Rattle.maps.specs.Walk.{offset, inRow, flatFlip, gateDiffers, noGate, walkedBit, afterGate, walked, CrossOf, Crossing}
+use Rattle.maps.specs.Walk.{offset, inRow, flatFlip, gateDiffers, walkedBit, afterGate, walked, CrossOf, Crossing}
 use Rattle.maps.proofs.Flat.{flatFlips, gates-apart, flat-flips, tests-row}
-use Rattle.maps.proofs.Flips.{map-gates-only}
+use Rattle.maps.proofs.Flips.{map-gates-fixed}
 
 -- a product differs alike where the values of its wires are the same
 pub differs-same :
@@ -72,7 +54,7 @@ pub record Walked (T : ℕ → Bool) (m q : ℕ) (gs : List Gate) (rs vs us ss :
 pub walked-law :
     (T : ℕ → Bool) (m q w : ℕ) (gs : List Gate) (rs vs us : List ℕ) → length vs ≡ w → length us ≡ w
     → length rs ≡ randoms gs → Crossing w gs → Walked T m q gs rs vs us (walked T m q gs rs vs us)
-unfolding walked flatFlips runFrom randoms flipped Crossing
+unfolding walked flatFlips runFrom total flipped Crossing
 walked-law T m q w [] [] vs us ev eu er c = record { long = refl; law = refl }
 walked-law T m q w [] (r ∷ rs) vs us ev eu er c = absurd (omega arith)
 walked-law T m q w (g ∷ gs) rs vs us ev eu er c =
@@ -105,10 +87,12 @@ walked-law T m q w (g ∷ gs) rs vs us ev eu er c =
         let ss = walked T m (afterGate RANDOM m q) gs bs (vs ++ (b ∷ [])) (us ++ (z ∷ [])) in
         let v′ : ℕ → ℕ = λ p. getD (runFrom gs bs (vs ++ (b ∷ []))) p 0 in
         let u′ : ℕ → ℕ = λ p. getD (runFrom gs ss (us ++ (z ∷ []))) p 0 in
-        let g0 = differs-same (λ p. getD vs p 0) (λ p. getD us p 0) v′ u′ (getD gs 0 noGate) w (c .one) (keeps gs bs vs b w ev) (keeps gs ss us z w eu) in
-        let g2 = differs-same (λ p. getD vs p 0) (λ p. getD us p 0) v′ u′ (getD gs 2 noGate) w (c .other) (keeps gs bs vs b w ev) (keeps gs ss us z w eu) in
+        let g0 = differs-same (λ p. getD vs p 0) (λ p. getD us p 0) v′ u′ (getD gs 0 noGate) w (c .one)
+        (keeps gs bs vs b w ev) (keeps gs ss us z w eu) in
+        let g2 = differs-same (λ p. getD vs p 0) (λ p. getD us p 0) v′ u′ (getD gs 2 noGate) w (c .other)
+        (keeps gs bs vs b w ev) (keeps gs ss us z w eu) in
         let same : z ≡ xor b (flatFlip T q gs v′ u′) =
-        ap₂ (λ (d e : ℕ). xor b (pick (T q) (xor d e) 0)) g0 g2 in
+        ap₂ (λ (d e : ℕ). xor b (cond (T q) (xor d e) 0)) g0 g2 in
         record { long = omega (arith, x .long); law = ap₂ (λ (h : ℕ) (l : List ℕ). h ∷ l) same (x .law) }
     go (UNKNOWN k) l r rs er c rec =
         let x = rec q rs 0 0 (omega arith) in
@@ -235,7 +219,7 @@ crossing-masked n g w S (y ∷ ys) h x P =
 -- the walk's bits are the map's
 pub walked-mapped :
     (n d g w : ℕ) (S : List (List ℕ)) (xs : List Gate) (rs vs us : List ℕ) → 2 ≤ n → d < n → PlainGates (length S) xs
-    → Placed n w S → length vs ≡ w → length us ≡ w → length rs ≡ totalOf (λ kd. draws kd n) xs
+    → Placed n w S → length vs ≡ w → length us ≡ w → length rs ≡ total (λ kd. draws kd n) xs
     → walked (inRow (offset n d) (offset n (suc d))) (tri n) 0 (map driverOf (masked isw n g w S xs)) rs vs us
     ≡ mapGates isw n (suc d) g w S xs rs vs us
 walked-mapped n d g w S xs rs vs us hn hd x P ev eu er =
@@ -245,7 +229,7 @@ walked-mapped n d g w S xs rs vs us hn hd x P ev eu er =
     let hr : length rs ≡ randoms gs = er ∙ sym (masked-draws isw-lawful n g w S xs) in
     let walk = walked-law T (tri n) 0 w gs rs vs us ev eu hr (crossing-masked n g w S xs (omega arith) x P) in
     let some : 1 ≤ tri n = some-pair n hn in
-    map-gates-only isw-lawful n (suc d) g w S xs rs vs us ss (omega arith) x P ev eu er
+    map-gates-fixed isw-lawful n (suc d) g w S xs rs vs us (omega arith) x P ev eu er .only ss
     (walk .law
     ∙ ap (flipped rs)
     (flat-flips T n (suc d) g w (length S) S xs

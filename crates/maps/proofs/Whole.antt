@@ -1,9 +1,9 @@
 -- Demands 2 and 3 and the further laws, for every accepted table and order: `demands` and `laws` are what a visitor looks for.
 -- Assumes nothing.
 use mathlib.Core.Path.{_≡_, refl, sym, ap, subst}
-use mathlib.Core.Bool.{true, _&&_}
+use mathlib.Core.Bool.{true, false, _&&_}
 use mathlib.Core.List.{List, [], _∷_}
-use Prim.Native.Nat.{ℕ, _+_, _≤_}
+use Prim.Native.Nat.{ℕ, _+_, _≤_, _<_}
 use native.Mathlib.Omega.{arith}
 use borrow.Author.Tests.{leb-true, eqb-true, eq-eqb}
 use lib.Dec.{leb, eqb}
@@ -12,18 +12,21 @@ use Rattle.tables.specs.Refusals.{passed}
 use Rattle.tables.specs.Tables.{Table, wires, tableOf, tableFault, randomFault}
 use Rattle.tables.specs.Runs.{readAll}
 use Rattle.tables.proofs.Tests.{and-true, and-intro}
-use Rattle.tables.proofs.Lists.{All}
+use Rattle.tables.proofs.Lists.{All, all-append, all-map}
 use Rattle.tables.proofs.Accept.{Plain, accepted-plain}
-use Rattle.masks.specs.Gadgets.{Gadget}
+use Rattle.masks.specs.Shares.{sharesOf}
+use Rattle.masks.specs.Gadgets.{isIn, Gadget}
 use Rattle.masks.specs.Wires.{Origin, marks, maskedTable, origins, tapeLong, inputShare}
 use Rattle.masks.specs.Codes.{maskedRun}
-use Rattle.masks.specs.Says.{orderOk}
+use Rattle.masks.specs.Says.{orderOk, originAt}
+use Rattle.masks.proofs.Lawful.{Lawful, isw-lawful}
 use Rattle.masks.proofs.Each.{each-at}
-use Rattle.maps.specs.Maps.{freeShare, mappedAt, mapped}
-use Rattle.maps.specs.Claims.{accepted, isTape, areSecrets, areProbes, allBelow, allBits, same, Hides, Free, Demands, Laws}
+use Rattle.maps.specs.Maps.{ofEach, single, carried, freeShare, mappedAt, mapped}
+use Rattle.maps.specs.Claims.{accepted, isTape, areSecrets, areProbes, allBelow, allBits, same, Hides, Demands}
+use Rattle.maps.specs.Laws.{Free, Laws}
 use Rattle.maps.proofs.Bits.{all-below}
-use Rattle.maps.proofs.Count.{BitsOf, once, same-count}
-use Rattle.maps.proofs.Free.{free-laws, marks-two, uncarried-each}
+use Rattle.maps.proofs.Count.{BitsOf, tapes, once, same-count}
+use Rattle.maps.proofs.Free.{carriedCount, free-laws, few-carried, marks-two, uncarried-each}
 use Rattle.masks.proofs.Hiding.{Hiding, isw-hiding}
 use Rattle.maps.proofs.TwoRuns.{two-runs, mapped-tape, mapped-back}
 use Rattle.maps.proofs.Kept.{all-kept}
@@ -43,61 +46,103 @@ unfolding All
 all-both P Q R f [] a b = tt
 all-both P Q R f (x ∷ xs) a b = (f x (a .0) (b .0), all-both P Q R f xs (a .1) (b .1))
 
-module _ {G : Gadget} (H : Hiding G) (few : (x : Origin) → length (marks G x) ≤ 2) (t : Table) (o : ℕ) (P : Plain t) where
-  free-of : (ps : List ℕ) → areProbes G o t ps ≡ true → Free G t o ps
-  free-of ps hp = free-laws G few o t ps (leb-true (length ps) o (and-true _ (allBelow (wires (maskedTable G o t)) ps) hp .0))
+all-each :
+    (P : ℕ → Type 0) (f : ℕ → List ℕ) (ps : List ℕ) → All (λ p. All P (f p)) ps → All P (ofEach f ps)
+unfolding All ofEach
+all-each P f [] a = tt
+all-each P f (p ∷ ps) a = all-append P (f p) (ofEach f ps) (a .0) (all-each P f ps (a .1))
 
-  same-read :
-      (xs ys ts ps : List ℕ) → areSecrets t xs ≡ true → areSecrets t ys ≡ true → isTape G o t ts ≡ true
-      → areProbes G o t ps ≡ true
-      → readAll (maskedRun G o t ys (mapped G o t xs ys ts ps)) ps ≡ readAll (maskedRun G o t xs ts) ps
-  same-read xs ys ts ps hx hy ht hp =
-      let k = freeShare G o t ps in
-      let free = free-of ps hp in
-      let ms = mappedAt G o t k xs ys ts in
-      let hm = mapped-tape (H .lawful) t o k P xs ys ts hx hy ht in
-      let law = two-runs (H .lawful) (H .unflipped) t o k P .flips xs ys ts hx hy ht in
-      let kept = all-kept H o t P k (free .from-1) (free .to-n) xs ys ts ms hx hy ht hm law in
-      let below = all-below (wires (maskedTable G o t)) ps (and-true (leb (length ps) o) _ hp .1) in
-      read-same _ _ ps
-      (all-both _ _ _
-      (λ p h lacks.
-      subst (λ (w : ℕ). getD (maskedRun G o t xs ts) w 0 ≡ getD (maskedRun G o t ys ms) w 0)
-      {x = 0 + p}
-      (omega arith)
-      (each-at _ 0 (origins G o t) p (inputShare 0 0) kept
-      (omega (arith, sized (H .lawful) o t P .origins-are))
-      lacks))
-      ps
-      below
-      (uncarried-each (marks G) (origins G o t) k ps (free .uncarried)))
+-- single values are those of the probes themselves
+pub each-single : (ps : List ℕ) → ofEach single ps ≡ ps
+unfolding ofEach
+each-single [] = refl
+each-single (p ∷ ps) = ap (λ (l : List ℕ). p ∷ l) (each-single ps)
 
-  of-bits : (ts : List ℕ) → BitsOf (tapeLong G o t) ts → isTape G o t ts ≡ true
-  of-bits ts b = and-intro (eqb (length ts) (tapeLong G o t)) (allBits ts) (eq-eqb _ _ (b .0)) (b .1)
+-- what hiding needs of the marks and of what a probe reads: few probes leave a share number free, and where a probe's marks lack
+-- a share number, so do those of every wire that it reads
+pub record Covers (G : Gadget) (mk : Origin → List ℕ) (rd : ℕ → List ℕ) (t : Table) (o : ℕ) : Type 0 where
+  pub few :
+      (ps : List ℕ) → length ps ≤ o → carriedCount (sharesOf o) 1 (carried mk (origins G o t) ps) < sharesOf o
+  pub lacks :
+      (k p : ℕ) → p < wires (maskedTable G o t) → isIn k (mk (originAt (origins G o t) p)) ≡ false
+      → All (λ w. (w < wires (maskedTable G o t)) × (isIn k (marks G (originAt (origins G o t) w)) ≡ false)) (rd p)
 
-  bits-of : (ts : List ℕ) → isTape G o t ts ≡ true → BitsOf (tapeLong G o t) ts
-  bits-of ts h =
-      let a = and-true (eqb (length ts) (tapeLong G o t)) (allBits ts) h in
-      (eqb-true _ _ (a .0), a .1)
+-- single values, and each wire's own marks
+pub covers-single : {G : Gadget} → Lawful G → (t : Table) (o : ℕ) → Covers G (marks G) single t o
+unfolding All
+covers-single {G} L t o =
+    record {
+      few = few-carried (marks G) (marks-two L) (origins G o t) o;
+      lacks = λ k p h e. ((h, e), tt);
+    }
 
-  pub hides : Hides G t o
-  hides =
-      record {
-        a-tape = λ xs ys ts ps hx hy ht hp. mapped-tape (H .lawful) t o (freeShare G o t ps) P xs ys ts hx hy ht;
-        back = λ xs ys ts ps hx hy ht hp. mapped-back (H .lawful) t o (freeShare G o t ps) P xs ys ts hx hy ht;
-        same-read = same-read;
-        as-many = λ xs ys ps pattern hx hy hp.
-            let k = freeShare G o t ps in
-            let to : (zs ws ts : List ℕ) → areSecrets t zs ≡ true → areSecrets t ws ≡ true → BitsOf (tapeLong G o t) ts
-            → BitsOf (tapeLong G o t) (mappedAt G o t k zs ws ts) =
-            λ zs ws ts hz hw b. bits-of (mappedAt G o t k zs ws ts) (mapped-tape (H .lawful) t o k P zs ws ts hz hw (of-bits ts b)) in
-            same-count (tapeLong G o t) (mappedAt G o t k xs ys) (mappedAt G o t k ys xs) _ _
-            (λ ts b. to xs ys ts hx hy b)
-            (λ ts b. to ys xs ts hy hx b)
-            (λ ts b. mapped-back (H .lawful) t o k P xs ys ts hx hy (of-bits ts b))
-            (λ ts b. mapped-back (H .lawful) t o k P ys xs ts hy hx (of-bits ts b))
-            (λ ts b. ap (λ (l : List ℕ). same l pattern) (sym (same-read xs ys ts ps hx hy (of-bits ts b) hp)));
-      }
+module _
+    {G : Gadget} (H : Hiding G) {mk : Origin → List ℕ} {rd : ℕ → List ℕ} (t : Table) (o : ℕ) (C : Covers G mk rd t o)
+    (P : Plain t)
+  where
+    free-of :
+        (ps : List ℕ) → areProbes G o t ps ≡ true
+        → Free (sharesOf o) (carried mk (origins G o t) ps) (freeShare G mk o t ps)
+    unfolding freeShare
+    free-of ps hp =
+        let few = leb-true (length ps) o (and-true _ (allBelow (wires (maskedTable G o t)) ps) hp .0) in
+        free-laws (sharesOf o) (carried mk (origins G o t) ps) (C .few ps few)
+
+    same-read :
+        (xs ys ts ps : List ℕ) → areSecrets t xs ≡ true → areSecrets t ys ≡ true → isTape G o t ts ≡ true
+        → areProbes G o t ps ≡ true
+        → readAll (maskedRun G o t ys (mapped G mk o t xs ys ts ps)) (ofEach rd ps)
+        ≡ readAll (maskedRun G o t xs ts) (ofEach rd ps)
+    same-read xs ys ts ps hx hy ht hp =
+        let os = origins G o t in
+        let k = freeShare G mk o t ps in
+        let free = free-of ps hp in
+        let ms = mappedAt G o t k xs ys ts in
+        let hm = mapped-tape (H .lawful) t o k P xs ys ts hx hy ht in
+        let law = two-runs (H .lawful) (H .unflipped) t o k P .flips xs ys ts hx hy ht in
+        let kept = all-kept H o t P k (free .from-1) (free .to-n) xs ys ts ms hx hy ht hm law in
+        let below = all-below (wires (maskedTable G o t)) ps (and-true (leb (length ps) o) _ hp .1) in
+        let same-at : (w : ℕ) → (w < wires (maskedTable G o t)) × (isIn k (marks G (originAt os w)) ≡ false)
+        → getD (maskedRun G o t xs ts) w 0 ≡ getD (maskedRun G o t ys ms) w 0 =
+        λ w h.
+        subst (λ (q : ℕ). getD (maskedRun G o t xs ts) q 0 ≡ getD (maskedRun G o t ys ms) q 0)
+        {x = 0 + w}
+        (omega arith)
+        (each-at _ 0 os w (inputShare 0 0) kept (omega (arith, h .0, sized (H .lawful) o t P .origins-are)) (h .1)) in
+        read-same _ _ (ofEach rd ps)
+        (all-each _ rd ps
+        (all-both _ _ _
+        (λ p h lacks. all-map _ _ same-at (rd p) (C .lacks k p h lacks))
+        ps
+        below
+        (uncarried-each (λ p. mk (originAt os p)) k ps (free .uncarried))))
+
+    of-bits : (ts : List ℕ) → BitsOf (tapeLong G o t) ts → isTape G o t ts ≡ true
+    of-bits ts b = and-intro (eqb (length ts) (tapeLong G o t)) (allBits ts) (eq-eqb _ _ (b .0)) (b .1)
+
+    bits-of : (ts : List ℕ) → isTape G o t ts ≡ true → BitsOf (tapeLong G o t) ts
+    bits-of ts h =
+        let a = and-true (eqb (length ts) (tapeLong G o t)) (allBits ts) h in
+        (eqb-true _ _ (a .0), a .1)
+
+    pub hides : Hides G mk rd t o
+    hides =
+        record {
+          a-tape = λ xs ys ts ps hx hy ht hp. mapped-tape (H .lawful) t o (freeShare G mk o t ps) P xs ys ts hx hy ht;
+          back = λ xs ys ts ps hx hy ht hp. mapped-back (H .lawful) t o (freeShare G mk o t ps) P xs ys ts hx hy ht;
+          same-read = same-read;
+          as-many = λ xs ys ps pattern hx hy hp.
+              let k = freeShare G mk o t ps in
+              let to : (zs ws ts : List ℕ) → areSecrets t zs ≡ true → areSecrets t ws ≡ true → BitsOf (tapeLong G o t) ts
+              → BitsOf (tapeLong G o t) (mappedAt G o t k zs ws ts) =
+              λ zs ws ts hz hw b. bits-of (mappedAt G o t k zs ws ts) (mapped-tape (H .lawful) t o k P zs ws ts hz hw (of-bits ts b)) in
+              same-count (tapeLong G o t) (mappedAt G o t k xs ys) (mappedAt G o t k ys xs) _ _
+              (λ ts b. to xs ys ts hx hy b)
+              (λ ts b. to ys xs ts hy hx b)
+              (λ ts b. mapped-back (H .lawful) t o k P xs ys ts hx hy (of-bits ts b))
+              (λ ts b. mapped-back (H .lawful) t o k P ys xs ts hy hx (of-bits ts b))
+              (λ ts b. ap (λ (l : List ℕ). same l pattern) (sym (same-read xs ys ts ps hx hy (of-bits ts b) hp)));
+        }
 
 accepted-is : (s : List ℕ) (o : ℕ) → accepted s o ≡ true → Plain (tableOf s)
 accepted-is s o h =
@@ -109,7 +154,7 @@ pub demands : Demands
 demands =
     record {
       second = λ s o h. computes (isw-hiding .lawful) o (tableOf s) (accepted-is s o h);
-      third = λ s o h. hides isw-hiding marks-two (tableOf s) o (accepted-is s o h);
+      third = λ s o h. hides isw-hiding (tableOf s) o (covers-single isw-lawful (tableOf s) o) (accepted-is s o h);
       written-back = written;
     }
 
@@ -118,7 +163,8 @@ pub laws : Laws
 laws =
     record {
       sized = λ s o h. sized (isw-hiding .lawful) o (tableOf s) (accepted-is s o h);
-      free = λ s o ps h hp. free-of isw-hiding marks-two (tableOf s) o (accepted-is s o h) ps hp;
+      free = λ s o ps h hp. free-of isw-hiding (tableOf s) o (covers-single isw-lawful (tableOf s) o) (accepted-is s o h) ps hp;
       two-runs = λ s o k h. two-runs (isw-hiding .lawful) (isw-hiding .unflipped) (tableOf s) o k (accepted-is s o h);
+      tapes = tapes;
       once = once;
     }

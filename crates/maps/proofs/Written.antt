@@ -1,6 +1,6 @@
 -- What masking writes: the closed sizes, and that the bytes pass the checks and read back as the masked table.
 -- Assumes nothing.
-use mathlib.Core.Path.{_≡_, sym, ap, ap₂, _∙_, subst}
+use mathlib.Core.Path.{_≡_, sym, ap, ap₂, _∙_}
 use mathlib.Core.Bool.{true}
 use mathlib.Core.List.{List, map}
 use Prim.Native.Nat.{ℕ, _+_, _*_, _≤_}
@@ -10,20 +10,20 @@ use lib.ListN.{length, take, drop, length-append, length-map}
 use Rattle.tables.specs.Refusals.{passed}
 use Rattle.tables.specs.Tables.{Table, wires, tableOf}
 use Rattle.tables.specs.Runs.{run, randoms}
-use Rattle.tables.proofs.Accept.{PlainGates, Plain}
+use Rattle.tables.proofs.Accept.{Plain}
 use Rattle.tables.proofs.Format.{Sound, SoundGates, table-long, read-back, written-passes}
 use Rattle.masks.specs.Shares.{sharesOf}
 use Rattle.masks.specs.Gadgets.{Gadget, isw}
 use Rattle.masks.specs.Wires.{originOf, inputOrigins, maskedWires, maskedTable, origins, tapeLong}
 use Rattle.masks.specs.Codes.{encode, maskedRun}
 use Rattle.masks.specs.Says.{plainFault}
-use Rattle.masks.proofs.Sum.{up-length}
 use Rattle.masks.proofs.Lawful.{Lawful, isw-lawful}
 use Rattle.masks.proofs.Costs.{masked-length, masked-wires, masked-tape, input-origins-length}
 use Rattle.masks.proofs.Placed.{placed-inputs, masked-outputs, masked-sound}
 use Rattle.masks.proofs.Passed.{plain-passed}
-use Rattle.maps.specs.Claims.{Sized, WrittenBack}
-use Rattle.maps.proofs.Begun.{values-long}
+use Rattle.maps.specs.Claims.{WrittenBack}
+use Rattle.maps.specs.Laws.{ClosedSizes}
+use Rattle.maps.proofs.Begun.{plain-inputs, values-long}
 
 module _ {G : Gadget} (L : Lawful G) (o : ℕ) (t : Table) (P : Plain t) where
   origins-are : length (origins G o t) ≡ wires (maskedTable G o t)
@@ -36,7 +36,7 @@ module _ {G : Gadget} (L : Lawful G) (o : ℕ) (t : Table) (P : Plain t) where
       (length-map (maskedWires G o t) originOf ∙ masked-length G n 0 _ _ (t .gates))
       ∙ sym (masked-wires G o t)
 
-  pub sized : Sized G t o
+  pub sized : ClosedSizes G t o
   sized =
       record {
         wires-are = masked-wires G o t;
@@ -52,14 +52,14 @@ module _ {G : Gadget} (L : Lawful G) (o : ℕ) (t : Table) (P : Plain t) where
   masked-gates-sound =
       let n = sharesOf o in
       masked-sound L n 0 (n * t .inputs) _ (t .gates) (omega arith)
-      (subst (λ (y : ℕ). PlainGates y (t .gates)) (sym (up-length (t .inputs) 0 _)) (P .gates))
+      (plain-inputs n t P)
       (placed-inputs n (t .inputs))
 
   some-masked-input : 1 ≤ maskedTable G o t .inputs
   unfolding maskedTable
   some-masked-input = omega (arith, mul-le-mul-left (sharesOf o) (P .some-input))
 
-  pub masked-table-sound :
+  masked-table-sound :
       wires (maskedTable G o t) ≤ 65535 → sharesOf o * length (t .outputs) ≤ 65535 → Sound (maskedTable G o t)
   masked-table-sound hw ho =
       record {
@@ -71,11 +71,11 @@ module _ {G : Gadget} (L : Lawful G) (o : ℕ) (t : Table) (P : Plain t) where
         outputs = masked-outputs G o t P .1;
       }
 
-pub written : (s : List ℕ) (o : ℕ) → passed (plainFault s o) ≡ true → WrittenBack s o
+pub written : (s : List ℕ) (o : ℕ) → passed (plainFault isw s o) ≡ true → WrittenBack s o
 unfolding tapeLong maskedRun
 written s o h =
     let t = tableOf s in
-    let p = plain-passed s o h in
+    let p = plain-passed isw s o h in
     let sound = masked-table-sound isw-lawful o t (p .plain) (p .few-wires) (p .few-outputs) in
     let same = read-back (maskedTable isw o t) sound in
     record {

@@ -1,5 +1,6 @@
 -- What the calls themselves do, as one law: whatever buffers and answers masking, mapping, encoding, running and decoding leave,
--- if each was made as below and answered 0, then reading the probed wires tells nothing of which secret was used.
+-- if each was made as below and answered 0, then the probed wires have the same values in both runs, and in the runs of the
+-- table that masking wrote as many tapes give each pattern of values for the one secret as for the other.
 -- Nothing is said here of how the calls work: only their promises are used.
 -- Assumes nothing.
 use mathlib.Core.Path.{_≡_}
@@ -10,7 +11,11 @@ use Rattle.tables.specs.declared.Answer as DA
 use Rattle.tables.specs.Tables.{tableOf, word}
 use Rattle.tables.specs.Runs.{run, readAll, outputsOf}
 use Rattle.tables.specs.Says.{RunSays}
+use Rattle.masks.specs.Gadgets.{isw}
+use Rattle.masks.specs.Wires.{marks}
+use Rattle.masks.specs.Codes.{encode}
 use Rattle.masks.specs.Says.{MaskSays, EncodeSays, DecodeSays}
+use Rattle.maps.specs.Claims.{allTapes, same, howMany}
 use Rattle.maps.specs.Says.{MapSays}
 
 -- a lent buffer before and after a call, and the call's answer
@@ -51,14 +56,14 @@ pub record Way (o : ℕ) (m xs ts : List ℕ) : Type 0 where
 pub record Calls (s : List ℕ) (o : ℕ) (xs ys ts ps : List ℕ) : Type 0 where
   pub table : Lent
   pub masked : DA.Answer
-  pub mask-says : MaskSays s o (table .before) (table .after) masked
+  pub mask-says : MaskSays isw s o (table .before) (table .after) masked
   pub mask-ok : masked .number ≡ 0
   pub tape : Lent
   pub one : Lent
   pub other : Lent
   pub mapping : DA.Answer
   pub map-says :
-      MapSays s o xs ys ts ps
+      MapSays isw (marks isw) s o xs ys ts ps
       (tape .before)
       (tape .after)
       (one .before)
@@ -70,10 +75,24 @@ pub record Calls (s : List ℕ) (o : ℕ) (xs ys ts ps : List ℕ) : Type 0 wher
   pub first : Way o (written table masked) xs ts
   pub second : Way o (written table masked) ys (take (length ts) (tape .after))
 
+-- how many of the tapes of l bits give a pattern where ps are read in the run of the table m on the secret xs: encoded with the
+-- front of the tape, run with the rest
+abbrev pub timesRead : ℕ → List ℕ → ℕ → List ℕ → List ℕ → List ℕ → ℕ
+timesRead o m l xs ps pattern =
+    let k = 2 * o * length xs in
+    howMany
+    (λ us. same (readAll (run (tableOf m) (encode o xs (take k us)) (drop k us)) ps) pattern)
+    (allTapes l)
+
 -- what then holds of the bytes that the calls left
 pub record Assured (s : List ℕ) (o : ℕ) (xs ys ts ps : List ℕ) (c : Calls s o xs ys ts ps) : Type 0 where
   -- each of the probed wires has the same value in both runs
   pub same-read : readAll (c .second .values .after) ps ≡ readAll (c .first .values .after) ps
+  -- "each pattern comes from as many tapes for one key as for the other", in the runs of the table that masking wrote
+  pub as-many :
+      (pattern : List ℕ)
+      → timesRead o (written (c .table) (c .masked)) (length ts) xs ps pattern
+      ≡ timesRead o (written (c .table) (c .masked)) (length ts) ys ps pattern
   -- the buffers that mapping filled are those two runs
   pub first-run : take (c .first .ran .value) (c .one .after) ≡ written (c .first .values) (c .first .ran)
   pub second-run : take (c .second .ran .value) (c .other .after) ≡ written (c .second .values) (c .second .ran)

@@ -1,21 +1,20 @@
--- Demands 2 and 3 for every accepted table, order, secrets, tape and probe list, and further laws that tie the definitions
--- to document 01. The statements only; proofs/ has the proofs.
+-- Demands 2 and 3 for every accepted table, order, secrets, tape and probe list. The statements only; proofs/ has the
+-- proofs.
 -- Assumes nothing.
 use mathlib.Core.Path.{_≡_}
-use mathlib.Core.Bool.{Bool, true, false, _&&_}
+use mathlib.Core.Bool.{Bool, true, false, _&&_, cond}
 use mathlib.Core.List.{List, [], _∷_, _++_, map}
-use Prim.Native.Nat.{ℕ, zero, suc, _+_, _*_, _≤_, _<_}
+use Prim.Native.Nat.{ℕ, zero, suc, _+_, _*_}
 use lib.Dec.{eqb, ltb, leb}
 use lib.ListN.{length, take, drop}
-use Rattle.tables.specs.Refusals.{pick, none, passed}
-use Rattle.tables.specs.Tables.{Table, wires, tableOf, tableBytes, tableLong, tableFault, randomFault}
+use Rattle.tables.specs.Refusals.{none, passed}
+use Rattle.tables.specs.Tables.{Table, wires, tableOf, tableBytes, tableFault, randomFault}
 use Rattle.tables.specs.Runs.{run, readAll, outputsOf, randoms}
-use Rattle.masks.specs.Shares.{sharesOf}
-use Rattle.masks.specs.Gadgets.{isIn, Gadget, isw}
-use Rattle.masks.specs.Wires.{marks, cost, draws, totalOf, maskedTable, origins, tapeLong}
+use Rattle.masks.specs.Gadgets.{Gadget, isw}
+use Rattle.masks.specs.Wires.{Origin, marks, maskedTable, tapeLong}
 use Rattle.masks.specs.Codes.{encode, decode, maskedRun}
 use Rattle.masks.specs.Says.{orderOk, plainFault}
-use Rattle.maps.specs.Maps.{carried, freeShare, flipped, mappedAt, mapped, tapeFlips}
+use Rattle.maps.specs.Maps.{ofEach, single, mapped}
 
 -- "one byte a bit, 0 or 1"
 abbrev pub allBits : List ℕ → Bool
@@ -58,12 +57,13 @@ same (x ∷ xs) (y ∷ ys) = eqb x y && same xs ys
 -- how many of the lists pass a test
 unfoldable pub howMany : (List ℕ → Bool) → List (List ℕ) → ℕ
 howMany f [] = 0
-howMany f (ts ∷ rest) = pick (f ts) 1 0 + howMany f rest
+howMany f (ts ∷ rest) = cond (f ts) 1 0 + howMany f rest
 
--- "A pattern lists the values that the probes read, in list order": how many tapes give it
-abbrev pub timesGiven : Gadget → ℕ → Table → List ℕ → List ℕ → List ℕ → ℕ
-timesGiven G o t xs ps pattern =
-    howMany (λ ts. same (readAll (maskedRun G o t xs ts) ps) pattern) (allTapes (tapeLong G o t))
+-- "A pattern lists the values that the probes read, in list order": how many tapes give it, where rd gives the wires that a
+-- probe reads
+abbrev pub timesGiven : Gadget → (ℕ → List ℕ) → ℕ → Table → List ℕ → List ℕ → List ℕ → ℕ
+timesGiven G rd o t xs ps pattern =
+    howMany (λ ts. same (readAll (maskedRun G o t xs ts) (ofEach rd ps)) pattern) (allTapes (tapeLong G o t))
 
 -- demand 2
 pub record Computes (G : Gadget) (t : Table) (o : ℕ) : Type 0 where
@@ -76,24 +76,25 @@ pub record Computes (G : Gadget) (t : Table) (o : ℕ) : Type 0 where
       (xs ts : List ℕ) → allBits xs ≡ true → allBits ts ≡ true → length ts ≡ 2 * o * length xs
       → decode o (encode o xs ts) ≡ xs
 
--- demand 3
-pub record Hides (G : Gadget) (t : Table) (o : ℕ) : Type 0 where
+-- demand 3, of a gadget, marks and what a probe reads
+pub record Hides (G : Gadget) (mk : Origin → List ℕ) (rd : ℕ → List ℕ) (t : Table) (o : ℕ) : Type 0 where
   -- "document 01's map takes the tapes one-to-one onto themselves": it gives tapes, and the map from y to x leads back
   pub a-tape :
       (xs ys ts ps : List ℕ) → areSecrets t xs ≡ true → areSecrets t ys ≡ true → isTape G o t ts ≡ true
-      → areProbes G o t ps ≡ true → isTape G o t (mapped G o t xs ys ts ps) ≡ true
+      → areProbes G o t ps ≡ true → isTape G o t (mapped G mk o t xs ys ts ps) ≡ true
   pub back :
       (xs ys ts ps : List ℕ) → areSecrets t xs ≡ true → areSecrets t ys ≡ true → isTape G o t ts ≡ true
-      → areProbes G o t ps ≡ true → mapped G o t ys xs (mapped G o t xs ys ts ps) ps ≡ ts
+      → areProbes G o t ps ≡ true → mapped G mk o t ys xs (mapped G mk o t xs ys ts ps) ps ≡ ts
   -- "each read wire keeps its value"
   pub same-read :
       (xs ys ts ps : List ℕ) → areSecrets t xs ≡ true → areSecrets t ys ≡ true → isTape G o t ts ≡ true
       → areProbes G o t ps ≡ true
-      → readAll (maskedRun G o t ys (mapped G o t xs ys ts ps)) ps ≡ readAll (maskedRun G o t xs ts) ps
+      → readAll (maskedRun G o t ys (mapped G mk o t xs ys ts ps)) (ofEach rd ps)
+      ≡ readAll (maskedRun G o t xs ts) (ofEach rd ps)
   -- "each pattern comes from as many tapes for one key as for the other"
   pub as-many :
       (xs ys ps pattern : List ℕ) → areSecrets t xs ≡ true → areSecrets t ys ≡ true → areProbes G o t ps ≡ true
-      → timesGiven G o t xs ps pattern ≡ timesGiven G o t ys ps pattern
+      → timesGiven G rd o t xs ps pattern ≡ timesGiven G rd o t ys ps pattern
 
 -- what masking writes reads back as the masked table, which is accepted and has a tape bit for each random gate
 pub record WrittenBack (s : List ℕ) (o : ℕ) : Type 0 where
@@ -114,53 +115,5 @@ pub record WrittenBack (s : List ℕ) (o : ℕ) : Type 0 where
 -- the demands, for every table and order
 pub record Demands : Type 0 where
   pub second : (s : List ℕ) (o : ℕ) → accepted s o ≡ true → Computes isw (tableOf s) o
-  pub third : (s : List ℕ) (o : ℕ) → accepted s o ≡ true → Hides isw (tableOf s) o
-  pub written-back : (s : List ℕ) (o : ℕ) → passed (plainFault s o) ≡ true → WrittenBack s o
-
--- the closed sizes: "An AND costs n² + 5n(n−1)/2 wires, of which n(n−1)/2 are random"; "The length is 6 + 5G + 2O"
-pub record Sized (G : Gadget) (t : Table) (o : ℕ) : Type 0 where
-  pub wires-are :
-      wires (maskedTable G o t) ≡ sharesOf o * t .inputs + totalOf (λ k. cost k (sharesOf o)) (t .gates)
-  pub tape-is : tapeLong G o t ≡ 2 * o * t .inputs + totalOf (λ k. draws k (sharesOf o)) (t .gates)
-  pub outputs-are : length (maskedTable G o t .outputs) ≡ sharesOf o * length (t .outputs)
-  pub bytes-are :
-      length (tableBytes (maskedTable G o t))
-      ≡ tableLong (length (maskedTable G o t .gates)) (length (maskedTable G o t .outputs))
-  -- every wire of the masked table has an origin, and a run a value for every wire
-  pub origins-are : length (origins G o t) ≡ wires (maskedTable G o t)
-  pub values-are :
-      (xs ts : List ℕ) → areSecrets t xs ≡ true → isTape G o t ts ≡ true
-      → length (maskedRun G o t xs ts) ≡ wires (maskedTable G o t)
-
--- the free share: one of 1 to n, carried by no probe, and every smaller one is carried
-pub record Free (G : Gadget) (t : Table) (o : ℕ) (ps : List ℕ) : Type 0 where
-  pub from-1 : 1 ≤ freeShare G o t ps
-  pub to-n : freeShare G o t ps ≤ sharesOf o
-  pub uncarried : isIn (freeShare G o t ps) (carried (marks G) (origins G o t) ps) ≡ false
-  pub smallest :
-      (i : ℕ) → 1 ≤ i → i < freeShare G o t ps → isIn i (carried (marks G) (origins G o t) ps) ≡ true
-
--- the map is document 01's: in the two complete runs the tapes differ exactly where its rules say, and no other tape does
-pub record TwoRuns (G : Gadget) (t : Table) (o k : ℕ) : Type 0 where
-  pub flips :
-      (xs ys ts : List ℕ) → areSecrets t xs ≡ true → areSecrets t ys ≡ true → isTape G o t ts ≡ true
-      → mappedAt G o t k xs ys ts
-      ≡ flipped ts (tapeFlips G o t k xs ys (maskedRun G o t xs ts) (maskedRun G o t ys (mappedAt G o t k xs ys ts)))
-  pub only :
-      (xs ys ts us : List ℕ) → areSecrets t xs ≡ true → areSecrets t ys ≡ true → isTape G o t ts ≡ true
-      → us ≡ flipped ts (tapeFlips G o t k xs ys (maskedRun G o t xs ts) (maskedRun G o t ys us))
-      → us ≡ mappedAt G o t k xs ys ts
-  -- equal secrets map a tape to itself
-  pub itself :
-      (xs ts : List ℕ) → areSecrets t xs ≡ true → isTape G o t ts ≡ true → mappedAt G o t k xs xs ts ≡ ts
-
--- further laws of every accepted table
-pub record Laws : Type 0 where
-  pub sized : (s : List ℕ) (o : ℕ) → accepted s o ≡ true → Sized isw (tableOf s) o
-  pub free :
-      (s : List ℕ) (o : ℕ) (ps : List ℕ) → accepted s o ≡ true → areProbes isw o (tableOf s) ps ≡ true
-      → Free isw (tableOf s) o ps
-  pub two-runs : (s : List ℕ) (o k : ℕ) → accepted s o ≡ true → TwoRuns isw (tableOf s) o k
-  -- every list of n bits stands exactly once among all of them
-  pub once :
-      (n : ℕ) (ts : List ℕ) → length ts ≡ n → allBits ts ≡ true → howMany (λ us. same ts us) (allTapes n) ≡ 1
+  pub third : (s : List ℕ) (o : ℕ) → accepted s o ≡ true → Hides isw (marks isw) single (tableOf s) o
+  pub written-back : (s : List ℕ) (o : ℕ) → passed (plainFault isw s o) ≡ true → WrittenBack s o

@@ -2,33 +2,40 @@
 -- paper's own terms. A flip is 0 or 1 for each tape bit; the mapped tape is built gate by gate, both runs going along, so that
 -- "what an AND flips depends only on what is built before it".
 -- Assumes nothing.
-use mathlib.Core.Bool.{true, false}
+use mathlib.Core.Bool.{true, false, cond}
 use mathlib.Core.List.{List, [], _∷_, _++_, map}
 use Prim.Native.Nat.{ℕ, zero, suc, _+_, _*_}
 use lib.Dec.{eqb}
 use lib.ListN.{length, getD, take, drop}
-use Rattle.tables.specs.Refusals.{pick}
 use Rattle.tables.specs.Tables.{Kind, NOT, XOR, AND, RANDOM, UNKNOWN, Gate, Table}
 use Rattle.tables.specs.Runs.{xor, runFrom}
 use Rattle.masks.specs.Shares.{sharesOf, upFrom, Pair, pairs}
 use Rattle.masks.specs.Gadgets.{isIn, differs, Gadget}
-use Rattle.masks.specs.Wires.{Origin, marks, driverOf, share, newWires, cost, newShares, inputShares, origins}
+use Rattle.masks.specs.Wires.{Origin, driverOf, share, newWires, cost, newShares, inputShares, origins}
 use Rattle.masks.specs.Codes.{encode}
 use Rattle.masks.specs.Says.{originAt}
 
+-- what f gives for each probe, "in list order"; "Repeated probes count each time"
+unfoldable pub ofEach : (ℕ → List ℕ) → List ℕ → List ℕ
+ofEach f [] = []
+ofEach f (p ∷ ps) = f p ++ ofEach f ps
+
+-- "A probe reads the value of one wire": the wires that a probe reads
+abbrev pub single : ℕ → List ℕ
+single w = w ∷ []
+
 -- the share numbers that the probes carry, each as often as it is carried; mk gives the marks of an origin
-unfoldable pub carried : (Origin → List ℕ) → List Origin → List ℕ → List ℕ
-carried mk os [] = []
-carried mk os (p ∷ ps) = mk (originAt os p) ++ carried mk os ps
+abbrev pub carried : (Origin → List ℕ) → List Origin → List ℕ → List ℕ
+carried mk os ps = ofEach (λ p. mk (originAt os p)) ps
 
 -- the smallest number from k on that is not in the list, looking at c numbers
 unfoldable pub freeFrom : ℕ → ℕ → List ℕ → ℕ
 freeFrom zero k cs = k
 freeFrom (suc c) k cs = elim (isIn k cs) [ true ↦ freeFrom c (suc k) cs | false ↦ k ]
 
--- "the smallest share number that no probe carries; an empty list has k = 1"
-unfoldable pub freeShare : Gadget → ℕ → Table → List ℕ → ℕ
-freeShare G o t ps = freeFrom (sharesOf o) 1 (carried (marks G) (origins G o t) ps)
+-- "the smallest share number that no probe carries; an empty list has k = 1", by the marks mk
+unfoldable pub freeShare : Gadget → (Origin → List ℕ) → ℕ → Table → List ℕ → ℕ
+freeShare G mk o t ps = freeFrom (sharesOf o) 1 (carried mk (origins G o t) ps)
 
 -- a tape with some bits flipped; "All else is kept"
 unfoldable pub flipped : List ℕ → List ℕ → List ℕ
@@ -41,7 +48,7 @@ unfoldable pub inputFlips : ℕ → ℕ → List ℕ → List ℕ → List ℕ
 inputFlips o k [] ys = []
 inputFlips o k (x ∷ xs) [] = []
 inputFlips o k (x ∷ xs) (y ∷ ys) =
-    upFrom (2 * o) 1 (λ s. pick (eqb s k) (xor x y) 0) ++ inputFlips o k xs ys
+    upFrom (2 * o) 1 (λ s. cond (eqb s k) (xor x y) 0) ++ inputFlips o k xs ys
 
 -- what one pair flips
 abbrev pub pairFlip : Gadget → ℕ → List ℕ → List ℕ → (ℕ → ℕ) → (ℕ → ℕ) → Pair → ℕ
@@ -91,26 +98,6 @@ mappedAt G o t k xs ys tape =
     (encode o xs (take m tape))
     (encode o ys first)
 
--- the mapped tape of a probe list
-abbrev pub mapped : Gadget → ℕ → Table → List ℕ → List ℕ → List ℕ → List ℕ → List ℕ
-mapped G o t xs ys tape ps = mappedAt G o t (freeShare G o t ps) xs ys tape
-
--- what document 01's rules flip, read off two complete runs v and u
-unfoldable pub gatesFlips : Gadget → ℕ → ℕ → ℕ → List (List ℕ) → List Gate → (ℕ → ℕ) → (ℕ → ℕ) → List ℕ
-gatesFlips G n k w S [] v u = []
-gatesFlips G n k w S (x ∷ xs) v u =
-    let a = getD S (x .left) [] in
-    let b = getD S (x .right) [] in
-    gateFlips G (x .kind) n k a b v u
-    ++ gatesFlips G n k (w + cost (x .kind) n) (S ++ (newShares (x .kind) n w a ∷ [])) xs v u
-
--- the inputs' flips, then those of the ANDs in table order
-unfoldable pub tapeFlips : Gadget → ℕ → Table → ℕ → List ℕ → List ℕ → List ℕ → List ℕ → List ℕ
-tapeFlips G o t k xs ys vs us =
-    let n = sharesOf o in
-    inputFlips o k xs ys
-    ++ gatesFlips G n k (n * t .inputs)
-    (inputShares n (t .inputs))
-    (t .gates)
-    (λ p. getD vs p 0)
-    (λ p. getD us p 0)
+-- the mapped tape of a probe list, by the marks mk
+abbrev pub mapped : Gadget → (Origin → List ℕ) → ℕ → Table → List ℕ → List ℕ → List ℕ → List ℕ → List ℕ
+mapped G mk o t xs ys tape ps = mappedAt G o t (freeShare G mk o t ps) xs ys tape

@@ -1,17 +1,17 @@
 -- What mapping promises (document 01, "What each call takes and writes", "Refusals" and "What a contract says").
 -- Assumes nothing.
 use mathlib.Core.Path.{_≡_}
-use mathlib.Core.Bool.{_&&_, _||_, not}
+use mathlib.Core.Bool.{_&&_, _||_, not, cond}
 use mathlib.Core.List.{List, [], _∷_, _++_}
 use Prim.Native.Nat.{ℕ, suc}
 use lib.Dec.{eqb, ltb}
 use lib.ListN.{length}
 use Rattle.tables.specs.declared.Answer as DA
-use Rattle.tables.specs.Refusals.{pick, Fault, fault, none, orElse, refusedIf, badBit}
-use Rattle.tables.specs.Tables.{wires, tableOf}
-use Rattle.tables.specs.Says.{Answered, left}
-use Rattle.masks.specs.Gadgets.{isw}
-use Rattle.masks.specs.Wires.{maskedTable, tapeLong}
+use Rattle.tables.specs.Refusals.{Fault, fault, none, orElse, refusedIf, badBit}
+use Rattle.tables.specs.Tables.{Table, wires, tableOf}
+use Rattle.tables.specs.Says.{Answered, afterCall}
+use Rattle.masks.specs.Gadgets.{Gadget}
+use Rattle.masks.specs.Wires.{Origin, maskedTable, tapeLong}
 use Rattle.masks.specs.Codes.{maskedRun}
 use Rattle.masks.specs.Says.{plainFault}
 use Rattle.maps.specs.Maps.{freeShare, mapped}
@@ -19,35 +19,48 @@ use Rattle.maps.specs.Maps.{freeShare, mapped}
 -- "13 no wire of the masked table", at the probe's position
 unfoldable pub badProbe : ℕ → ℕ → List ℕ → Fault
 badProbe i w [] = none
-badProbe i w (p ∷ ps) = pick (ltb p w) (badProbe (suc i) w ps) (fault 13 i)
+badProbe i w (p ∷ ps) = cond (ltb p w) (badProbe (suc i) w ps) (fault 13 i)
 
--- mapping: 1 to 8, 10, 11 ("first secret, second secret, tape"), 12, 13, 9; a, b and c are the lengths lent
-unfoldable pub mapFault : List ℕ → ℕ → List ℕ → List ℕ → List ℕ → List ℕ → ℕ → ℕ → ℕ → Fault
-mapFault s o xs ys ts ps a b c =
-    let t = tableOf s in
-    let w = wires (maskedTable isw o t) in
-    let l = tapeLong isw o t in
+-- "10 a wrong count; 11 a byte above 1", where i secret bits and l tape bits are due: "first secret, second secret, tape"
+unfoldable pub supplyFault : ℕ → ℕ → List ℕ → List ℕ → List ℕ → Fault
+supplyFault i l xs ys ts =
     orElse
-    (plainFault s o)
-    (orElse
-    (refusedIf (not (eqb (length xs) (t .inputs) && (eqb (length ys) (t .inputs) && eqb (length ts) l))) 10)
-    (orElse
+    (refusedIf (not (eqb (length xs) i && (eqb (length ys) i && eqb (length ts) l))) 10)
     (badBit 0 (xs ++ (ys ++ ts)))
-    (orElse
-    (refusedIf (ltb o (length ps)) 12)
-    (orElse (badProbe 0 w ps) (refusedIf (ltb a l || (ltb b w || ltb c w)) 9)))))
 
--- mapping answers the free share; "it writes the mapped tape and both runs"
-pub record MapSays (s : List ℕ) (o : ℕ) (xs ys ts ps a a′ b b′ c c′ : List ℕ) (r : DA.Answer) : Type 0 where
-  pub answer :
-      Answered (mapFault s o xs ys ts ps (length a) (length b) (length c)) (freeShare isw o (tableOf s) ps) r
-  pub mapped-tape :
-      a′ ≡ left (mapFault s o xs ys ts ps (length a) (length b) (length c)) (mapped isw o (tableOf s) xs ys ts ps) a
-  pub first-run :
-      b′ ≡ left (mapFault s o xs ys ts ps (length a) (length b) (length c)) (maskedRun isw o (tableOf s) xs ts) b
-  pub second-run :
-      c′
-      ≡ left
-      (mapFault s o xs ys ts ps (length a) (length b) (length c))
-      (maskedRun isw o (tableOf s) ys (mapped isw o (tableOf s) xs ys ts ps))
-      c
+-- "12 more than t; 13 no wire of the masked table", which has w wires
+unfoldable pub probesFault : ℕ → ℕ → List ℕ → Fault
+probesFault o w ps = orElse (refusedIf (ltb o (length ps)) 12) (badProbe 0 w ps)
+
+-- "9 a lent buffer shorter than what the call writes into it": l tape bits, and w values of each run; a, b and c are lent
+unfoldable pub roomFault : ℕ → ℕ → ℕ → ℕ → ℕ → Fault
+roomFault l w a b c = refusedIf (ltb a l || (ltb b w || ltb c w)) 9
+
+-- "10, 11, 12, 13, 9", by the numbers of inputs, tape bits and masked wires
+abbrev pub callFault : ℕ → ℕ → ℕ → ℕ → List ℕ → List ℕ → List ℕ → List ℕ → ℕ → ℕ → ℕ → Fault
+callFault o i l w xs ys ts ps a b c =
+    orElse (supplyFault i l xs ys ts) (orElse (probesFault o w ps) (roomFault l w a b c))
+
+-- mapping with the gadget G: 1 to 8, then those
+unfoldable pub mapFault : Gadget → List ℕ → ℕ → List ℕ → List ℕ → List ℕ → List ℕ → ℕ → ℕ → ℕ → Fault
+mapFault G s o xs ys ts ps a b c =
+    let t = tableOf s in
+    orElse
+    (plainFault G s o)
+    (callFault o (t .inputs) (tapeLong G o t) (wires (maskedTable G o t)) xs ys ts ps a b c)
+
+-- a mapping with the refusal f answers the free share; "it writes the mapped tape and both runs"
+pub record MapDone (f : Fault) (G : Gadget) (mk : Origin → List ℕ) (t : Table) (o : ℕ)
+    (xs ys ts ps a a′ b b′ c c′ : List ℕ) (r : DA.Answer) : Type 0 where
+  pub answer : Answered f (freeShare G mk o t ps) r
+  pub mapped-tape : a′ ≡ afterCall f (mapped G mk o t xs ys ts ps) a
+  pub first-run : b′ ≡ afterCall f (maskedRun G o t xs ts) b
+  pub second-run : c′ ≡ afterCall f (maskedRun G o t ys (mapped G mk o t xs ys ts ps)) c
+
+-- mapping: the lent buffers a, b and c become a′, b′ and c′
+abbrev pub MapSays :
+    Gadget → (Origin → List ℕ) → List ℕ → ℕ
+    → List ℕ → List ℕ → List ℕ → List ℕ → List ℕ → List ℕ → List ℕ → List ℕ → List ℕ → List ℕ → DA.Answer → Type 0
+MapSays G mk s o xs ys ts ps a a′ b b′ c c′ r =
+    MapDone (mapFault G s o xs ys ts ps (length a) (length b) (length c)) G mk (tableOf s) o
+    xs ys ts ps a a′ b b′ c c′ r

@@ -1,14 +1,14 @@
+-- For contracts inside the library only: no promise of a call cites this.
 -- How mapping walks the gates of the masked table once, both runs going along: every random gate is the first wire of a pair,
 -- the two products of that pair follow it, and a counter that starts again after the last pair says which pair it is.
 -- `walked` is the random bits of the second run; the law that they are the mapped tape's is in proofs/.
 -- Assumes nothing.
-use mathlib.Core.Bool.{Bool, _&&_}
+use mathlib.Core.Bool.{Bool, _&&_, cond}
 use mathlib.Core.List.{List, [], _∷_, _++_}
 use Prim.Native.Nat.{ℕ, zero, suc, _+_, _≤_, _<_}
 use lib.Dec.{eqb, ltb, leb}
 use lib.ListN.{length, getD, drop}
-use Rattle.tables.specs.Refusals.{pick}
-use Rattle.tables.specs.Tables.{Kind, NOT, XOR, AND, RANDOM, UNKNOWN, Gate, gate}
+use Rattle.tables.specs.Tables.{Kind, NOT, XOR, AND, RANDOM, UNKNOWN, Gate, noGate}
 use Rattle.tables.specs.Runs.{xor, driven, drawn}
 use Rattle.masks.specs.Gadgets.{differs}
 
@@ -24,7 +24,7 @@ inRow from to q = leb from q && ltb q to
 
 -- the counter after pair q of m
 abbrev pub nextPair : ℕ → ℕ → ℕ
-nextPair m q = pick (eqb (suc q) m) 0 (suc q)
+nextPair m q = cond (eqb (suc q) m) 0 (suc q)
 
 -- the counter after a gate of a kind
 abbrev pub afterGate : Kind → ℕ → ℕ → ℕ
@@ -38,13 +38,9 @@ afterGate (UNKNOWN k) m q = q
 abbrev pub gateDiffers : (ℕ → ℕ) → (ℕ → ℕ) → Gate → ℕ
 gateDiffers v u g = differs v u (g .left) (g .right)
 
--- a gate where a list has none
-abbrev pub noGate : Gate
-noGate = gate RANDOM 0 0
-
 -- what a random gate flips, where the gates after it are gs and its pair is number q
 abbrev pub flatFlip : (ℕ → Bool) → ℕ → List Gate → (ℕ → ℕ) → (ℕ → ℕ) → ℕ
-flatFlip T q gs v u = pick (T q) (xor (gateDiffers v u (getD gs 0 noGate)) (gateDiffers v u (getD gs 2 noGate))) 0
+flatFlip T q gs v u = cond (T q) (xor (gateDiffers v u (getD gs 0 noGate)) (gateDiffers v u (getD gs 2 noGate))) 0
 
 -- the bit that a gate takes in the second run: the next random bit, flipped
 abbrev pub walkedBit : (ℕ → Bool) → ℕ → List Gate → ℕ → List ℕ → List ℕ → ℕ

@@ -1,6 +1,6 @@
 -- The share numbers that wires carry, for each case that the code tells apart.
 -- Assumes nothing.
-use mathlib.Core.Path.{_≡_, refl}
+use mathlib.Core.Path.{_≡_, refl, sym}
 use mathlib.Core.Bool.{true, false}
 use mathlib.Core.List.{List, [], _∷_}
 use Prim.Native.Nat.{ℕ, zero, suc, _+_, _*_, _%_, _≤_, _<_}
@@ -20,9 +20,11 @@ use Rattle.masks.specs.Shares.{sharesOf}
 use Rattle.masks.specs.Gadgets.{iswMarks, isw}
 use Rattle.masks.specs.Wires.{andPart, marks, cost, maskedTable, origins}
 use Rattle.masks.specs.Says.{plainFault, originAt, marksFault, MarksSay}
-use Rattle.sizing.specs.Plans.{PlanRefused, PlanReady}
-use Rattle.marking.specs.Origins.{fiveOf, partOf, Among, PartSays, CarriedSays, PartMarksSay, GateMarksSay, orderOf, NewWireSays}
-use Rattle.marking.proofs.Ready.{ready-order}
+use Rattle.sizing.specs.declared.Planned.the-variants as Planned
+use Rattle.sizing.specs.Plans.{PlanReady, PlanSays}
+use Rattle.sizing.proofs.Planning.{Planned-Ready, planned-refused}
+use Rattle.tables.proofs.Answers.{refused-fails, first-of}
+use Rattle.marking.specs.Origins.{fiveOf, partOf, Among, PartSays, CarriedSays, PartMarksSay, GateMarksSay, NewWireSays}
 use Rattle.marking.proofs.Origins.{origins-input, not-origin, xor-origin}
 
 -- one share number, or two
@@ -55,7 +57,7 @@ last (suc (suc (suc zero))) i j h = absurd (omega arith)
 last (suc (suc (suc (suc f)))) i j h = refl
 
 module _ {p : DA.AndPart} (f i j : ℕ) (e : p ≡ Pair f i j) where
-  pub pair-among : {n : ℕ} → Among n p → (i < j) × (j < n)
+  pub pair-among : {n : ℕ} → Among n p → (f < 5) × (i < j) × (j < n)
   pair-among a = rw e at a
 
   -- z(i,j)
@@ -130,51 +132,55 @@ among-more (Own i) h a = omega arith
 among-more (Sum i m) h a = omega arith
 
 -- the wires of a planned table: an input share, and a new wire of a gate
-module _ {s : List ℕ} {o : ℕ} {p : DP.Plan} {w : ℕ} (R : PlanReady s o p) where
+module _ {s : List ℕ} {p : DP.Plan} {w : ℕ} (R : PlanReady s p) where
   pub input-carried :
-      w < p .shares * p .inputs → CarriedSays (originAt (origins isw o (tableOf s)) w) (one (w % p .shares))
+      w < p .shares * p .inputs
+      → CarriedSays (marks isw (originAt (origins isw (p .order) (tableOf s)) w)) (one (w % p .shares))
   input-carried h =
-      let shares : p .shares * p .inputs ≡ sharesOf o * tableOf s .inputs = rw (R .shares, R .inputs) in
-      rw (R .shares, origins-input isw o (tableOf s) w (omega arith))
-      (record { first = add-one (w % sharesOf o); second = refl })
+      let shares : p .shares * p .inputs ≡ sharesOf (p .order) * tableOf s .inputs = rw (R .shares, R .inputs) in
+      rw (R .shares, origins-input isw (p .order) (tableOf s) w (omega arith))
+      (record { first = add-one (w % sharesOf (p .order)); second = refl })
 
-  pub new-below : {x : DW.NewWire} → NewWireSays s o w x → x .place < cost (kindOf (x .kind)) (p .shares)
+  pub new-below : {x : DW.NewWire} → NewWireSays (tableOf s) (p .order) w x → x .place < cost (kindOf (x .kind)) (p .shares)
   new-below N = rw (R .shares) (N .below)
 
   pub new-carried :
-      {x : DW.NewWire} {r : DC.Carried} → NewWireSays s o w x → GateMarksSay (kindOf (x .kind)) (p .shares) (x .place) r
-      → CarriedSays (originAt (origins isw o (tableOf s)) w) r
+      {x : DW.NewWire} {r : DC.Carried} → NewWireSays (tableOf s) (p .order) w x
+      → GateMarksSay (kindOf (x .kind)) (p .shares) (x .place) r
+      → CarriedSays (marks isw (originAt (origins isw (p .order) (tableOf s)) w)) r
   new-carried {x} N M =
-      rw (N .origin) ((rw (R .shares) at M) .carried (x .gate) (N .first) (N .left) (N .right))
+      rw (N .origin) ((rw (R .shares) at M) .carried (x .gate) (N .start) (N .left) (N .right))
 
 -- the marks call: 1 to 8, 13, and the share numbers
 pub marks-refused :
-    {s : List ℕ} {o w : ℕ} {r : DR.Refusal} → PlanRefused s o r
-    → MarksSay s o w (record { number = r .number; place = r .place; first = 0; second = 0 })
+    {s : List ℕ} {o : ℕ} {r : DR.Refusal} (w : ℕ) → PlanSays (plainFault isw s o) s o (Planned.Refused r)
+    → MarksSay isw (marks isw) s o w (record { number = r .number; place = r .place; first = 0; second = 0 })
 unfolding marksFault
-marks-refused {s} {o} {w} R =
-    let e : marksFault s o w ≡ plainFault s o = rw (R .refuses) in
-    record {
-      number = rw e (R .refusal .number);
-      place = rw e (R .refusal .place);
-      first = rw (e, R .refuses);
-      second = rw (e, R .refuses);
-    }
+marks-refused w P =
+    let R = planned-refused P in
+    let F = first-of _ (R .0) (R .1) in
+    let fails = refused-fails F (R .1) in
+    record { number = F .number; place = F .place; first = rw fails; second = rw fails }
 
-module _ {s : List ℕ} {o w : ℕ} {p : DP.Plan} (R : PlanReady s o p) where
-  pub marks-outside : p .wires ≤ w → MarksSay s o w (record { number = 13; place = 0; first = 0; second = 0 })
+module _ {s : List ℕ} {o : ℕ} {p : DP.Plan} (P : Planned-Ready (plainFault isw s o) s o p) where
+  masked-wires-are : wires (maskedTable isw o (tableOf s)) ≡ p .wires
+  masked-wires-are = rw (← P .order) (sym (P .ready .wires))
+
+  pub marks-outside :
+      (w : ℕ) → p .wires ≤ w
+      → MarksSay isw (marks isw) s o w (record { number = 13; place = 0; first = 0; second = 0 })
   unfolding marksFault
-  marks-outside h =
-      let past : leb (wires (maskedTable isw o (tableOf s))) w ≡ true = le-leb _ w (omega (arith, R .wires)) in
-      let e : marksFault s o w ≡ fault 13 0 = rw (R .passes, past) in
+  marks-outside w h =
+      let past : leb (wires (maskedTable isw o (tableOf s))) w ≡ true = le-leb _ w (omega (arith, masked-wires-are)) in
+      let e : marksFault isw s o w ≡ fault 13 0 = rw (P .none, past) in
       record { number = rw e; place = rw e; first = rw e; second = rw e }
 
   pub marks-inside :
-      {c : DC.Carried} → w < p .wires → CarriedSays (originAt (origins isw (orderOf p) (tableOf s)) w) c
-      → MarksSay s o w (record { number = 0; place = 0; first = c .first; second = c .second })
+      (w : ℕ) {c : DC.Carried} → w < p .wires → CarriedSays (marks isw (originAt (origins isw (p .order) (tableOf s)) w)) c
+      → MarksSay isw (marks isw) s o w (record { number = 0; place = 0; first = c .first; second = c .second })
   unfolding marksFault
-  marks-inside h C =
-      let before : leb (wires (maskedTable isw o (tableOf s))) w ≡ false = lt-leb _ w (omega (arith, R .wires)) in
-      let e : marksFault s o w ≡ none = rw (R .passes, before) in
-      let D = rw (ready-order s o p R) at C in
+  marks-inside w h C =
+      let before : leb (wires (maskedTable isw o (tableOf s))) w ≡ false = lt-leb _ w (omega (arith, masked-wires-are)) in
+      let e : marksFault isw s o w ≡ none = rw (P .none, before) in
+      let D = rw (P .order) at C in
       record { number = rw e; place = rw e; first = rw e (D .first); second = rw e (D .second) }

@@ -5,26 +5,15 @@ use mathlib.Core.List.{List, [], _∷_, _++_, map}
 use Prim.Native.Nat.{ℕ, zero, suc, _+_, _-_, _*_, _≤_, _<_}
 use native.Mathlib.Numerals.{add-one}
 use native.Mathlib.Omega.{arith}
-use lib.ListN.{length, getD, List·getD-append}
-use lib.Seq.{getD-append-add}
-use Rattle.tables.specs.Tables.{wires, word, tableOf, kindOf}
-use Rattle.tables.proofs.Loops.{gatesAt, gateAt, gates-at-table, gates-at-step, gates-at-end}
+use lib.ListN.{length, getD, drop, List·getD-append}
+use lib.Seq.{getD-append-add, drop-cons}
+use Rattle.tables.specs.Tables.{kindOf, noGate, Table, gateOf, wires, tableOf, total}
+use Rattle.tables.proofs.Counts.{total-next, total-none}
 use Rattle.sizing.specs.declared.Plan as DP
 use Rattle.masks.specs.Shares.{sharesOf, upFrom, pairOf, pairsFrom, pairs, tri}
 use Rattle.masks.specs.Gadgets.{isw}
-use Rattle.masks.specs.Wires.{
-  originOf,
-  inputShare,
-  cost,
-  totalOf,
-  newShares,
-  inputShares,
-  inputOrigins,
-  masked,
-  maskedWires,
-  maskedTable,
-  origins,
-}
+use Rattle.masks.specs.Wires.{originOf, inputShare, cost, newShares, inputShares, inputOrigins, masked}
+use Rattle.masks.specs.Wires.{origins}
 use Rattle.masks.specs.Says.{originAt}
 use Rattle.sizing.specs.Plans.{PlanReady}
 use Rattle.marking.specs.Origins.{NewWireSays}
@@ -81,99 +70,85 @@ pair-end {n} {q} {lower} {left} {after} L h =
     ∙ up-at after (suc lower) (λ j. pairOf lower j) left (pairOf 0 0) h
     ∙ rw add-one)
 
--- the search for the plain gate of a wire, at gate g of G, whose first new wire is `first`: the wire is among the new wires
--- of the gates left
-pub record Seeking (s : List ℕ) (o n G wire g first : ℕ) : Type 0 where
+-- the search for the plain gate of a wire, at gate g, whose first new wire is `start`: the wire is among the new wires of the
+-- gates left
+pub record Seeking (t : Table) (n wire g start : ℕ) : Type 0 where
   pub shares : List (List ℕ)
-  pub within : g ≤ G
-  pub past : first ≤ wire
-  pub ahead : wire < first + totalOf (λ k. cost k n) (gatesAt s G g)
+  pub past : start ≤ wire
+  pub ahead : wire < start + total (λ k. cost k n) (drop g (t .gates))
   pub same :
-      originAt (origins isw o (tableOf s)) wire
-      ≡ originAt (map originOf (masked isw n g first shares (gatesAt s G g))) (wire - first)
-
-seek-from :
-    (s : List ℕ) (o wire : ℕ) → sharesOf o * tableOf s .inputs ≤ wire → wire < wires (maskedTable isw o (tableOf s))
-    → Seeking s o (sharesOf o) (word s 2) wire 0 (sharesOf o * tableOf s .inputs)
-unfolding origins
-seek-from s o wire h k =
-    let n = sharesOf o in
-    let m = tableOf s .inputs in
-    let ws = map originOf (maskedWires isw o (tableOf s)) in
-    let past : wire ≡ length (inputOrigins n m) + (wire - n * m) = omega (arith, input-origins-length n m) in
-    record {
-      shares = inputShares n m;
-      within = omega arith;
-      past = h;
-      ahead = rw (gates-at-table s) (omega (arith, masked-wires isw o (tableOf s)));
-      same =
-          ap (λ (y : ℕ). getD (inputOrigins n m ++ ws) y (inputShare 0 0)) past
-          ∙ getD-append-add (inputOrigins n m) ws (wire - n * m) (inputShare 0 0)
-          ∙ rw (gates-at-table s);
-    }
+      (o : ℕ) → n ≡ sharesOf o
+      → originAt (origins isw o t) wire
+      ≡ originAt (map originOf (masked isw n g start shares (drop g (t .gates)))) (wire - start)
 
 pub seek-start :
-    {s : List ℕ} {o : ℕ} {p : DP.Plan} {wire : ℕ} → PlanReady s o p → p .shares * p .inputs ≤ wire → wire < p .wires
-    → Seeking s o (p .shares) (word s 2) wire 0 (p .shares * p .inputs)
-seek-start {s} {o} {p} {wire} R h k =
-    let inputs : p .shares * p .inputs ≡ sharesOf o * tableOf s .inputs = rw (R .shares, R .inputs) in
-    rw (inputs, R .shares)
-    (seek-from s o wire (omega arith) (omega (arith, R .wires)))
+    {s : List ℕ} {p : DP.Plan} {wire : ℕ} → PlanReady s p → p .shares * p .inputs ≤ wire → wire < p .wires
+    → Seeking (tableOf s) (p .shares) wire 0 (p .shares * p .inputs)
+unfolding origins
+seek-start {s} {p} {wire} R h k =
+    let n = p .shares in
+    let m = tableOf s .inputs in
+    let long = masked-wires isw (p .order) (tableOf s) in
+    let ws = map originOf (masked isw n 0 (n * m) (inputShares n m) (tableOf s .gates)) in
+    let past : wire ≡ length (inputOrigins n m) + (wire - n * m) =
+    omega (arith, input-origins-length n m, rw (R .inputs) at h) in
+    rw (R .inputs)
+    (record {
+      shares = inputShares n m;
+      past = rw (R .inputs) at h;
+      ahead = omega (arith, R .wires, rw (← R .shares) at long);
+      same = λ o e.
+          rw (← e)
+          (ap (λ (y : ℕ). getD (inputOrigins n m ++ ws) y (inputShare 0 0)) past
+          ∙ getD-append-add (inputOrigins n m) ws (wire - n * m) (inputShare 0 0));
+    })
 
-module _ {s : List ℕ} {o n G wire g first : ℕ} (S : Seeking s o n G wire g first) where
-  pub seek-some : g < G
-  unfolding totalOf
+module _ {t : Table} {n wire g start : ℕ} (S : Seeking t n wire g start) where
+  pub seek-some : g < length (t .gates)
   seek-some =
-      let left : g ≡ G → ⊥ =
-      λ e.
-      let none : totalOf (λ k. cost k n) (gatesAt s G g) ≡ 0 = rw (e, gates-at-end s G) in
-      omega (arith, S .past, S .ahead) in
-      omega (arith, S .within)
-
-  abbrev here : ℕ
-  here = getD s (6 + g) 0
-
-  left-wires :
-      totalOf (λ k. cost k n) (gatesAt s G g) ≡ cost (kindOf here) n + totalOf (λ k. cost k n) (gatesAt s G (suc g))
-  unfolding totalOf
-  left-wires = rw (gates-at-step s G g seek-some)
+      let some : length (t .gates) ≤ g → ⊥ =
+      λ e. omega (arith, S .past, S .ahead, total-none (λ k. cost k n) t g e) in
+      omega (arith, some)
 
   same-wires :
-      originAt (origins isw o (tableOf s)) wire
-      ≡ originAt (map originOf (masked isw n g first (S .shares) (gateAt s G g ∷ gatesAt s G (suc g)))) (wire - first)
-  same-wires = rw (gates-at-step s G g seek-some) at (S .same)
+      (o : ℕ) → n ≡ sharesOf o
+      → originAt (origins isw o t) wire
+      ≡ originAt (map originOf (masked isw n g start (S .shares) (gateOf t g ∷ drop (suc g) (t .gates)))) (wire - start)
+  same-wires o e = rw (drop-cons (t .gates) g noGate seek-some) at (S .same o e)
 
   -- gate g and its c new wires are passed
-  pub seek-turn : (c : ℕ) → c ≡ cost (kindOf here) n → first + c ≤ wire → Seeking s o n G wire (g + 1) (first + c)
-  seek-turn c e h =
-      let x = gateAt s G g in
-      let T = S .shares ++ (newShares (x .kind) n first (getD (S .shares) (x .left) []) ∷ []) in
-      rw (e, add-one)
+  pub seek-turn :
+      {c : ℕ} (b : ℕ) → kindOf b ≡ gateOf t g .kind → c ≡ cost (kindOf b) n → start + c ≤ wire
+      → Seeking t n wire (g + 1) (start + c)
+  seek-turn {c} b k e h =
+      let x = gateOf t g in
+      let costs : c ≡ cost (x .kind) n = rw (← k) e in
+      rw (costs, add-one)
       (record {
-        shares = T;
-        within = seek-some;
+        shares = S .shares ++ (newShares (x .kind) n start (getD (S .shares) (x .left) []) ∷ []);
         past = omega arith;
-        ahead = omega (arith, S .ahead, left-wires);
-        same =
-            same-wires
-            ∙ masked-past isw n g first (S .shares) x (gatesAt s G (suc g)) (wire - first)
-            (wire - (first + cost (kindOf here) n))
+        ahead = omega (arith, S .ahead, total-next (λ k. cost k n) t g seek-some);
+        same = λ o en.
+            same-wires o en
+            ∙ masked-past isw n g start (S .shares) x (drop (suc g) (t .gates)) (wire - start)
+            (wire - (start + cost (x .kind) n))
             (omega arith);
       })
 
   -- the wire is one of gate g's c new wires
   pub seek-end :
-      n ≡ sharesOf o → (c : ℕ) → c ≡ cost (kindOf here) n → wire < first + c
-      → NewWireSays s o wire (record { gate = g; kind = here; place = wire - first })
-  seek-end en c e h =
-      let x = gateAt s G g in
+      {b c o : ℕ} → n ≡ sharesOf o → kindOf b ≡ gateOf t g .kind → c ≡ cost (kindOf b) n → wire < start + c
+      → NewWireSays t o wire (record { gate = g; kind = b; place = wire - start })
+  seek-end {b} {c} {o} en k e h =
+      let x = gateOf t g in
+      let costs : c ≡ cost (x .kind) n = rw (← k) e in
       record {
-        first = first;
+        start = start;
         left = getD (S .shares) (x .left) [];
         right = getD (S .shares) (x .right) [];
-        below = rw (← en) (omega (arith, S .past));
+        below = rw (k, ← en) (omega (arith, S .past, costs));
         origin =
-            rw (← en)
-            (same-wires
-            ∙ masked-here isw n g first (S .shares) x (gatesAt s G (suc g)) (wire - first) (omega (arith, S .past)));
+            rw (k, ← en)
+            (same-wires o en
+            ∙ masked-here isw n g start (S .shares) x (drop (suc g) (t .gates)) (wire - start) (omega (arith, S .past, costs)));
       }

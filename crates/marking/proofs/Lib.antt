@@ -1,5 +1,4 @@
 -- Laws that the proofs of marking cite.
 pub mod Origins
-pub mod Ready
 pub mod Finding
 pub mod Carrying

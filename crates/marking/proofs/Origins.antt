@@ -13,38 +13,17 @@ use Rattle.marking.specs.declared.SharePair as DP
 use Rattle.marking.specs.declared.AndPart.the-variants.{Pair, Own, Sum}
 use Rattle.masks.specs.Shares as DS
 use Rattle.masks.specs.Shares.{sharesOf, upFrom, inTurn, pairOf, pairs, tri, row}
-use Rattle.masks.specs.Gadgets.{Gadget, Five, first, second, third, fourth, fifth, place}
-use Rattle.masks.specs.Wires.{
-  pair,
-  own,
-  sum,
-  Origin,
-  inputShare,
-  notOf,
-  xorShare,
-  andPart,
-  Wire,
-  wire,
-  originOf,
-  pairWires,
-  adding,
-  rowWires,
-  pairWire,
-  andWires,
-  newWires,
-  cost,
-  newShares,
-  inputOrigins,
-  origins,
-  masked,
-}
+use Rattle.masks.specs.Gadgets.{Gadget, Five, first, second, third, fourth, fifth, indexOf}
+use Rattle.masks.specs.Wires.{pair, own, sum, Origin, inputShare, notOf, xorShare, andPart, Wire, wire, originOf}
+use Rattle.masks.specs.Wires.{pairWires, adding, rowWires, pairWire, andWires, newWires, cost, newShares}
+use Rattle.masks.specs.Wires.{inputOrigins, origins, masked}
 use Rattle.masks.specs.Says.{originAt}
 use Rattle.marking.specs.Origins.{PairSays, fiveOf, PartSays}
 use Rattle.masks.proofs.Sum.{up-length, up-at}
 use Rattle.masks.proofs.Rows.{pairs-length, row-length}
 use Rattle.masks.proofs.Each.{in-turn-at, in-turn-length}
 use Rattle.masks.proofs.Costs.{all-of, pairs-span, rows-span, new-length, input-origins-length}
-use Rattle.masks.proofs.Placed.{place-small}
+use Rattle.masks.proofs.Placed.{index-small}
 
 abbrev noWire : Wire
 noWire = wire (gate NOT 0 0) (inputShare 0 0)
@@ -53,7 +32,7 @@ origin-map : (xs : List Wire) (i : ℕ) → originAt (map originOf xs) i ≡ get
 origin-map xs i = List·getD-map originOf xs i noWire
 
 -- "Share s of input i is wire n·i+s−1"
-pub input-origin :
+input-origin :
     (n m i s w : ℕ) → i < m → s < n → w ≡ n * i + s → originAt (inputOrigins n m) w ≡ inputShare i s
 unfolding inputOrigins
 input-origin n m i s w hi hs e =
@@ -137,14 +116,14 @@ module _ (G : Gadget) (n g w : ℕ) (a b : List ℕ) where
 
   -- wire f of pair number q
   pub pair-origin :
-      (f : Five) (q d : ℕ) → q < tri n → d ≡ 5 * q + place f
+      (f : Five) (q d : ℕ) → q < tri n → d ≡ 5 * q + indexOf f
       → originAt (map originOf (andWires G n g w a b)) d
       ≡ andPart g (pair f (getD (pairs n) q (pairOf 0 0) .lower) (getD (pairs n) q (pairOf 0 0) .upper))
   pair-origin f q d h e =
-      origin-map (andWires G n g w a b) d ∙ ap originOf (in-pair q (place f) d h (place-small f) e) ∙ here f
+      origin-map (andWires G n g w a b) d ∙ ap originOf (in-pair q (indexOf f) d h (index-small f) e) ∙ here f
     where
       here : (f : Five)
-          → getD (pairWires G g a b (w + 5 * q) (getD (pairs n) q (pairOf 0 0))) (place f) noWire .origin
+          → getD (pairWires G g a b (w + 5 * q) (getD (pairs n) q (pairOf 0 0))) (indexOf f) noWire .origin
           ≡ andPart g (pair f (getD (pairs n) q (pairOf 0 0) .lower) (getD (pairs n) q (pairOf 0 0) .upper))
       here first = refl
       here second = refl
@@ -153,13 +132,13 @@ module _ (G : Gadget) (n g w : ℕ) (a b : List ℕ) where
       here fifth = refl
 
   -- the own product of row i
-  pub own-origin :
+  own-origin :
       (i d : ℕ) → i < n → d ≡ 5 * tri n + n * i → originAt (map originOf (andWires G n g w a b)) d ≡ andPart g (own i)
   own-origin i d h e =
       origin-map (andWires G n g w a b) d ∙ ap originOf (in-row i 0 d h (omega arith) (omega arith))
 
   -- the sum of m terms of row i
-  pub sum-origin :
+  sum-origin :
       (i m d : ℕ) → i < n → 0 < m → m < n → d ≡ 5 * tri n + n * i + m
       → originAt (map originOf (andWires G n g w a b)) d ≡ andPart g (sum i m)
   sum-origin i zero d h k l e = absurd (omega arith)
@@ -198,12 +177,12 @@ module _ (G : Gadget) (n g w : ℕ) (S : List (List ℕ)) (x : Gate) (xs : List 
       let past : d ≡ length (map originOf new) + e = omega (arith, new-long) in
       rw (map-append, past) (getD-append-add (map originOf new) rest e (inputShare 0 0))
 
-five-place : (f : ℕ) → f < 5 → f ≡ place (fiveOf f)
-five-place zero h = refl
-five-place (suc zero) h = refl
-five-place (suc (suc zero)) h = refl
-five-place (suc (suc (suc zero))) h = refl
-five-place (suc (suc (suc (suc k)))) h = omega arith
+five-index : (f : ℕ) → f < 5 → f ≡ indexOf (fiveOf f)
+five-index zero h = refl
+five-index (suc zero) h = refl
+five-index (suc (suc zero)) h = refl
+five-index (suc (suc (suc zero))) h = refl
+five-index (suc (suc (suc (suc k)))) h = omega arith
 
 -- wire d of an AND, before its rows
 pub pair-says :
@@ -213,9 +192,9 @@ pair-says n d c {p} e h P =
     record {
       origin =
           λ G g w a b.
-          pair-origin G n g w a b (fiveOf (d % 5)) (d / 5) d (omega arith) (omega (arith, five-place (d % 5) (omega arith)))
+          pair-origin G n g w a b (fiveOf (d % 5)) (d / 5) d (omega arith) (omega (arith, five-index (d % 5) (omega arith)))
           ∙ ap (λ (y : DS.Pair). andPart g (pair (fiveOf (d % 5)) (y .lower) (y .upper))) (sym (P .is));
-      among = (P .ordered, P .inside);
+      among = (omega arith, P .ordered, P .inside);
     }
 
 some-square : (n x : ℕ) → x < n * n → 0 < n

@@ -1,20 +1,20 @@
--- Where a wire of the masked table comes from, as the code answers it: the pair of shares at a place, the part of an AND that
+-- For contracts inside the library only: no promise of a call cites this. Where a wire of the masked table comes from, as the code
+-- answers it: the pair of shares at a place, the part of an AND that
 -- is one of its wires, and the share numbers that an origin carries.
 -- Assumes nothing.
 use mathlib.Core.Path.{_≡_}
 use mathlib.Core.List.{List, map}
-use Prim.Native.Nat.{ℕ, zero, suc, _/_, _<_}
+use Prim.Native.Nat.{ℕ, zero, suc, _<_}
 use lib.ListN.{getD}
 use Rattle.marking.specs.declared.SharePair as DP
 use Rattle.marking.specs.declared.Carried as DC
-use Rattle.sizing.specs.declared.Plan as DN
 use Rattle.marking.specs.declared.NewWire as DW
-use Rattle.tables.specs.Tables.{Kind, kindOf, tableOf}
+use Rattle.tables.specs.Tables.{Kind, kindOf, Table}
 use Rattle.marking.specs.declared.AndPart as DA
 use Rattle.marking.specs.declared.AndPart.the-variants.{Pair, Own, Sum}
 use Rattle.masks.specs.Shares.{sharesOf, pairOf, pairs}
 use Rattle.masks.specs.Gadgets.{Five, first, second, third, fourth, fifth, Gadget, isw}
-use Rattle.masks.specs.Wires.{Part, pair, own, sum, Origin, andPart, originOf, marks, andWires, newWires, cost, origins}
+use Rattle.masks.specs.Wires.{Part, pair, own, sum, andPart, originOf, marks, andWires, newWires, cost, origins}
 use Rattle.masks.specs.Says.{originAt}
 
 -- the pair at place q among the pairs of n shares
@@ -37,9 +37,9 @@ partOf (Pair f i j) = pair (fiveOf f) i j
 partOf (Own i) = own i
 partOf (Sum i m) = sum i m
 
--- its shares and rows are among n
+-- its wire is one of five, its shares and rows are among n
 abbrev pub Among : ℕ → DA.AndPart → Type 0
-Among n (Pair f i j) = (i < j) × (j < n)
+Among n (Pair f i j) = (f < 5) × (i < j) × (j < n)
 Among n (Own i) = i < n
 Among n (Sum i m) = (i < n) × (m < n)
 
@@ -50,30 +50,27 @@ pub record PartSays (n d : ℕ) (r : DA.AndPart) : Type 0 where
       → originAt (map originOf (andWires G n g w a b)) d ≡ andPart g (partOf r)
   pub among : Among n r
 
--- the share numbers that a wire of an origin carries, 0 for none
-pub record CarriedSays (x : Origin) (r : DC.Carried) : Type 0 where
-  pub first : r .first ≡ getD (marks isw x) 0 0
-  pub second : r .second ≡ getD (marks isw x) 1 0
+-- the share numbers ms, 0 for none
+pub record CarriedSays (ms : List ℕ) (r : DC.Carried) : Type 0 where
+  pub first : r .first ≡ getD ms 0 0
+  pub second : r .second ≡ getD ms 1 0
 
 -- those of a part of an AND, whichever AND it is
 pub record PartMarksSay (p : DA.AndPart) (r : DC.Carried) : Type 0 where
-  pub carried : (g : ℕ) → CarriedSays (andPart g (partOf p)) r
+  pub carried : (g : ℕ) → CarriedSays (marks isw (andPart g (partOf p))) r
 
 -- those of new wire d of a plain gate, whichever gate it is
 pub record GateMarksSay (k : Kind) (n d : ℕ) (r : DC.Carried) : Type 0 where
-  pub carried : (g w : ℕ) (a b : List ℕ) → CarriedSays (originAt (map originOf (newWires isw k n g w a b)) d) r
-
--- the order of a plan: "n = 2t+1"
-abbrev pub orderOf : DN.Plan → ℕ
-orderOf p = p .shares / 2
+  pub carried :
+      (g w : ℕ) (a b : List ℕ) → CarriedSays (marks isw (originAt (map originOf (newWires isw k n g w a b)) d)) r
 
 -- the plain gate that a wire past the input shares is a new wire of, and which of them, where the gate's first new wire is
--- `first` and its operands' shares are on the wires `left` and `right`
-pub record NewWireSays (s : List ℕ) (o wire : ℕ) (r : DW.NewWire) : Type 0 where
-  pub first : ℕ
+-- `start` and its operands' shares are on the wires `left` and `right`
+pub record NewWireSays (t : Table) (o wire : ℕ) (r : DW.NewWire) : Type 0 where
+  pub start : ℕ
   pub left : List ℕ
   pub right : List ℕ
   pub below : r .place < cost (kindOf (r .kind)) (sharesOf o)
   pub origin :
-      originAt (origins isw o (tableOf s)) wire
-      ≡ originAt (map originOf (newWires isw (kindOf (r .kind)) (sharesOf o) (r .gate) first left right)) (r .place)
+      originAt (origins isw o t) wire
+      ≡ originAt (map originOf (newWires isw (kindOf (r .kind)) (sharesOf o) (r .gate) start left right)) (r .place)

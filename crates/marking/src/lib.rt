@@ -2,11 +2,11 @@
 ghost use Prim.Native.Nat.{_*_, _≤_, _<_};
 ghost use Rattle.tables.specs.Tables.{kindOf, tableOf, AND};
 ghost use Rattle.masks.specs.Shares.{tri};
-ghost use Rattle.masks.specs.Wires.{cost, origins};
+ghost use Rattle.masks.specs.Wires.{marks, cost, origins};
 ghost use Rattle.masks.specs.Says.{originAt, MarksSay};
 ghost use Rattle.sizing.specs.Plans.{PlanReady};
 ghost use Rattle.masks.specs.Gadgets.{isw};
-ghost use Rattle.marking.specs.Origins.{PairSays, Among, PartSays, CarriedSays, PartMarksSay, GateMarksSay, orderOf, NewWireSays};
+ghost use Rattle.marking.specs.Origins.{PairSays, Among, PartSays, CarriedSays, PartMarksSay, GateMarksSay, NewWireSays};
 
 // The share numbers that a wire carries, ascending, 0 for none.
 pub struct Carried {
@@ -59,7 +59,7 @@ pub fn and_part(n: usize, d: usize) -> AndPart
     requires { ⌜ (n ≤ 31) × (d < cost AND n) ⌝ }
     ensures { λ r. ⌜ PartSays n d r ⌝ }
 {
-    let crossed = 5 * sizing::pair_count(n);
+    let crossed = 5 * masks::pair_count(n);
     if d < crossed {
         let p = pair_of(n, d / 5);
         return AndPart::Pair {
@@ -136,31 +136,32 @@ fn gate_marks(kind: u8, n: usize, d: usize) -> Carried
 
 // The plain gate that a wire past the input shares is a new wire of.
 pub fn find_gate(table: &[u8], p: sizing::Plan, wire: usize) -> NewWire
-    requires { ⌜ PlanReady (now table) (orderOf p) p × (p .shares * p .inputs ≤ wire) × (wire < p .wires) ⌝ }
-    ensures { λ r. ⌜ NewWireSays (now (table .entry)) (orderOf p) wire r ⌝ }
+    requires { ⌜ PlanReady (now table) p × (p .shares * p .inputs ≤ wire) × (wire < p .wires) ⌝ }
+    ensures { λ r. ⌜ NewWireSays (tableOf (now (table .entry))) (p .order) wire r ⌝ }
 {
     let n = p.shares;
-    let mut first = n * p.inputs;
+    let gates = p.gates;
+    let mut start = n * p.inputs;
     let mut g = 0;
     loop {
-        let kind = table[6 + g];
-        let next = first + sizing::gate_cost(kind, n);
+        let x = tables::gate_at(table, gates, g);
+        let next = start + masks::gate_cost(x.kind, n);
         if wire < next {
             return NewWire {
                 gate: g,
-                kind,
-                place: wire - first,
+                kind: x.kind,
+                place: wire - start,
             };
         }
-        first = next;
+        start = next;
         g += 1;
     }
 }
 
 // The share numbers that a wire of the masked table carries.
 pub fn marks_at(table: &[u8], p: sizing::Plan, wire: usize) -> Carried
-    requires { ⌜ PlanReady (now table) (orderOf p) p × (wire < p .wires) ⌝ }
-    ensures { λ r. ⌜ CarriedSays (originAt (origins isw (orderOf p) (tableOf (now (table .entry)))) wire) r ⌝ }
+    requires { ⌜ PlanReady (now table) p × (wire < p .wires) ⌝ }
+    ensures { λ r. ⌜ CarriedSays (marks isw (originAt (origins isw (p .order) (tableOf (now (table .entry)))) wire)) r ⌝ }
 {
     let n = p.shares;
     if wire < n * p.inputs {
@@ -175,7 +176,7 @@ pub fn marks_at(table: &[u8], p: sizing::Plan, wire: usize) -> Carried
 
 // The share numbers that a wire of the masked table of a plain table carries, or the refusal.
 pub fn wire_marks(table: &[u8], order: u8, wire: u32) -> masks::Marks
-    ensures { λ r. ⌜ MarksSay (now (table .entry)) order wire r ⌝ }
+    ensures { λ r. ⌜ MarksSay isw (marks isw) (now (table .entry)) order wire r ⌝ }
 {
     match sizing::plan_table(table, order) {
         sizing::Planned::Refused(r) => masks::Marks {

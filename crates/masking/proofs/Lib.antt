@@ -1,3 +1,2 @@
 -- Laws that the proofs of masking cite.
 pub mod Masked
-pub mod Input

@@ -11,19 +11,8 @@ use Rattle.tables.specs.Runs.{randoms}
 use Rattle.tables.proofs.Run.{Solves, solves-append}
 use Rattle.masks.specs.Shares.{upFrom, inTurn, Pair, pairOf, pairs, tri, row}
 use Rattle.masks.specs.Gadgets.{allFive, Gadget}
-use Rattle.masks.specs.Wires.{
-  Origin,
-  andPart,
-  sum,
-  driverOf,
-  share,
-  pairWires,
-  adding,
-  rowWires,
-  pairWire,
-  andWires,
-  newShares,
-}
+use Rattle.masks.specs.Wires.{Origin, andPart, sum, driverOf, share, pairWires, adding, rowWires, pairWire}
+use Rattle.masks.specs.Wires.{andWires, newShares}
 use Rattle.masks.proofs.Sum.{sumOf, sum-add, sum-parity, up-length, up-at, up-all, up-ids, sum-by-index, square}
 use Rattle.masks.proofs.Rows.{pairs-length, row-length, rows-sum}
 use Rattle.masks.proofs.Each.{in-turn-length, in-turn-draws, solves-in-turn}
@@ -31,7 +20,7 @@ use Rattle.masks.proofs.Lawful.{Lawful}
 use Rattle.masks.proofs.Costs.{pairs-span, rows-span, pairs-draw, rows-draw}
 
 -- a running sum ends in the sum, modulo 2
-pub adding-adds :
+adding-adds :
     (o : ℕ → Origin) (m last next c : ℕ) (zs : List ℕ) (r v : ℕ → ℕ) → next ≡ suc last
     → Solves next c (map driverOf (adding o m last next zs)) r v
     → v (last + length zs) % 2 ≡ (v last + sumOf v zs) % 2
@@ -103,7 +92,7 @@ module _
         rw (e, at) at t
 
     -- the last wire of row i is its own product and what it adds
-    pub row-adds :
+    row-adds :
         (i : ℕ) → i < n
         → v (w + 5 * tri n + n * i + (n - 1)) % 2 ≡ (v (share a i) * v (share b i) + sumOf v (rowTerms G n w i)) % 2
     unfolding Solves

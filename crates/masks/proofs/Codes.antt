@@ -8,8 +8,8 @@ use native.Mathlib.Nat.{zero-add, mul-zero, mul-le-mul-left, div-eq-of-eq-mul-ri
 use native.Mathlib.Omega.{arith}
 use lib.ListN.{length, getD, take, drop, length-append, length-drop, List·getD-append}
 use lib.Seq.{length-take-le, append-snoc, drop-drop, getD-drop, take-at, drop-at, drop-append-add, drop-cons}
-use Rattle.tables.specs.Runs.{xor}
-use Rattle.tables.proofs.Lists.{All, Bits, bits-nil, bits-cons, bits-append, bits-take, bits-drop}
+use Rattle.tables.specs.Runs.{xor, Bits}
+use Rattle.tables.proofs.Lists.{All, bits-nil, bits-cons, bits-append, bits-take, bits-drop}
 use Rattle.masks.specs.Shares.{sharesOf}
 use Rattle.masks.specs.Codes.{xorAll, encode, decodeFrom, decode}
 use Rattle.masks.proofs.Sum.{sumOf, sum-append}
@@ -19,7 +19,7 @@ unfolding xorAll sumOf
 xor-all v [] h = omega arith
 xor-all v (b ∷ bs) h = xor-all (xor v b) bs (omega arith) ∙ omega arith
 
-pub xor-all-bit : (v : ℕ) (bs : List ℕ) → v ≤ 1 → xorAll v bs ≤ 1
+xor-all-bit : (v : ℕ) (bs : List ℕ) → v ≤ 1 → xorAll v bs ≤ 1
 xor-all-bit v bs h = omega (arith, xor-all v bs h)
 
 -- the n shares of the secret x, whose first 2t are bs
@@ -29,7 +29,7 @@ group x bs = bs ++ (xorAll x bs ∷ [])
 pub group-length : (x : ℕ) (bs : List ℕ) → length (group x bs) ≡ suc (length bs)
 group-length x bs = length-append bs _ ∙ omega arith
 
-pub group-adds : (x : ℕ) (bs : List ℕ) → x ≤ 1 → sumOf (λ b. b) (group x bs) % 2 ≡ x
+group-adds : (x : ℕ) (bs : List ℕ) → x ≤ 1 → sumOf (λ b. b) (group x bs) % 2 ≡ x
 unfolding sumOf
 group-adds x bs h = omega (arith, sum-append (λ b. b) bs (xorAll x bs ∷ []), xor-all x bs h)
 
@@ -41,13 +41,13 @@ encode-cons o x xs ts = sym (append-snoc (take (2 * o) ts) _ _)
 
 -- a tape for one input more has its 2t bits in front
 module _ (o x : ℕ) (xs ts : List ℕ) (long : length ts ≡ 2 * o * length (x ∷ xs)) where
-  pub tape-front : length (take (2 * o) ts) ≡ 2 * o
+  tape-front : length (take (2 * o) ts) ≡ 2 * o
   tape-front = length-take-le (2 * o) ts (omega arith)
 
-  pub tape-rest : length (drop (2 * o) ts) ≡ 2 * o * length xs
+  tape-rest : length (drop (2 * o) ts) ≡ 2 * o * length xs
   tape-rest = length-drop (2 * o) ts ∙ omega arith
 
-  pub group-long : length (group x (take (2 * o) ts)) ≡ sharesOf o
+  group-long : length (group x (take (2 * o) ts)) ≡ sharesOf o
   group-long = omega (arith, group-length x (take (2 * o) ts), tape-front)
 
 pub encode-length :
@@ -73,7 +73,7 @@ encode-bits o (x ∷ xs) ts hx ht =
     (encode-bits o xs (drop (2 * o) ts) (λ i. hx (suc i)) (bits-drop (2 * o) ts ht)))
 
 -- what follows the groups of the first i inputs is the encoding of the others
-pub encode-drop :
+encode-drop :
     (o : ℕ) (xs ts : List ℕ) (i : ℕ) → length ts ≡ 2 * o * length xs → i ≤ length xs
     → drop (sharesOf o * i) (encode o xs ts) ≡ encode o (drop i xs) (drop (2 * o * i) ts)
 encode-drop o xs ts zero long h = simp mul-zero
@@ -97,11 +97,11 @@ module _ (o : ℕ) (xs ts : List ℕ) (i : ℕ) (long : length ts ≡ 2 * o * le
       let room : 2 * o * suc i ≤ 2 * o * length xs = mul-le-mul-left (2 * o) h in
       length-take-le (2 * o) (drop (2 * o * i) ts) (omega (arith, length-drop (2 * o * i) ts))
 
-  pub group-long-at : length (group (getD xs i 0) (bitsOf o ts i)) ≡ sharesOf o
+  group-long-at : length (group (getD xs i 0) (bitsOf o ts i)) ≡ sharesOf o
   group-long-at = omega (arith, group-length (getD xs i 0) (bitsOf o ts i), bits-long)
 
   -- the encoding from input i on: its group and the others
-  pub encode-at :
+  encode-at :
       drop (sharesOf o * i) (encode o xs ts)
       ≡ group (getD xs i 0) (bitsOf o ts i) ++ encode o (drop (suc i) xs) (drop (2 * o) (drop (2 * o * i) ts))
   encode-at =
@@ -117,7 +117,7 @@ module _ (o : ℕ) (xs ts : List ℕ) (i : ℕ) (long : length ts ≡ 2 * o * le
       ∙ rw encode-at (List·getD-append (group (getD xs i 0) (bitsOf o ts i)) _ 0 s (omega (arith, group-long-at)))
 
   -- the n shares of input i are its group
-  pub encode-group : take (sharesOf o) (drop (sharesOf o * i) (encode o xs ts)) ≡ group (getD xs i 0) (bitsOf o ts i)
+  encode-group : take (sharesOf o) (drop (sharesOf o * i) (encode o xs ts)) ≡ group (getD xs i 0) (bitsOf o ts i)
   encode-group = rw encode-at (take-at (group (getD xs i 0) (bitsOf o ts i)) _ (sharesOf o) group-long-at)
 
 -- the n shares of input i add up to the secret, modulo 2
@@ -131,7 +131,7 @@ unfoldable pub joined : {A : Type 0} → List (List A) → List A
 joined [] = []
 joined (g ∷ gs) = g ++ joined gs
 
-pub joined-length :
+joined-length :
     {A : Type 0} (n : ℕ) (gs : List (List A)) → All (λ g. length g ≡ n) gs → length (joined gs) ≡ n * length gs
 unfolding joined All
 joined-length n [] a = omega arith
@@ -155,7 +155,7 @@ decode-groups o gs a =
     rw (div-eq-of-eq-mul-right {n = suc (2 * o)} {k = length gs} (omega arith) (joined-length (sharesOf o) gs a))
     (decode-from-groups (sharesOf o) gs a)
 
-decode-from-length : (c n : ℕ) (bs : List ℕ) → length (decodeFrom c n bs) ≡ c
+pub decode-from-length : (c n : ℕ) (bs : List ℕ) → length (decodeFrom c n bs) ≡ c
 unfolding decodeFrom
 decode-from-length zero n bs = refl
 decode-from-length (suc c) n bs = ap suc (decode-from-length c n (drop n bs))
@@ -169,7 +169,7 @@ unfoldable pub groups : ℕ → List ℕ → List ℕ → List (List ℕ)
 groups o [] ts = []
 groups o (x ∷ xs) ts = group x (take (2 * o) ts) ∷ groups o xs (drop (2 * o) ts)
 
-pub encode-groups : (o : ℕ) (xs ts : List ℕ) → encode o xs ts ≡ joined (groups o xs ts)
+encode-groups : (o : ℕ) (xs ts : List ℕ) → encode o xs ts ≡ joined (groups o xs ts)
 unfolding encode groups joined
 encode-groups o [] ts = refl
 encode-groups o (x ∷ xs) ts = encode-cons o x xs ts ∙ rw (encode-groups o xs (drop (2 * o) ts))

@@ -7,40 +7,26 @@ use Prim.Native.Nat.{ℕ, zero, suc, _+_, _-_, _*_}
 use native.Mathlib.Nat.{zero-add}
 use native.Mathlib.Omega.{arith}
 use lib.ListN.{length, getD, length-append, length-map}
-use Rattle.tables.specs.Tables.{Kind, NOT, XOR, AND, RANDOM, UNKNOWN, Gate, gate, Table, wires}
-use Rattle.tables.specs.Runs.{randoms}
+use Rattle.tables.specs.Tables.{Kind, NOT, XOR, AND, RANDOM, UNKNOWN, Gate, gate, Table, wires, total}
+use Rattle.tables.specs.Runs.{randoms, drawn}
 use Rattle.tables.proofs.Lists.{All}
-use Rattle.tables.proofs.Run.{randoms-append}
 use Rattle.masks.specs.Shares.{sharesOf, upFrom, inTurn, pairs, tri, row}
-use Rattle.masks.specs.Gadgets.{Gadget}
-use Rattle.masks.specs.Wires.{
-  wire,
-  Origin,
-  andPart,
-  sum,
-  xorShare,
-  share,
-  driverOf,
-  adding,
-  pairWires,
-  rowWires,
-  pairWire,
-  andWires,
-  newWires,
-  cost,
-  draws,
-  totalOf,
-  masked,
-  maskedWires,
-  maskedTable,
-  tapeLong,
-  inputShare,
-  inputOrigins,
-}
+use Rattle.masks.specs.Gadgets.{Gadget, isw}
+use Rattle.masks.specs.Wires.{wire, Origin, andPart, sum, xorShare, share, driverOf, adding, pairWires}
+use Rattle.masks.specs.Wires.{rowWires, pairWire, andWires, newWires, cost, draws, masked, maskedWires}
+use Rattle.masks.specs.Wires.{maskedTable, tapeLong, inputShare, inputOrigins, sharesAfter, outputShares}
 use Rattle.masks.proofs.Sum.{up-length, up-all}
 use Rattle.masks.proofs.Rows.{pairs-length, row-length}
 use Rattle.masks.proofs.Each.{Spans, Draws, in-turn-length, in-turn-draws}
 use Rattle.masks.proofs.Lawful.{Lawful}
+use Rattle.tables.proofs.Run.{total-append}
+
+-- an example at order 1: "NOT: one new wire, the NOT of share 1. Shares 2 to n are the operand's wires"
+not-masked :
+    maskedTable isw 1 (record { inputs = 1; gates = gate NOT 0 0 ∷ []; outputs = 1 ∷ [] })
+    ≡ record { inputs = 3; gates = gate NOT 0 0 ∷ []; outputs = 3 ∷ 1 ∷ 2 ∷ [] }
+unfolding upFrom masked sharesAfter outputShares maskedTable
+not-masked = refl
 
 pub adding-length :
     (o : ℕ → Origin) (m last next : ℕ) (zs : List ℕ) → length (adding o m last next zs) ≡ length zs
@@ -48,9 +34,9 @@ unfolding adding
 adding-length o m last next [] = refl
 adding-length o m last next (z ∷ zs) = ap suc (adding-length o (suc m) next (suc next) zs)
 
-pub adding-draws :
+adding-draws :
     (o : ℕ → Origin) (m last next : ℕ) (zs : List ℕ) → randoms (map driverOf (adding o m last next zs)) ≡ 0
-unfolding adding randoms
+unfolding adding total
 adding-draws o m last next [] = refl
 adding-draws o m last next (z ∷ zs) = omega (arith, adding-draws o (suc m) next (suc next) zs)
 
@@ -73,7 +59,7 @@ module _ (G : Gadget) (n g : ℕ) (a b : List ℕ) where
   pairs-draw L = all-of _ (λ p w. L .one-random w _ _ _ _) (pairs n)
 
   pub rows-draw : (zs : ℕ → List ℕ) → All (Draws 0 (rowWires g a b zs)) (upFrom n 0 (λ i. i))
-  unfolding randoms
+  unfolding total
   rows-draw zs =
       all-of _ (λ i w. zero-add _ ∙ adding-draws (λ m. andPart g (sum i m)) 1 w (suc w) (zs i)) (upFrom n 0 (λ i. i))
 
@@ -98,20 +84,20 @@ new-length G (UNKNOWN c) n g w a b = refl
 xors-draw :
     (c s : ℕ) (l r : ℕ → ℕ) (o : ℕ → Origin)
     → randoms (map driverOf (upFrom c s (λ i. wire (gate XOR (l i) (r i)) (o i)))) ≡ 0
-unfolding upFrom randoms
+unfolding upFrom total
 xors-draw zero s l r o = refl
 xors-draw (suc c) s l r o = zero-add _ ∙ xors-draw c (suc s) l r o
 
 pub new-draws :
     {G : Gadget} (L : Lawful G) (k : Kind) (n g w : ℕ) (a b : List ℕ)
     → randoms (map driverOf (newWires G k n g w a b)) ≡ draws k n
-unfolding andWires randoms
+unfolding andWires total
 new-draws L NOT n g w a b = refl
 new-draws L XOR n g w a b = xors-draw n 0 (share a) (share b) (xorShare g)
 new-draws {G} L AND n g w a b =
     let zs = row n (pairWire w (G .low)) (pairWire w (G .high)) in
     rw map-append
-    (randoms-append (map driverOf (inTurn 5 w (pairs n) (pairWires G g a b))) _
+    (total-append drawn (map driverOf (inTurn 5 w (pairs n) (pairWires G g a b))) _
     ∙ omega (
       arith,
       in-turn-draws 5 1 w (pairs n) (pairWires G g a b) (pairs-draw G n g a b L),
@@ -124,8 +110,8 @@ new-draws L (UNKNOWN c) n g w a b = refl
 -- as many wires in all as the gates cost
 pub masked-length :
     (G : Gadget) (n g w : ℕ) (S : List (List ℕ)) (xs : List Gate)
-    → length (masked G n g w S xs) ≡ totalOf (λ k. cost k n) xs
-unfolding masked totalOf
+    → length (masked G n g w S xs) ≡ total (λ k. cost k n) xs
+unfolding masked total
 masked-length G n g w S [] = refl
 masked-length G n g w S (x ∷ xs) =
     length-append (newWires G (x .kind) n g w (getD S (x .left) []) (getD S (x .right) [])) _
@@ -133,12 +119,12 @@ masked-length G n g w S (x ∷ xs) =
 
 pub masked-draws :
     {G : Gadget} (L : Lawful G) (n g w : ℕ) (S : List (List ℕ)) (xs : List Gate)
-    → randoms (map driverOf (masked G n g w S xs)) ≡ totalOf (λ k. draws k n) xs
-unfolding masked totalOf randoms
+    → randoms (map driverOf (masked G n g w S xs)) ≡ total (λ k. draws k n) xs
+unfolding masked total
 masked-draws L n g w S [] = refl
 masked-draws {G} L n g w S (x ∷ xs) =
     rw map-append
-    (randoms-append (map driverOf (newWires G (x .kind) n g w (getD S (x .left) []) (getD S (x .right) []))) _
+    (total-append drawn (map driverOf (newWires G (x .kind) n g w (getD S (x .left) []) (getD S (x .right) []))) _
     ∙ ap₂ (λ (p q : ℕ). p + q) (new-draws L (x .kind) n g w _ _) (masked-draws L n (suc g) _ _ xs))
 
 pub input-origins-length : (n m : ℕ) → length (inputOrigins n m) ≡ n * m
@@ -151,7 +137,7 @@ input-origins-length n m =
 -- the masked table's wires
 pub masked-wires :
     (G : Gadget) (o : ℕ) (t : Table)
-    → wires (maskedTable G o t) ≡ sharesOf o * t .inputs + totalOf (λ k. cost k (sharesOf o)) (t .gates)
+    → wires (maskedTable G o t) ≡ sharesOf o * t .inputs + total (λ k. cost k (sharesOf o)) (t .gates)
 unfolding maskedTable
 masked-wires G o t =
     ap (λ (y : ℕ). sharesOf o * t .inputs + y)
@@ -160,6 +146,6 @@ masked-wires G o t =
 -- the tape: the encoder's bits, and those of the random gates
 pub masked-tape :
     {G : Gadget} (L : Lawful G) (o : ℕ) (t : Table)
-    → tapeLong G o t ≡ 2 * o * t .inputs + totalOf (λ k. draws k (sharesOf o)) (t .gates)
+    → tapeLong G o t ≡ 2 * o * t .inputs + total (λ k. draws k (sharesOf o)) (t .gates)
 unfolding tapeLong maskedTable
 masked-tape L o t = ap (λ (y : ℕ). 2 * o * t .inputs + y) (masked-draws L (sharesOf o) 0 _ _ (t .gates))

@@ -7,12 +7,13 @@ use Prim.Native.Nat.{ℕ, zero, suc, _+_, _*_, _<_}
 use native.Mathlib.Omega.{arith}
 use lib.ListN.{length, getD, length-append, length-map, List·getD-append}
 use lib.Seq.{getD-append-add}
-use Rattle.tables.specs.Runs.{randoms}
+use Rattle.tables.specs.Runs.{randoms, drawn}
 use Rattle.tables.proofs.Lists.{All}
-use Rattle.tables.proofs.Run.{Solves, solves-append, randoms-append}
+use Rattle.tables.proofs.Run.{Solves, solves-append, total-append}
 use Rattle.masks.specs.Shares.{upFrom, inTurn}
 use Rattle.masks.specs.Wires.{Wire, driverOf}
 use Rattle.masks.proofs.Sum.{up-length, up-at}
+use Rattle.tables.specs.Tables.{total}
 
 -- P of each element with its wire number, the first being w
 unfoldable pub Each : {A : Type 0} → (ℕ → A → Type 0) → ℕ → List A → Type 0
@@ -62,11 +63,11 @@ in-turn-length size w (x ∷ xs) f a =
 pub in-turn-draws :
     {A : Type 0} (size d w : ℕ) (xs : List A) (f : ℕ → A → List Wire) → All (Draws d f) xs
     → randoms (map driverOf (inTurn size w xs f)) ≡ d * length xs
-unfolding All inTurn randoms
+unfolding All inTurn total
 in-turn-draws size d w [] f a = omega arith
 in-turn-draws size d w (x ∷ xs) f a =
     rw map-append
-    (randoms-append (map driverOf (f w x)) (map driverOf (inTurn size (w + size) xs f))
+    (total-append drawn (map driverOf (f w x)) (map driverOf (inTurn size (w + size) xs f))
     ∙ omega (arith, a .0 w, in-turn-draws size d (w + size) xs f (a .1)))
 
 -- block q starts at wire w + size·q

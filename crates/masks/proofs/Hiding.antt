@@ -2,17 +2,16 @@
 -- that do not carry the free share agree in both runs. Document 01's AND does.
 -- Assumes nothing.
 use mathlib.Core.Path.{_≡_, refl, sym, ap, ap₂, _∙_}
-use mathlib.Core.Bool.{Bool, true, false}
+use mathlib.Core.Bool.{Bool, true, false, cond}
 use mathlib.Core.List.{List, [], _∷_, map}
 use Prim.Native.Nat.{ℕ, _+_, _*_, _%_, _≤_}
 use native.Mathlib.Omega.{arith}
 use lib.Dec.{eqb}
 use borrow.Author.Tests.{eqb-false, ne-eqb}
-use Rattle.tables.specs.Refusals.{pick}
 use Rattle.tables.specs.Runs.{xor}
 use Rattle.tables.proofs.Tests.{or-false}
 use Rattle.tables.proofs.Run.{Solves}
-use Rattle.masks.specs.Gadgets.{Five, first, second, third, fourth, fifth, allFive, place, isIn, differs, Gadget, isw}
+use Rattle.masks.specs.Gadgets.{Five, first, second, third, fourth, fifth, allFive, indexOf, isIn, differs, Gadget, isw}
 use Rattle.masks.proofs.Lawful.{Lawful, IswValues, isw-values, isw-lawful}
 
 pub record Hiding (G : Gadget) : Type 0 where
@@ -27,12 +26,12 @@ pub record Hiding (G : Gadget) : Type 0 where
       → s c ≡ xor (r c) (G .flip k i j (differs v u ai bj) (differs v u aj bi))
       → ((i ≡ k → ⊥) → (v ai ≡ u ai) × (v bi ≡ u bi))
       → ((j ≡ k → ⊥) → (v aj ≡ u aj) × (v bj ≡ u bj))
-      → (f : Five) → isIn k (G .marks i j f) ≡ false → v (w + place f) ≡ u (w + place f)
+      → (f : Five) → isIn k (G .marks i j f) ≡ false → v (w + indexOf f) ≡ u (w + indexOf f)
 
 isw-unflipped : (k i j : ℕ) → isw .flip k i j 0 0 ≡ 0
 isw-unflipped k i j = go (eqb i k)
   where
-    go : (t : Bool) → _≡_ {A = ℕ} (pick t (xor 0 0) 0) 0
+    go : (t : Bool) → _≡_ {A = ℕ} (cond t (xor 0 0) 0) 0
     go true = refl
     go false = refl
 
@@ -111,7 +110,7 @@ module _
         let a = not-first k i (j ∷ []) h in
         (a .0, not-first k j [] (a .1) .0)
 
-    isw-agrees : (f : Five) → isIn k (isw .marks i j f) ≡ false → v (w + place f) ≡ u (w + place f)
+    isw-agrees : (f : Five) → isIn k (isw .marks i j f) ≡ false → v (w + indexOf f) ≡ u (w + indexOf f)
     isw-agrees first h = low-agrees (not-first k i [] h .0)
     isw-agrees second h = cross-agrees (neither h .0) (neither h .1)
     isw-agrees third h = mixed-agrees (neither h .0) (neither h .1)

@@ -13,7 +13,8 @@ use Rattle.tables.specs.Runs.{randoms, xor}
 use Rattle.tables.proofs.Tests.{and-intro}
 use Rattle.tables.proofs.Run.{Solves}
 use Rattle.tables.proofs.Format.{SoundGates}
-use Rattle.masks.specs.Gadgets.{Five, first, second, third, fourth, fifth, allFive, place, Gadget, isw}
+use Rattle.masks.specs.Gadgets.{Five, first, second, third, fourth, fifth, allFive, indexOf, Gadget, isw}
+use Rattle.tables.specs.Tables.{total}
 
 pub both-below : (l r w : ℕ) → l < w → r < w → ltb l w && ltb r w ≡ true
 both-below l r w h k = and-intro (ltb l w) (ltb r w) (lt-ltb l w h) (lt-ltb r w k)
@@ -27,14 +28,14 @@ pub record Lawful (G : Gadget) : Type 0 where
   -- what the two rows add is, modulo 2, a_i·b_j + a_j·b_i
   pub adds :
       (w c ai bj aj bi : ℕ) (r v : ℕ → ℕ) → ((p : ℕ) → v p ≤ 1) → Solves w c (map (G .gates w ai bj aj bi) allFive) r v
-      → (v (w + place (G .low)) + v (w + place (G .high))) % 2 ≡ (v ai * v bj + v aj * v bi) % 2
+      → (v (w + indexOf (G .low)) + v (w + indexOf (G .high))) % 2 ≡ (v ai * v bj + v aj * v bi) % 2
   -- a wire carries at most two shares; what a row adds carries that row's share
   pub few-marks : (i j : ℕ) (f : Five) → length (G .marks i j f) ≤ 2
   pub low-mark : (i j : ℕ) → G .marks i j (G .low) ≡ i ∷ []
   pub high-mark : (i j : ℕ) → G .marks i j (G .high) ≡ j ∷ []
 
 isw-one-random : (w ai bj aj bi : ℕ) → randoms (map (isw .gates w ai bj aj bi) allFive) ≡ 1
-unfolding randoms
+unfolding total
 isw-one-random w ai bj aj bi = refl
 
 isw-sound :

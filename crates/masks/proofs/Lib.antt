@@ -1,4 +1,5 @@
 -- Laws of the construction that callers above cite, by subject.
+pub mod AtOrder1
 pub mod Sum
 pub mod Rows
 pub mod Each
@@ -9,6 +10,7 @@ pub mod Figures
 pub mod Placed
 pub mod Passed
 pub mod Codes
+pub mod CodeFaults
 pub mod Orders
 pub mod And
 pub mod Shares

@@ -1,23 +1,16 @@
--- Orders: what the tests of an order say of refusal 6.
+-- Orders: what an order that 6 does not refuse is.
 -- Assumes nothing.
-use mathlib.Core.Path.{_≡_}
-use mathlib.Core.Bool.{true}
-use Prim.Native.Nat.{ℕ, _≤_, _<_}
-use native.Mathlib.Omega.{arith}
+use mathlib.Core.Path.{_≡_, refl}
+use mathlib.Core.Bool.{true, not}
+use Prim.Native.Nat.{ℕ, _≤_}
 use lib.Dec.{leb}
-use borrow.Author.Tests.{le-leb, lt-leb, leb-true}
-use Rattle.tables.specs.Refusals.{fault, none}
-use Rattle.tables.proofs.Tests.{and-true}
+use borrow.Author.Tests.{leb-true, not-false}
+use Rattle.tables.specs.Refusals.{passed}
+use Rattle.tables.proofs.Tests.{and-true, not-refused}
 use Rattle.masks.specs.Says.{orderOk, orderFault}
-
-pub order-low : (o : ℕ) → o < 1 → orderFault o ≡ fault 6 0
-order-low o h = rw (lt-leb 1 o h)
-
-pub order-high : (o : ℕ) → 15 < o → orderFault o ≡ fault 6 0
-order-high o h = rw (le-leb 1 o (omega arith), lt-leb o 15 h)
-
-pub order-none : (o : ℕ) → 1 ≤ o → o ≤ 15 → orderFault o ≡ none
-order-none o h k = rw (le-leb 1 o h, le-leb o 15 k)
 
 pub order-range : (o : ℕ) → orderOk o ≡ true → (1 ≤ o) × (o ≤ 15)
 order-range o h = let a = and-true (leb 1 o) (leb o 15) h in (leb-true 1 o (a .0), leb-true o 15 (a .1))
+
+pub order-passed : (o : ℕ) → passed (orderFault o) ≡ true → orderOk o ≡ true
+order-passed o h = not-false (orderOk o) (not-refused (not (orderOk o)) 6 refl h)

@@ -1,50 +1,51 @@
 -- What it says of a plain table and an order that none of 1 to 8 refuses them.
 -- Assumes nothing.
-use mathlib.Core.Path.{_≡_, refl, sym, ap}
-use mathlib.Core.Bool.{true, not}
+use mathlib.Core.Path.{_≡_, refl}
+use mathlib.Core.Bool.{true}
 use mathlib.Core.List.{List}
 use Prim.Native.Nat.{ℕ, _*_, _≤_}
-use borrow.Author.Tests.{ltb-false, not-false}
+use borrow.Author.Tests.{ltb-false}
 use lib.Dec.{ltb}
 use lib.ListN.{length}
-use Rattle.tables.specs.declared.Refusal as DR
-use Rattle.tables.specs.Refusals.{Fault, fault, passed, orElse, refusedIf}
+use Rattle.tables.specs.Refusals.{none, passed, orElse, refusedIf}
 use Rattle.tables.specs.Tables.{wires, tableOf, tableFault, randomFault}
-use Rattle.tables.specs.Says.{Refused}
-use Rattle.tables.proofs.Tests.{both-passed, not-refused, or-false}
+use Rattle.tables.proofs.Tests.{both-passed, not-refused, or-false, if-none, else-none}
 use Rattle.tables.proofs.Accept.{Plain, accepted-plain}
 use Rattle.masks.specs.Shares.{sharesOf}
-use Rattle.masks.specs.Gadgets.{isw}
+use Rattle.masks.specs.Gadgets.{Gadget}
 use Rattle.masks.specs.Wires.{maskedTable}
 use Rattle.masks.specs.Says.{orderOk, orderFault, tooMany, plainFault}
+use Rattle.masks.proofs.Orders.{order-passed}
 
--- an answer that is the fault
-pub refused-as : (f : Fault) (r : DR.Refusal) → f ≡ fault (r .number) (r .place) → Refused f r
-refused-as f r e =
-    record {
-      number = ap (λ (g : Fault). g .number) (sym e);
-      place = ap (λ (g : Fault). g .place) (sym e);
-    }
-
-pub record PlainPassed (s : List ℕ) (o : ℕ) : Type 0 where
+pub record PlainPassed (G : Gadget) (s : List ℕ) (o : ℕ) : Type 0 where
+  pub none : plainFault G s o ≡ none
+  pub table : passed (tableFault s) ≡ true
+  pub random : passed (randomFault 0 (tableOf s .gates)) ≡ true
   pub plain : Plain (tableOf s)
   pub order : orderOk o ≡ true
-  pub few-wires : wires (maskedTable isw o (tableOf s)) ≤ 65535
+  pub few-wires : wires (maskedTable G o (tableOf s)) ≤ 65535
   pub few-outputs : sharesOf o * length (tableOf s .outputs) ≤ 65535
 
-pub plain-passed : (s : List ℕ) (o : ℕ) → passed (plainFault s o) ≡ true → PlainPassed s o
+pub plain-passed : (G : Gadget) (s : List ℕ) (o : ℕ) → passed (plainFault G s o) ≡ true → PlainPassed G s o
 unfolding plainFault
-plain-passed s o h =
+plain-passed G s o h =
     let t = tableOf s in
-    let many = refusedIf (tooMany o t) 8 in
-    let after = orElse (randomFault 0 (t .gates)) many in
+    let many = refusedIf (tooMany G o t) 8 in
+    let random = randomFault 0 (t .gates) in
+    let after = orElse random many in
     let a = both-passed (tableFault s) (orElse (orderFault o) after) h in
     let b = both-passed (orderFault o) after (a .1) in
-    let c = both-passed (randomFault 0 (t .gates)) many (b .1) in
-    let few = or-false _ (ltb 65535 (sharesOf o * length (t .outputs))) (not-refused (tooMany o t) 8 refl (c .1)) in
+    let c = both-passed random many (b .1) in
+    let few = or-false _ (ltb 65535 (sharesOf o * length (t .outputs))) (not-refused (tooMany G o t) 8 refl (c .1)) in
+    let last = else-none random many (c .0) (if-none (tooMany G o t) 8 refl (c .1)) in
     record {
+      none =
+          else-none (tableFault s) (orElse (orderFault o) after) (a .0)
+          (else-none (orderFault o) after (b .0) last);
+      table = a .0;
+      random = c .0;
       plain = accepted-plain s (a .0) (c .0);
-      order = not-false (orderOk o) (not-refused (not (orderOk o)) 6 refl (b .0));
+      order = order-passed o (b .0);
       few-wires = ltb-false 65535 _ (few .0);
       few-outputs = ltb-false 65535 _ (few .1);
     }

@@ -10,32 +10,15 @@ use Rattle.tables.proofs.Tests.{and-intro}
 use native.Mathlib.Nat.{mul-le-mul-left}
 use native.Mathlib.Omega.{arith}
 use lib.ListN.{length, getD, drop, length-append, length-map, length-drop}
-use Rattle.tables.specs.Tables.{Kind, NOT, XOR, AND, RANDOM, UNKNOWN, Gate, Table, wires, known, operandsOk}
+use Rattle.tables.specs.Tables.{Kind, NOT, XOR, AND, RANDOM, UNKNOWN, Gate, Table, wires, known, operandsOk, total, operandsOf}
 use Rattle.tables.proofs.Lists.{All, all-append, all-getD, all-map}
 use Rattle.tables.proofs.Format.{SoundGates, sound-append}
 use Rattle.tables.proofs.Accept.{PlainGate, PlainGates, Plain}
 use Rattle.masks.specs.Shares.{sharesOf, upFrom, inTurn, pairOf, pairs, tri, pairAt, row}
-use Rattle.masks.specs.Gadgets.{Five, first, second, third, fourth, fifth, place, Gadget}
-use Rattle.masks.specs.Wires.{
-  Wire,
-  Origin,
-  share,
-  driverOf,
-  adding,
-  pairWires,
-  rowWires,
-  pairWire,
-  andWires,
-  newWires,
-  newShares,
-  inputShares,
-  cost,
-  masked,
-  sharesAfter,
-  outputShares,
-  maskedTable,
-  totalOf,
-}
+use Rattle.masks.specs.Gadgets.{Five, first, second, third, fourth, fifth, indexOf, Gadget}
+use Rattle.masks.specs.Wires.{Wire, Origin, share, driverOf, adding, pairWires, rowWires, pairWire, andWires}
+use Rattle.masks.specs.Wires.{newWires, newShares, inputShares, cost, masked, sharesAfter, outputShares}
+use Rattle.masks.specs.Wires.{maskedTable}
 use Rattle.masks.proofs.Sum.{up-length, up-all}
 use Rattle.masks.proofs.Rows.{pairs-length, pairs-in, pair-below, row-all}
 use Rattle.masks.proofs.Each.{Each, each-append, each-in-turn, each-up, each-rows, in-turn-length}
@@ -49,7 +32,7 @@ Stands n w a = (length a ≡ n) × All (λ x. x < w) a
 abbrev pub Placed : ℕ → ℕ → List (List ℕ) → Type 0
 Placed n w S = All (Stands n w) S
 
-pub stands-later : (n w w′ : ℕ) → w ≤ w′ → (a : List ℕ) → Stands n w a → Stands n w′ a
+stands-later : (n w w′ : ℕ) → w ≤ w′ → (a : List ℕ) → Stands n w a → Stands n w′ a
 stands-later n w w′ h a s = (s .0, all-map _ _ (λ x k. omega arith) a (s .1))
 
 pub share-below : (n w : ℕ) (a : List ℕ) → Stands n w a → (i : ℕ) → i < n → share a i < w
@@ -66,7 +49,7 @@ row-ends : (n i : ℕ) → i < n → n * i + n ≤ n * n
 row-ends n i h = omega (arith, mul-le-mul-left n h)
 
 -- the wires of a result's shares come before what follows the gate
-pub new-stands :
+new-stands :
     (k : Kind) (n w p l r : ℕ) (a : List ℕ) → 1 ≤ n → PlainGate p k l r → Stands n w a
     → Stands n (w + cost k n) (newShares k n w a)
 unfolding All
@@ -113,14 +96,14 @@ placed-step k n w l r S h g P =
 abbrev pub Ok : ℕ → Wire → Type 0
 Ok w x =
     let g = x .driver in
-    (known (g .kind) ≡ true) × (operandsOk w (g .kind) (g .left) (g .right) ≡ true)
+    (known (g .kind) ≡ true) × (operandsOk w (operandsOf (g .kind)) (g .left) (g .right) ≡ true)
 
-pub each-sound : (w : ℕ) (xs : List Wire) → SoundGates w (map driverOf xs) → Each Ok w xs
+each-sound : (w : ℕ) (xs : List Wire) → SoundGates w (map driverOf xs) → Each Ok w xs
 unfolding SoundGates Each
 each-sound w [] s = tt
 each-sound w (x ∷ xs) s = (s .0, each-sound (suc w) xs (s .1))
 
-pub sound-each : (w : ℕ) (xs : List Wire) → Each Ok w xs → SoundGates w (map driverOf xs)
+sound-each : (w : ℕ) (xs : List Wire) → Each Ok w xs → SoundGates w (map driverOf xs)
 unfolding SoundGates Each
 sound-each w [] s = tt
 sound-each w (x ∷ xs) s = (s .0, sound-each (suc w) xs (s .1))
@@ -135,12 +118,12 @@ adding-ok o m last next (z ∷ zs) h a = (
   adding-ok o (suc m) next (suc next) zs (omega arith) (all-map _ _ (λ z k. omega arith) zs (a .1)),
 )
 
-pub place-small : (f : Five) → place f < 5
-place-small first = omega arith
-place-small second = omega arith
-place-small third = omega arith
-place-small fourth = omega arith
-place-small fifth = omega arith
+pub index-small : (f : Five) → indexOf f < 5
+index-small first = omega arith
+index-small second = omega arith
+index-small third = omega arith
+index-small fourth = omega arith
+index-small fifth = omega arith
 
 module _ {G : Gadget} (L : Lawful G) (n g w : ℕ) (a b : List ℕ) (sa : Stands n w a) (sb : Stands n w b) where
   pairs-ok : Each Ok w (inTurn 5 w (pairs n) (pairWires G g a b))
@@ -156,7 +139,7 @@ module _ {G : Gadget} (L : Lawful G) (n g w : ℕ) (a b : List ℕ) (sa : Stands
       each-sound (w + 5 * q) _ (L .sound (w + 5 * q) _ _ _ _ (lo .0) (up .1) (up .0) (lo .1)))
 
   pair-wire-below : (f : Five) (q : ℕ) → q < tri n → pairWire w f q < w + 5 * tri n
-  pair-wire-below f q h = omega (arith, place-small f)
+  pair-wire-below f q h = omega (arith, index-small f)
 
   rows-ok :
       Each Ok (w + 5 * tri n)
@@ -177,7 +160,7 @@ module _ {G : Gadget} (L : Lawful G) (n g w : ℕ) (a b : List ℕ) (sa : Stands
             (λ j k l. omega (arith, pair-wire-below (G .low) (pairAt n i j) (pair-below n i j k l)))),
       ))
 
-pub new-sound :
+new-sound :
     {G : Gadget} (L : Lawful G) (k : Kind) (n g w l r : ℕ) (S : List (List ℕ)) → 1 ≤ n → PlainGate (length S) k l r
     → Placed n w S → SoundGates w (map driverOf (newWires G k n g w (getD S l []) (getD S r [])))
 unfolding andWires SoundGates
@@ -237,8 +220,8 @@ masked-sound {G} L n g w S (y ∷ ys) h x P =
 -- once the gates are masked, every plain wire's shares stand among the wires
 pub placed-after :
     (n w : ℕ) (S : List (List ℕ)) (xs : List Gate) → 1 ≤ n → PlainGates (length S) xs → Placed n w S
-    → Placed n (w + totalOf (λ k. cost k n) xs) (sharesAfter n w S xs)
-unfolding PlainGates sharesAfter totalOf
+    → Placed n (w + total (λ k. cost k n) xs) (sharesAfter n w S xs)
+unfolding PlainGates sharesAfter total
 placed-after n w S [] h x P = subst (λ (y : ℕ). Placed n y S) {x = w} {y = w + 0} (omega arith) P
 placed-after n w S (y ∷ ys) h x P =
     let k = y .kind in
@@ -246,8 +229,8 @@ placed-after n w S (y ∷ ys) h x P =
     let T = S ++ (a ∷ []) in
     let one : suc (length S) ≡ length T = sym (length-append S (a ∷ []) ∙ omega arith) in
     subst (λ (z : ℕ). Placed n z (sharesAfter n (w + cost k n) T ys))
-    {x = w + cost k n + totalOf (λ k. cost k n) ys}
-    {y = w + (cost k n + totalOf (λ k. cost k n) ys)}
+    {x = w + cost k n + total (λ k. cost k n) ys}
+    {y = w + (cost k n + total (λ k. cost k n) ys)}
     (omega arith)
     (placed-after n (w + cost k n) T ys h
     (subst (λ (z : ℕ). PlainGates z ys) one (x .1))
@@ -262,7 +245,7 @@ shares-after-length n w S (g ∷ gs) =
     ∙ omega (arith, length-append S (newShares (g .kind) n w (getD S (g .left) []) ∷ []))
 
 -- the masked outputs: n wires for each output
-pub outputs-stand :
+outputs-stand :
     (n w : ℕ) (S : List (List ℕ)) (os : List ℕ) → Placed n w S → All (λ o. o < length S) os
     → Stands (n * length os) w (outputShares S os)
 unfolding All outputShares

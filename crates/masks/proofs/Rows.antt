@@ -18,7 +18,7 @@ pairs-length zero i = refl
 pairs-length (suc c) i =
     simp (length-append, up-length, pairs-length c (suc i))
 
-pub pairs-from-in :
+pairs-from-in :
     (c i : ℕ) → All (λ p. (i ≤ p .lower) × (p .lower < p .upper) × (p .upper < i + c)) (pairsFrom c i)
 unfolding pairsFrom All
 pairs-from-in zero i = tt
@@ -37,7 +37,7 @@ pair-below (suc n) i zero a b = absurd (omega arith)
 pair-below (suc n) zero (suc j) a b = omega arith
 pair-below (suc n) (suc i) (suc j) a b = omega (arith, pair-below n i j (omega arith) (omega arith))
 
-pub pair-from-at :
+pair-from-at :
     (c k i j : ℕ) (d : Pair) → i < j → j < c → getD (pairsFrom c k) (pairAt c i j) d ≡ pairOf (k + i) (k + j)
 unfolding pairAt pairsFrom
 pair-from-at zero k i j d a b = absurd (omega arith)
@@ -86,7 +86,7 @@ row-around-from (suc n) low high p (suc i) h =
     )
     (simp add-assoc)
 
-pub row-around : (n : ℕ) (low high : ℕ → ℕ) (i : ℕ) → i < n → row n low high i ≡ around n low high 0 i
+row-around : (n : ℕ) (low high : ℕ → ℕ) (i : ℕ) → i < n → row n low high i ≡ around n low high 0 i
 unfolding row
 row-around n low high i h = simp zero-add at (row-around-from n low high 0 i h)
 

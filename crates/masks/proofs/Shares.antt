@@ -16,19 +16,8 @@ use Rattle.tables.proofs.Run.{Solves, solves-append}
 use Rattle.tables.proofs.Accept.{PlainGate, PlainGates}
 use Rattle.masks.specs.Shares.{upFrom}
 use Rattle.masks.specs.Gadgets.{Gadget}
-use Rattle.masks.specs.Wires.{
-  Origin,
-  xorShare,
-  wire,
-  driverOf,
-  share,
-  newWires,
-  cost,
-  draws,
-  newShares,
-  masked,
-  sharesAfter,
-}
+use Rattle.masks.specs.Wires.{Origin, xorShare, wire, driverOf, share, newWires, cost, draws, newShares}
+use Rattle.masks.specs.Wires.{masked, sharesAfter}
 use Rattle.masks.proofs.Sum.{sumOf, sum-add, sum-parity, up-length, up-all, sum-from, sum-by-index}
 use Rattle.masks.proofs.Lawful.{Lawful}
 use Rattle.masks.proofs.Costs.{new-length, new-draws}
@@ -59,12 +48,12 @@ xor-values (suc c) s w d l m o r v t (suc i) h =
     rw (e, f) (xor-values c (suc s) (suc w) (d + 0) l m o r v (t .1) i (omega arith))
 
 -- a list's sum over its places, where its length is n
-pub by-share :
+by-share :
     (n : ℕ) (v : ℕ → ℕ) (a : List ℕ) → length a ≡ n
     → sumOf v a ≡ sumOf (λ s. v (share a s)) (upFrom n 0 (λ s. s))
 by-share n v a e = rw e at (sum-by-index v 0 a)
 
-pub mul-parity : (a b x y : ℕ) → a % 2 ≡ x → b % 2 ≡ y → (a * b) % 2 ≡ x * y
+mul-parity : (a b x y : ℕ) → a % 2 ≡ x → b % 2 ≡ y → (a * b) % 2 ≡ x * y
 mul-parity a b x y p q =
     let ea : a ≡ x + 2 * (a / 2) = omega arith in
     let eb : b ≡ y + 2 * (b / 2) = omega arith in
@@ -105,7 +94,7 @@ xor-adds n w c g a b r v ha hb t =
     )
 
 -- one gate that drives plain wire p, where its operands' shares add up to their values; a plain gate draws no bit
-pub gate-shares :
+gate-shares :
     {G : Gadget} (L : Lawful G) (k : Kind) (n g w c p l m bit : ℕ) (a b : List ℕ) (r v x : ℕ → ℕ) → 1 ≤ n
     → ((q : ℕ) → v q ≤ 1) → PlainGate p k l m → (l < p → Carries n v a (x l)) → (m < p → Carries n v b (x m))
     → Solves w c (map driverOf (newWires G k n g w a b)) r v
@@ -128,7 +117,7 @@ gate-shares L RANDOM n g w c p l m bit a b r v x one bits pl ha hb s = absurd pl
 gate-shares L (UNKNOWN k) n g w c p l m bit a b r v x one bits pl ha hb s = absurd pl
 
 -- one plain wire more
-pub shared-next :
+shared-next :
     (n : ℕ) (v x : ℕ → ℕ) (S : List (List ℕ)) (a : List ℕ) → Shared n v x S → Carries n v a (x (length S))
     → Shared n v x (S ++ (a ∷ []))
 shared-next n v x S a h k i hi = go (ltb i (length S)) refl

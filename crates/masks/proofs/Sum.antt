@@ -23,12 +23,12 @@ unfolding sumOf
 sum-add f g [] = omega arith
 sum-add f g (x ∷ xs) = omega (arith, sum-add f g xs)
 
-pub sum-scale : {A : Type 0} (c : ℕ) (f : A → ℕ) (xs : List A) → sumOf (λ x. c * f x) xs ≡ c * sumOf f xs
+sum-scale : {A : Type 0} (c : ℕ) (f : A → ℕ) (xs : List A) → sumOf (λ x. c * f x) xs ≡ c * sumOf f xs
 unfolding sumOf
 sum-scale c f [] = omega arith
 sum-scale c f (x ∷ xs) = omega (arith, sum-scale c f xs)
 
-pub sum-scale-right : {A : Type 0} (c : ℕ) (f : A → ℕ) (xs : List A) → sumOf (λ x. f x * c) xs ≡ sumOf f xs * c
+sum-scale-right : {A : Type 0} (c : ℕ) (f : A → ℕ) (xs : List A) → sumOf (λ x. f x * c) xs ≡ sumOf f xs * c
 unfolding sumOf
 sum-scale-right c f [] = omega arith
 sum-scale-right c f (x ∷ xs) = omega (arith, sum-scale-right c f xs)
@@ -45,7 +45,7 @@ unfolding sumOf All
 sum-parity f g [] a = refl
 sum-parity f g (x ∷ xs) a = omega (arith, a .0, sum-parity f g xs (a .1))
 
-pub sum-map : {A B : Type 0} (f : B → ℕ) (g : A → B) (xs : List A) → sumOf f (map g xs) ≡ sumOf (λ x. f (g x)) xs
+sum-map : {A B : Type 0} (f : B → ℕ) (g : A → B) (xs : List A) → sumOf f (map g xs) ≡ sumOf (λ x. f (g x)) xs
 unfolding sumOf
 sum-map f g [] = refl
 sum-map f g (x ∷ xs) = ap (λ (m : ℕ). f (g x) + m) (sum-map f g xs)
@@ -94,7 +94,7 @@ up-all P zero s f h = tt
 up-all P (suc c) s f h =
     (h s (omega arith) (omega arith), up-all P c (suc s) f (λ i a b. h i (omega arith) (omega arith)))
 
-pub up-map :
+up-map :
     {A B : Type 0} (h : A → B) (c s : ℕ) (f : ℕ → A) → map h (upFrom c s f) ≡ upFrom c s (λ i. h (f i))
 unfolding upFrom
 up-map h zero s f = refl

@@ -1,11 +1,10 @@
 -- What sets one masked AND apart from another: the five wires of a pair of shares i < j, their marks, which of them the rows
 -- add, and what the map flips. Document 01's AND is `isw` (source document 001, section 3).
 -- Assumes nothing.
-use mathlib.Core.Bool.{Bool, false, _||_}
+use mathlib.Core.Bool.{Bool, false, _||_, cond}
 use mathlib.Core.List.{List, [], _∷_}
 use Prim.Native.Nat.{ℕ, _+_, _*_}
 use lib.Dec.{eqb}
-use Rattle.tables.specs.Refusals.{pick}
 use Rattle.tables.specs.Tables.{XOR, AND, RANDOM, Gate, gate}
 use Rattle.tables.specs.Runs.{xor}
 
@@ -18,12 +17,12 @@ abbrev pub allFive : List Five
 allFive = first ∷ second ∷ third ∷ fourth ∷ fifth ∷ []
 
 -- how many of the pair's wires come before it
-abbrev pub place : Five → ℕ
-place first = 0
-place second = 1
-place third = 2
-place fourth = 3
-place fifth = 4
+abbrev pub indexOf : Five → ℕ
+indexOf first = 0
+indexOf second = 1
+indexOf third = 2
+indexOf fourth = 3
+indexOf fifth = 4
 
 -- whether a wire with these marks carries share number k
 abbrev pub isIn : ℕ → List ℕ → Bool
@@ -70,5 +69,5 @@ isw =
       marks = iswMarks;
       low = first;
       high = fifth;
-      flip = λ k i j p q. pick (eqb i k) (xor p q) 0;
+      flip = λ k i j p q. cond (eqb i k) (xor p q) 0;
     }

@@ -3,5 +3,4 @@ pub mod Shares
 pub mod Gadgets
 pub mod Wires
 pub mod Codes
-pub mod Lines
 pub mod Says

@@ -1,21 +1,21 @@
 -- What forecasting, masking, encoding, decoding and the marks call promise (document 01, "What each call takes and writes",
--- "Refusals" and "What a contract says").
+-- "Refusals" and "What a contract says"). G is the AND that masking uses, mk the marks of a wire by where it comes from.
 -- Assumes nothing.
 use mathlib.Core.Path.{_≡_}
-use mathlib.Core.Bool.{Bool, _&&_, _||_, not}
+use mathlib.Core.Bool.{Bool, _&&_, _||_, not, cond}
 use mathlib.Core.List.{List, _++_}
-use Prim.Native.Nat.{ℕ, suc, _+_, _*_, _/_, _%_}
+use Prim.Native.Nat.{ℕ, suc, _*_, _/_, _%_}
 use lib.Dec.{eqb, ltb, leb}
 use lib.ListN.{length, getD}
 use Rattle.tables.specs.declared.Answer as DA
 use Rattle.masks.specs.declared.Sizes as DS
 use Rattle.masks.specs.declared.Marks as DM
-use Rattle.tables.specs.Refusals.{pick, Fault, passed, orElse, refusedIf, badBit}
+use Rattle.tables.specs.Refusals.{Fault, passed, orElse, refusedIf, badBit}
 use Rattle.tables.specs.Tables.{Table, wires, tableOf, tableFault, randomFault, tableBytes}
-use Rattle.tables.specs.Says.{Answered, left}
+use Rattle.tables.specs.Says.{Writes}
 use Rattle.masks.specs.Shares.{sharesOf}
-use Rattle.masks.specs.Gadgets.{isw}
-use Rattle.masks.specs.Wires.{Origin, inputShare, marks, maskedTable, origins, tapeLong}
+use Rattle.masks.specs.Gadgets.{Gadget}
+use Rattle.masks.specs.Wires.{Origin, inputShare, maskedTable, origins, tapeLong}
 use Rattle.masks.specs.Codes.{encode, decode}
 
 -- "6 order not 1 to 15"
@@ -27,35 +27,41 @@ abbrev pub orderFault : ℕ → Fault
 orderFault o = refusedIf (not (orderOk o)) 6
 
 -- "8 more than 65,535 masked wires, masked outputs"
-abbrev pub tooMany : ℕ → Table → Bool
-tooMany o t = ltb 65535 (wires (maskedTable isw o t)) || ltb 65535 (sharesOf o * length (t .outputs))
+abbrev pub tooMany : Gadget → ℕ → Table → Bool
+tooMany G o t = ltb 65535 (wires (maskedTable G o t)) || ltb 65535 (sharesOf o * length (t .outputs))
 
 -- "A call that takes a plain table and an order has 1 to 8"
-unfoldable pub plainFault : List ℕ → ℕ → Fault
-plainFault s o =
+unfoldable pub plainFault : Gadget → List ℕ → ℕ → Fault
+plainFault G s o =
     let t = tableOf s in
     orElse
     (tableFault s)
-    (orElse (orderFault o) (orElse (randomFault 0 (t .gates)) (refusedIf (tooMany o t) 8)))
+    (orElse (orderFault o) (orElse (randomFault 0 (t .gates)) (refusedIf (tooMany G o t) 8)))
 
--- forecasting: "The four figures are those of the table that masking writes"
-pub record ForecastSays (s : List ℕ) (o : ℕ) (r : DS.Sizes) : Type 0 where
-  pub number : r .number ≡ plainFault s o .number
-  pub place : r .place ≡ plainFault s o .place
-  pub shares : r .shares ≡ pick (passed (plainFault s o)) (sharesOf o) 0
-  pub wires : r .wires ≡ pick (passed (plainFault s o)) (wires (maskedTable isw o (tableOf s))) 0
-  pub tape : r .tape ≡ pick (passed (plainFault s o)) (tapeLong isw o (tableOf s)) 0
-  pub bytes : r .bytes ≡ pick (passed (plainFault s o)) (length (tableBytes (maskedTable isw o (tableOf s)))) 0
+-- forecasting with the fault f: "The four figures are those of the table that masking writes"
+pub record Forecast (G : Gadget) (f : Fault) (t : Table) (o : ℕ) (r : DS.Sizes) : Type 0 where
+  pub number : r .number ≡ f .number
+  pub place : r .place ≡ f .place
+  pub shares : r .shares ≡ cond (passed f) (sharesOf o) 0
+  pub wires : r .wires ≡ cond (passed f) (wires (maskedTable G o t)) 0
+  pub tape : r .tape ≡ cond (passed f) (tapeLong G o t) 0
+  pub bytes : r .bytes ≡ cond (passed f) (length (tableBytes (maskedTable G o t))) 0
+
+-- forecasting: 1 to 8
+abbrev pub ForecastSays : Gadget → List ℕ → ℕ → DS.Sizes → Type 0
+ForecastSays G s o r = Forecast G (plainFault G s o) (tableOf s) o r
+
+-- the bytes that masking writes
+abbrev pub maskedBytes : Gadget → List ℕ → ℕ → List ℕ
+maskedBytes G s o = tableBytes (maskedTable G o (tableOf s))
 
 -- masking: 1 to 8, then 9 for the buffer of the given length
-unfoldable pub maskFault : List ℕ → ℕ → ℕ → Fault
-maskFault s o room =
-    orElse (plainFault s o) (refusedIf (ltb room (length (tableBytes (maskedTable isw o (tableOf s))))) 9)
+unfoldable pub maskFault : Gadget → List ℕ → ℕ → ℕ → Fault
+maskFault G s o room = orElse (plainFault G s o) (refusedIf (ltb room (length (maskedBytes G s o))) 9)
 
 -- masking answers the bytes written
-pub record MaskSays (s : List ℕ) (o : ℕ) (b b′ : List ℕ) (r : DA.Answer) : Type 0 where
-  pub answer : Answered (maskFault s o (length b)) (length (tableBytes (maskedTable isw o (tableOf s)))) r
-  pub table : b′ ≡ left (maskFault s o (length b)) (tableBytes (maskedTable isw o (tableOf s))) b
+abbrev pub MaskSays : Gadget → List ℕ → ℕ → List ℕ → List ℕ → DA.Answer → Type 0
+MaskSays G s o b b′ r = Writes (maskFault G s o (length b)) (maskedBytes G s o) b b′ r
 
 -- encoding: 6, 8 ("share bits alone"), 10, 11, 9
 unfoldable pub encodeFault : ℕ → List ℕ → List ℕ → ℕ → Fault
@@ -69,9 +75,8 @@ encodeFault o xs ts room =
     (orElse (badBit 0 (xs ++ ts)) (refusedIf (ltb room (sharesOf o * length xs)) 9))))
 
 -- encoding answers the bits written: "it writes n share bits a secret"
-pub record EncodeSays (o : ℕ) (xs ts b b′ : List ℕ) (r : DA.Answer) : Type 0 where
-  pub answer : Answered (encodeFault o xs ts (length b)) (sharesOf o * length xs) r
-  pub shares : b′ ≡ left (encodeFault o xs ts (length b)) (encode o xs ts) b
+abbrev pub EncodeSays : ℕ → List ℕ → List ℕ → List ℕ → List ℕ → DA.Answer → Type 0
+EncodeSays o xs ts b b′ r = Writes (encodeFault o xs ts (length b)) (encode o xs ts) b b′ r
 
 -- decoding: 6, 8, 10 ("a multiple of n"), 11, 9
 unfoldable pub decodeFault : ℕ → List ℕ → ℕ → Fault
@@ -85,23 +90,24 @@ decodeFault o bs room =
     (orElse (badBit 0 bs) (refusedIf (ltb room (length bs / suc (2 * o))) 9))))
 
 -- decoding answers the bits written: "it writes one bit for each n"
-pub record DecodeSays (o : ℕ) (bs b b′ : List ℕ) (r : DA.Answer) : Type 0 where
-  pub answer : Answered (decodeFault o bs (length b)) (length bs / suc (2 * o)) r
-  pub bits : b′ ≡ left (decodeFault o bs (length b)) (decode o bs) b
+abbrev pub DecodeSays : ℕ → List ℕ → List ℕ → List ℕ → DA.Answer → Type 0
+DecodeSays o bs b b′ r = Writes (decodeFault o bs (length b)) (decode o bs) b b′ r
 
 -- the origin of a wire of the masked table
 abbrev pub originAt : List Origin → ℕ → Origin
 originAt os w = getD os w (inputShare 0 0)
 
 -- marks: 1 to 8, then 13 with place 0
-unfoldable pub marksFault : List ℕ → ℕ → ℕ → Fault
-marksFault s o w = orElse (plainFault s o) (refusedIf (leb (wires (maskedTable isw o (tableOf s))) w) 13)
+unfoldable pub marksFault : Gadget → List ℕ → ℕ → ℕ → Fault
+marksFault G s o w = orElse (plainFault G s o) (refusedIf (leb (wires (maskedTable G o (tableOf s))) w) 13)
 
--- one or two share numbers, 0 for none
-pub record MarksSay (s : List ℕ) (o w : ℕ) (r : DM.Marks) : Type 0 where
-  pub number : r .number ≡ marksFault s o w .number
-  pub place : r .place ≡ marksFault s o w .place
-  pub first :
-      r .first ≡ pick (passed (marksFault s o w)) (getD (marks isw (originAt (origins isw o (tableOf s)) w)) 0 0) 0
-  pub second :
-      r .second ≡ pick (passed (marksFault s o w)) (getD (marks isw (originAt (origins isw o (tableOf s)) w)) 1 0) 0
+-- one or two share numbers ms, 0 for none, with the fault f
+pub record Marked (f : Fault) (ms : List ℕ) (r : DM.Marks) : Type 0 where
+  pub number : r .number ≡ f .number
+  pub place : r .place ≡ f .place
+  pub first : r .first ≡ cond (passed f) (getD ms 0 0) 0
+  pub second : r .second ≡ cond (passed f) (getD ms 1 0) 0
+
+-- the marks call answers the marks of a wire's origin
+abbrev pub MarksSay : Gadget → (Origin → List ℕ) → List ℕ → ℕ → ℕ → DM.Marks → Type 0
+MarksSay G mk s o w r = Marked (marksFault G s o w) (mk (originAt (origins G o (tableOf s)) w)) r

@@ -7,7 +7,7 @@ use lib.ListN.{getD, drop}
 use Rattle.tables.specs.Tables.{Kind, NOT, XOR, AND, RANDOM, UNKNOWN, Gate, gate, Table}
 use Rattle.tables.specs.Runs.{randoms}
 use Rattle.masks.specs.Shares.{sharesOf, upFrom, inTurn, Pair, pairs, tri, row}
-use Rattle.masks.specs.Gadgets.{Five, allFive, place, Gadget}
+use Rattle.masks.specs.Gadgets.{Five, allFive, indexOf, Gadget}
 
 -- a wire of a masked AND: one of the five of the pair i < j, the own product of row i, or row i's sum of m terms
 pub data Part : Type 0 where
@@ -73,7 +73,7 @@ rowWires g a b zs w i =
 
 -- of pair number q, counted from 0, the wire f, where the AND's first wire is w
 abbrev pub pairWire : ℕ → Five → ℕ → ℕ
-pairWire w f q = w + 5 * q + place f
+pairWire w f q = w + 5 * q + indexOf f
 
 -- "AND of a and b": the pairs' wires, then the rows'
 unfoldable pub andWires : Gadget → ℕ → ℕ → ℕ → List ℕ → List ℕ → List Wire
@@ -109,11 +109,6 @@ draws XOR n = 0
 draws AND n = tri n
 draws RANDOM n = 0
 draws (UNKNOWN k) n = 0
-
--- a figure of each gate's kind, added over the gates
-unfoldable pub totalOf : (Kind → ℕ) → List Gate → ℕ
-totalOf f [] = 0
-totalOf f (x ∷ xs) = f (x .kind) + totalOf f xs
 
 -- the wires that carry the shares of the result
 abbrev pub newShares : Kind → ℕ → ℕ → List ℕ → List ℕ

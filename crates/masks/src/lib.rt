@@ -1,5 +1,10 @@
-// The masking construction: what forecasting and the marks call answer, and the orders that there are.
+// The masking construction: what forecasting and the marks call answer, the orders that there are, and what a gate costs.
+ghost use mathlib.Core.Path.{_≡_};
+ghost use Prim.Native.Nat.{_≤_};
+ghost use Rattle.tables.specs.Tables.{kindOf};
 ghost use Rattle.tables.specs.Says.{Refused};
+ghost use Rattle.masks.specs.Shares.{tri};
+ghost use Rattle.masks.specs.Wires.{cost, draws};
 ghost use Rattle.masks.specs.Says.{orderFault};
 
 // What forecasting answers: a refusal's number and place, or 0, 0 and the masked table's four figures.
@@ -26,20 +31,36 @@ pub struct Marks {
 pub fn order_fault(order: u8) -> tables::Refusal
     ensures { λ r. ⌜ Refused (orderFault order) r ⌝ }
 {
-    if order < 1 {
-        return tables::Refusal {
-            number: 6,
-            place: 0,
-        };
+    tables::refuse_if(!((1 <= order) & (order <= 15)), 6)
+}
+
+// How many pairs n shares have.
+pub fn pair_count(n: usize) -> usize
+    requires { ⌜ n ≤ 31 ⌝ }
+    ensures { λ r. ⌜ r ≡ tri n ⌝ }
+{
+    (n * n - n) / 2
+}
+
+// How many masked wires a plain gate costs.
+pub fn gate_cost(kind: u8, n: usize) -> usize
+    requires { ⌜ n ≤ 31 ⌝ }
+    ensures { λ r. ⌜ r ≡ cost (kindOf kind) n ⌝ }
+{
+    let of_and = 5 * pair_count(n) + n * n;
+    let nots = tables::is_kind(kind, 0) as usize;
+    let xors = tables::is_kind(kind, 1) as usize;
+    let ands = tables::is_kind(kind, 2) as usize;
+    nots + xors * n + ands * of_and
+}
+
+// How many random bits a plain gate draws once it is masked.
+pub fn gate_draws(kind: u8, n: usize) -> usize
+    requires { ⌜ n ≤ 31 ⌝ }
+    ensures { λ r. ⌜ r ≡ draws (kindOf kind) n ⌝ }
+{
+    if kind == 2 {
+        return pair_count(n);
     }
-    if order > 15 {
-        return tables::Refusal {
-            number: 6,
-            place: 0,
-        };
-    }
-    tables::Refusal {
-        number: 0,
-        place: 0,
-    }
+    0
 }

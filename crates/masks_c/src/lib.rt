@@ -1,5 +1,7 @@
 // The calls for C and Rust programs, under the names of include/masks.h. Each is the proved call with the same promise.
 ghost use Rattle.tables.specs.Says.{CheckSays, RunSays};
+ghost use Rattle.masks.specs.Gadgets.{isw};
+ghost use Rattle.masks.specs.Wires.{marks};
 ghost use Rattle.masks.specs.Says.{ForecastSays, MaskSays, EncodeSays, DecodeSays, MarksSay};
 ghost use Rattle.maps.specs.Says.{MapSays};
 
@@ -12,14 +14,14 @@ pub extern "C" fn masks_check(table: &[u8]) -> tables::Answer
 
 #[no_mangle]
 pub extern "C" fn masks_forecast(table: &[u8], order: u8) -> masks::Sizes
-    ensures { λ r. ⌜ ForecastSays (now (table .entry)) order r ⌝ }
+    ensures { λ r. ⌜ ForecastSays isw (now (table .entry)) order r ⌝ }
 {
     sizing::forecast_sizes(table, order)
 }
 
 #[no_mangle]
 pub extern "C" fn masks_mask(table: &[u8], order: u8, out: &mut [u8]) -> tables::Answer
-    ensures { λ r. ⌜ MaskSays (now (table .entry)) order (now (out .entry)) (now (out .exit)) r ⌝ }
+    ensures { λ r. ⌜ MaskSays isw (now (table .entry)) order (now (out .entry)) (now (out .exit)) r ⌝ }
 {
     masking::mask_table(table, order, out)
 }
@@ -63,7 +65,7 @@ pub extern "C" fn masks_run(
 
 #[no_mangle]
 pub extern "C" fn masks_marks_of(table: &[u8], order: u8, wire: u32) -> masks::Marks
-    ensures { λ r. ⌜ MarksSay (now (table .entry)) order wire r ⌝ }
+    ensures { λ r. ⌜ MarksSay isw (marks isw) (now (table .entry)) order wire r ⌝ }
 {
     marking::wire_marks(table, order, wire)
 }
@@ -80,7 +82,7 @@ pub extern "C" fn masks_map(
     one: &mut [u8],
     other: &mut [u8],
 ) -> tables::Answer
-    ensures { λ r. ⌜ MapSays (now (table .entry)) order
+    ensures { λ r. ⌜ MapSays isw (marks isw) (now (table .entry)) order
         (now (first .entry))
         (now (second .entry))
         (now (tape .entry))

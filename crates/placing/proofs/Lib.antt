@@ -1,4 +1,4 @@
 -- Laws of where shares are.
 pub mod Located
-pub mod Shareable
 pub mod Placing
+pub mod Turns

@@ -1,193 +1,126 @@
--- The loops that note where shares are: the inputs, and then each gate by its kind. Each says what is left.
+-- The loops that note where shares are: the inputs, and then each gate by its kind.
 -- Assumes nothing.
-use mathlib.Core.Path.{_≡_, refl, sym, ap, _∙_, subst}
+use mathlib.Core.Path.{_≡_, sym, ap, _∙_, subst}
 use mathlib.Core.List.{List, [], _∷_, _++_}
-use Prim.Native.Nat.{ℕ, suc, _+_, _-_, _*_, _≤_, _<_}
-use native.Mathlib.Nat.{zero-add, add-zero, mul-le-mul-left}
+use Prim.Native.Nat.{ℕ, suc, _+_, _*_, _≤_, _<_}
+use native.Mathlib.Nat.{zero-add, mul-le-mul-left}
 use native.Mathlib.Numerals.{add-one}
 use native.Mathlib.Omega.{arith}
-use lib.ListN.{length, getD, length-set}
-use Rattle.tables.specs.Tables.{kindOf, word, tableOf, wires}
-use Rattle.tables.proofs.Accept.{inputs-of, wires-of}
-use Rattle.tables.proofs.Loops.{gatesAt, gateAt, gates-at-table, gates-at-step, gates-at-end}
-use Rattle.writing.specs.declared.Places as DP
+use lib.ListN.{length, getD}
+use Rattle.tables.specs.declared.GateFields as DG
+use Rattle.tables.specs.Tables.{kindOf, Table, gateOf, tableOf, total}
+use Rattle.tables.specs.Inside.{GateIs}
+use Rattle.writing.specs.declared.Places as DW
 use Rattle.masks.specs.Shares.{upFrom}
-use Rattle.masks.specs.Wires.{cost, totalOf, newShares, inputShares, sharesAfter}
-use Rattle.writing.specs.Layout.{listed}
-use Rattle.placing.specs.Masking.{Shareable, placesAt, sharesBy, Room, Put, Located}
-use Rattle.masks.proofs.Sum.{up-append}
-use Rattle.placing.proofs.Located.{placesOf, listed-run, by-at, by-set}
-use Rattle.placing.proofs.Shareable.{shareable-sized, Turn, turn}
+use Rattle.masks.specs.Wires.{cost, newShares, inputShares, sharesAfter}
+use Rattle.masks.proofs.Sum.{up-length, up-append}
+use Rattle.sizing.specs.declared.Plan as DP
+use Rattle.sizing.specs.Plans.{PlanReady}
+use Rattle.writing.specs.Layout.{shareWires}
+use Rattle.placing.specs.Located.{placesAt, Room, Put, Holds, Noted, sharesTo, allShares, gateWire}
+use Rattle.placing.proofs.Located.{placesOf, shares-run, noted-start, noted-next, shares-to-all, shares-to-length}
+use Rattle.placing.proofs.Located.{gate-wire-next, shares-to-next}
+use Rattle.placing.proofs.Turns.{turn}
 
-pub put-room : {p c : ℕ} {a : DP.Places} {F B T F′ B′ T′ : List ℕ} → Room c F B T → Put p a F B T F′ B′ T′ → Room c F′ B′ T′
-put-room {p} {c} {a} {F} {B} {T} r w =
-    record {
-      firsts = rw (w .firsts, length-set F p (a .first)) (r .firsts);
-      bases = rw (w .bases, length-set B p (a .base)) (r .bases);
-      steps = rw (w .steps, length-set T p (a .step)) (r .steps);
-    }
+-- arrays of the same lengths have the same room
+pub noted-room :
+    {n c d : ℕ} {S : List (List ℕ)} {H B T H′ B′ T′ : List ℕ} → Room c H B T → Noted n S H B T H′ B′ T′ → d ≤ c → Room d H′ B′ T′
+noted-room r N h = record {
+  heads = omega (arith, r .heads, N .heads);
+  bases = omega (arith, r .bases, N .bases);
+  steps = omega (arith, r .steps, N .steps);
+}
 
--- three arrays as long as before
-pub record Same (F B T F′ B′ T′ : List ℕ) : Type 0 where
-  pub firsts : length F′ ≡ length F
-  pub bases : length B′ ≡ length B
-  pub steps : length T′ ≡ length T
-
-pub same-start : {F B T : List ℕ} → Same F B T F B T
-same-start = record { firsts = refl; bases = refl; steps = refl }
-
-pub same-put :
-    {p : ℕ} {a : DP.Places} {F₀ B₀ T₀ F B T F′ B′ T′ : List ℕ} → Same F₀ B₀ T₀ F B T → Put p a F B T F′ B′ T′
-    → Same F₀ B₀ T₀ F′ B′ T′
-same-put {p} {a} {F₀} {B₀} {T₀} {F} {B} {T} e w =
-    record {
-      firsts = rw (w .firsts, length-set F p (a .first)) (e .firsts);
-      bases = rw (w .bases, length-set B p (a .base)) (e .bases);
-      steps = rw (w .steps, length-set T p (a .step)) (e .steps);
-    }
+-- first the plain wires of S, then those of a longer list
+pub noted-both :
+    {n : ℕ} {S Z : List (List ℕ)} {H₀ B₀ T₀ H₁ B₁ T₁ H₂ B₂ T₂ : List ℕ} → Noted n S H₀ B₀ T₀ H₁ B₁ T₁
+    → Noted n Z H₁ B₁ T₁ H₂ B₂ T₂ → length S ≤ length Z → Noted n Z H₀ B₀ T₀ H₂ B₂ T₂
+noted-both N M h = record {
+  holds = M .holds;
+  past = λ q k. M .past q k ∙ N .past q (omega arith);
+  heads = M .heads ∙ N .heads;
+  bases = M .bases ∙ N .bases;
+  steps = M .steps ∙ N .steps;
+}
 
 up-suc : {A : Type 0} (c : ℕ) (f : ℕ → A) → upFrom (suc c) 0 f ≡ upFrom c 0 f ++ (f c ∷ [])
 unfolding upFrom
 up-suc c f = rw (add-one, zero-add) at (up-append c 1 0 f)
 
--- one plain wire more
-pub put-shares :
-    {p : ℕ} (n : ℕ) {a : DP.Places} {F B T F′ B′ T′ : List ℕ} → Room (suc p) F B T → Put p a F B T F′ B′ T′
-    → sharesBy n F′ B′ T′ (suc p) ≡ sharesBy n F B T p ++ (listed n a ∷ [])
-put-shares {p} n {a} {F} {B} {T} r w =
-    rw (w .firsts, w .bases, w .steps) (by-set n F B T p (a .first) (a .base) (a .step) (r .firsts) (r .bases) (r .steps))
-
 -- the inputs before number i are noted, and the next one's first share is on wire w
-pub record Inputs (n I : ℕ) (F B T : List ℕ) (i w : ℕ) : Type 0 where
-  pub within : i ≤ I
-  pub room : Room I F B T
+pub record Inputs (n I : ℕ) (H₀ B₀ T₀ H B T : List ℕ) (i w : ℕ) : Type 0 where
+  pub noted : Noted n (inputShares n i) H₀ B₀ T₀ H B T
   pub at : w ≡ n * i
-  pub shares : sharesBy n F B T i ≡ inputShares n i
+  pub within : i ≤ I
 
-pub inputs-start : {n I : ℕ} {F B T : List ℕ} → Room I F B T → Inputs n I F B T 0 0
-unfolding sharesBy upFrom
-inputs-start r = record { within = omega arith; room = r; at = omega arith; shares = refl }
+pub inputs-start : {n I : ℕ} {H B T : List ℕ} → Inputs n I H B T H B T 0 0
+unfolding upFrom
+inputs-start = record { noted = noted-start (λ q h. absurd (omega arith)); at = omega arith; within = omega arith }
 
-module _ {n I : ℕ} {F B T : List ℕ} {i w : ℕ} (P : Inputs n I F B T i w) (h : i < I) (few : n * I ≤ 65535) where
-  pub inputs-fit : w + n ≤ 65535
-  inputs-fit = omega (arith, P .at, mul-le-mul-left {m = suc i} {n = I} n h)
-
-  pub inputs-room : Room (i + 1) F B T
-  inputs-room =
-      record {
-        firsts = omega (arith, P .room .firsts);
-        bases = omega (arith, P .room .bases);
-        steps = omega (arith, P .room .steps);
-      }
+module _ {n I : ℕ} {H₀ B₀ T₀ H B T : List ℕ} {i w : ℕ} (P : Inputs n I H₀ B₀ T₀ H B T i w) where
+  pub inputs-fit : i < I → n * I ≤ 65535 → w + n ≤ 65535
+  inputs-fit h few = omega (arith, P .at, mul-le-mul-left {m = suc i} {n = I} n h)
 
   pub inputs-turn :
-      {F′ B′ T′ : List ℕ} → 1 ≤ n → Put i (placesOf w (w + 1) 1) F B T F′ B′ T′ → Inputs n I F′ B′ T′ (i + 1) (w + n)
-  unfolding upFrom
-  inputs-turn {F′} {B′} {T′} some p =
-      let room : Room (suc i) F B T = rw add-one at inputs-room in
-      let more : sharesBy n F′ B′ T′ (suc i) ≡ sharesBy n F B T i ++ (listed n (placesOf w (w + 1) 1) ∷ []) =
-      put-shares n room p in
-      let one : listed n (placesOf w (w + 1) 1) ≡ upFrom n (n * i) (λ x. x) =
-      listed-run n w some ∙ ap {A = ℕ} {B = List ℕ} (λ v. upFrom n v (λ x. x)) (P .at) in
-      let whole : sharesBy n F B T i ++ (listed n (placesOf w (w + 1) 1) ∷ []) ≡ inputShares n (suc i) =
-      rw (P .shares, one) (sym (up-suc i (λ j. upFrom n (n * j) (λ x. x)))) in
+      {H′ B′ T′ : List ℕ} → i < I → 1 ≤ n → Room (i + 1) H B T → Put i (placesOf w (w + 1) 1) H B T H′ B′ T′
+      → Inputs n I H₀ B₀ T₀ H′ B′ T′ (i + 1) (w + n)
+  inputs-turn {H′} {B′} {T′} h some room W =
+      let f : ℕ → List ℕ = λ j. upFrom n (n * j) (λ x. x) in
+      let one : shareWires n (placesOf w (w + 1) 1) ≡ f i =
+      shares-run n w some ∙ ap {A = ℕ} {B = List ℕ} (λ v. upFrom n v (λ x. x)) (P .at) in
       rw add-one
       (record {
-        within = h;
-        room = put-room (P .room) p;
+        noted = rw (up-suc i f, ← one) (noted-next (P .noted) (sym (up-length i 0 f)) room W);
         at = omega (arith, P .at);
-        shares = more ∙ whole;
+        within = h;
       })
 
-pub inputs-end : {n I : ℕ} {F B T : List ℕ} {i w : ℕ} → Inputs n I F B T i w → I ≤ i → sharesBy n F B T I ≡ inputShares n I
-inputs-end {n} {I} {F} {B} {T} {i} P h =
-    subst (λ (j : ℕ). sharesBy n F B T j ≡ inputShares n j) {x = i} {y = I} (omega (arith, P .within)) (P .shares)
+  pub inputs-end : I ≤ i → Noted n (inputShares n I) H₀ B₀ T₀ H B T
+  inputs-end h =
+      subst (λ (j : ℕ). Noted n (inputShares n j) H₀ B₀ T₀ H B T) {x = i} {y = I} (omega (arith, P .within)) (P .noted)
 
--- the gates before number g are noted, and gate g begins at wire w; I and G are the numbers of inputs and gates
-pub record Placing (s : List ℕ) (n I G : ℕ) (F B T : List ℕ) (g w : ℕ) : Type 0 where
-  pub shareable : Shareable s n
-  pub inputs : I ≡ word s 0
-  pub gates : G ≡ word s 2
+-- the gates before number g are noted, and gate g begins at wire w
+pub record Placing (t : Table) (n G : ℕ) (H₀ B₀ T₀ H B T : List ℕ) (g w : ℕ) : Type 0 where
+  pub noted : Noted n (sharesTo n t g) H₀ B₀ T₀ H B T
+  pub wire : w ≡ gateWire n t g
   pub within : g ≤ G
-  pub room : Room (I + G) F B T
-  pub fits : w + totalOf (λ k. cost k n) (gatesAt s G g) ≤ 65535
-  pub left :
-      sharesAfter n w (sharesBy n F B T (I + g)) (gatesAt s G g)
-      ≡ sharesAfter n (n * I) (inputShares n I) (tableOf s .gates)
 
-pub placing-start :
-    {s : List ℕ} {n I G : ℕ} {F B T : List ℕ} → Shareable s n → I ≡ word s 0 → G ≡ word s 2 → Room (I + G) F B T
-    → sharesBy n F B T I ≡ inputShares n I → Placing s n I G F B T 0 (n * I)
-placing-start {s} {n} {I} {G} {F} {B} {T} M i g r e =
-    let all : gatesAt s G 0 ≡ tableOf s .gates = rw (g, gates-at-table s) in
-    let few : n * word s 0 + totalOf (λ k. cost k n) (tableOf s .gates) ≤ 65535 = shareable-sized M .few-wires in
-    record {
-      shareable = M;
-      inputs = i;
-      gates = g;
-      within = omega arith;
-      room = r;
-      fits = rw (all, i) few;
-      left = rw (all, add-zero) (ap {A = List (List ℕ)} {B = List (List ℕ)} (λ S. sharesAfter n (n * I) S (tableOf s .gates)) e);
-    }
+module _ {s : List ℕ} {p : DP.Plan} (R : PlanReady s p) where
+  pub placing-start :
+      {H B T : List ℕ} → Holds (p .shares) (inputShares (p .shares) (p .inputs)) H B T
+      → Placing (tableOf s) (p .shares) (p .gates) H B T H B T 0 (p .shares * p .inputs)
+  unfolding sharesAfter total
+  placing-start {H} {B} {T} h = record {
+    noted = noted-start (subst (λ (i : ℕ). Holds (p .shares) (inputShares (p .shares) i) H B T) (R .inputs) h);
+    wire = ap (λ (i : ℕ). p .shares * i) (R .inputs) ∙ omega arith;
+    within = omega arith;
+  }
 
-module _ {s : List ℕ} {n I G : ℕ} {F B T : List ℕ} {g w : ℕ} (P : Placing s n I G F B T g w) where
-  pub placing-end : G ≤ g → Located (tableOf s) n F B T
-  unfolding sharesAfter
-  placing-end h =
-      let all : g ≡ G = omega (arith, P .within) in
-      let none : gatesAt s G g ≡ [] = rw (all, gates-at-end s G) in
-      let long : I + g ≡ wires (tableOf s) = omega (arith, P .inputs, P .gates, wires-of s) in
-      let room : I + G ≡ wires (tableOf s) = omega (arith, P .inputs, P .gates, wires-of s) in
-      let done : sharesBy n F B T (I + g) ≡ sharesAfter n (n * I) (inputShares n I) (tableOf s .gates) =
-      rw none at (P .left) in
-      record {
-        room = subst (λ (c : ℕ). Room c F B T) room (P .room);
-        shares = rw (← long, ← (P .inputs ∙ sym (inputs-of s))) done;
-      }
-
-  -- in a turn
-  module _ (h : g < G) where
-    placing-step :
-        w + cost (kindOf (getD s (6 + g) 0)) n + totalOf (λ k. cost k n) (gatesAt s G (suc g)) ≤ 65535
-    unfolding totalOf
-    placing-step = let few = rw (gates-at-step s G g h) at (P .fits) in omega arith
-
-    pub placing-facts : Turn s n I G g w
-    placing-facts = turn (P .shareable) (P .inputs) (P .gates) h (omega (arith, placing-step))
+  module _ {H₀ B₀ T₀ H B T : List ℕ} {g w : ℕ} (P : Placing (tableOf s) (p .shares) (p .gates) H₀ B₀ T₀ H B T g w) where
+    pub placing-end : p .gates ≤ g → Noted (p .shares) (allShares (p .shares) (tableOf s)) H₀ B₀ T₀ H B T
+    placing-end h =
+        rw (← shares-to-all (p .shares) (tableOf s) g (omega (arith, P .within, R .gates))) (P .noted)
 
     pub placing-turn :
-        {F′ B′ T′ : List ℕ} {l u : ℕ} {a r : DP.Places} → l ≡ word s (6 + G + 4 * g) → a ≡ placesAt F B T l
-        → listed n r ≡ newShares (kindOf (getD s (6 + g) 0)) n w (listed n a)
-        → Put (I + g) r F B T F′ B′ T′ → u ≡ cost (kindOf (getD s (6 + g) 0)) n
-        → Placing s n I G F′ B′ T′ (g + 1) (w + u)
-    unfolding sharesAfter
-    placing-turn {F′} {B′} {T′} {l} {u} {a} {r} field places is₀ p e =
-        let k = kindOf (getD s (6 + g) 0) in
-        let at = word s (6 + G + 4 * g) in
-        let is : listed n r ≡ newShares (kindOf (getD s (6 + g) 0)) n w (listed n (placesAt F B T at)) =
-        rw (places, field) at is₀ in
-        let x = gateAt s G g in
-        let S = sharesBy n F B T (I + g) in
-        let room : Room (suc (I + g)) F B T =
-        record {
-          firsts = omega (arith, P .room .firsts);
-          bases = omega (arith, P .room .bases);
-          steps = omega (arith, P .room .steps);
-        } in
-        let below : at < I + g = placing-facts .left in
-        let one : sharesBy n F′ B′ T′ (suc (I + g)) ≡ S ++ (newShares k n w (getD S at []) ∷ []) =
-        put-shares n room p ∙ rw (is, by-at n F B T (I + g) at below) refl in
-        let next : I + suc g ≡ suc (I + g) = omega arith in
-        let step : sharesAfter n w S (x ∷ gatesAt s G (suc g)) ≡ sharesAfter n (n * I) (inputShares n I) (tableOf s .gates) =
-        rw (gates-at-step s G g h) at (P .left) in
-        rw (add-one, e)
+        {H′ B′ T′ : List ℕ} {u : ℕ} {x : DG.GateFields} {a r : DW.Places} → g < p .gates → GateIs (gateOf (tableOf s) g) x
+        → a ≡ placesAt H B T (x .left) → shareWires (p .shares) r ≡ newShares (kindOf (x .kind)) (p .shares) w (shareWires (p .shares) a)
+        → Room (p .inputs + g + 1) H B T → Put (p .inputs + g) r H B T H′ B′ T′ → u ≡ cost (kindOf (x .kind)) (p .shares)
+        → Placing (tableOf s) (p .shares) (p .gates) H₀ B₀ T₀ H′ B′ T′ (g + 1) (w + u)
+    placing-turn {H′} {B′} {T′} {u} {x} {a} {r} h is places new room W e =
+        let t = tableOf s in
+        let n = p .shares in
+        let inside : g < length (t .gates) = omega (arith, R .gates) in
+        let S = sharesTo n t g in
+        let long : length S ≡ t .inputs + g = shares-to-length n t g (omega arith) in
+        let left : x .left < t .inputs + g = omega (arith, turn R h (P .wire) is .left, R .inputs) in
+        let kept : shareWires n (placesAt H B T (x .left)) ≡ getD S (x .left) [] = P .noted .holds (x .left) (omega (arith, long)) in
+        let old : shareWires n a ≡ getD S (gateOf t g .left) [] = rw (places, ← is .left) kept in
+        let one : shareWires n r ≡ newShares (gateOf t g .kind) n (gateWire n t g) (getD S (gateOf t g .left) []) =
+        subst (λ (v : ℕ). shareWires n r ≡ newShares (gateOf t g .kind) n v (getD S (gateOf t g .left) [])) (P .wire)
+        (rw (is .kind, old) at new) in
+        rw add-one
         (record {
-          shareable = P .shareable;
-          inputs = P .inputs;
-          gates = P .gates;
+          noted = rw (shares-to-next n t g inside, ← one) (noted-next (P .noted) (omega (arith, long, R .inputs)) room W);
+          wire = rw (e, is .kind) (omega (arith, P .wire, gate-wire-next n t g inside));
           within = h;
-          room = put-room (P .room) p;
-          fits = placing-step;
-          left = rw (next, one) step;
         })

@@ -1,2 +1,2 @@
--- What the parts of masking take and give.
-pub mod Masking
+-- Where the code keeps every plain wire's shares.
+pub mod Located

@@ -1,3 +1,2 @@
--- What the refusals of mapping and the free share take and give.
-pub mod Faults
+-- What the free share of probes takes and gives.
 pub mod Seeing

@@ -1,23 +1,21 @@
--- The share numbers that probes carry, as the code keeps them: a byte for each number (document 01, "Marks and the mapped tape").
+-- For contracts inside the library only: no promise of a call cites this.
+-- The share numbers that probes carry, as the code keeps them: a byte for each.
 -- Assumes nothing.
 use mathlib.Core.Path.{_≡_}
+use mathlib.Core.Bool.{true, cond}
 use mathlib.Core.List.{List}
 use Prim.Native.Nat.{ℕ, _≤_, _<_}
 use lib.ListN.{length, getD}
-use Rattle.tables.specs.Refusals.{pick}
 use Rattle.masks.specs.Gadgets.{isIn}
+use Rattle.maps.specs.Claims.{allBelow}
 
 -- 1 at each number from 1 on that is in the list cs, and 0 at each other; byte 0 says nothing
 pub record Seen (cs seen : List ℕ) : Type 0 where
   pub long : length seen ≡ 256
-  pub marked : (i : ℕ) → 1 ≤ i → i < 256 → getD seen i 0 ≡ pick (isIn i cs) 1 0
-
--- every probe is a wire below w
-abbrev pub Probes : List ℕ → ℕ → Type 0
-Probes ps w = (i : ℕ) → i < length ps → getD ps i 0 < w
+  pub marked : (i : ℕ) → 1 ≤ i → i < 256 → getD seen i 0 ≡ cond (isIn i cs) 1 0
 
 -- the numbers of the probes may be marked: nothing is marked yet
 pub record MarkReady (ps : List ℕ) (w : ℕ) (seen : List ℕ) : Type 0 where
-  pub probes : Probes ps w
+  pub probes : allBelow w ps ≡ true
   pub long : length seen ≡ 256
   pub none : (i : ℕ) → i < 256 → getD seen i 0 ≡ 0

@@ -2,17 +2,17 @@
 ghost use mathlib.Core.Path.{_≡_};
 ghost use Prim.Native.Nat.{ℕ, _+_, _≤_, _<_};
 ghost use lib.ListN.{length};
+ghost use mathlib.Core.Bool.{true};
 ghost use mathlib.Core.List.{List};
 ghost use Rattle.tables.specs.Tables.{tableOf};
-ghost use Rattle.tables.specs.Refusals.{fault, badBit};
 ghost use Rattle.tables.specs.Says.{Refused};
 ghost use Rattle.masks.specs.Gadgets.{isw};
 ghost use Rattle.masks.specs.Wires.{marks, origins};
-ghost use Rattle.sizing.specs.Plans.{PlanReady};
-ghost use Rattle.marking.specs.Origins.{orderOf};
+ghost use Rattle.sizing.specs.Plans.{PlanReady, PlanSays};
 ghost use Rattle.maps.specs.Maps.{carried, freeFrom, freeShare};
-ghost use Rattle.probing.specs.Faults.{supplyFault, probesFault, roomFault, callFault, MapPlanSays};
-ghost use Rattle.probing.specs.Seeing.{Seen, Probes, MarkReady};
+ghost use Rattle.maps.specs.Claims.{allBelow};
+ghost use Rattle.maps.specs.Says.{supplyFault, probesFault, roomFault, callFault, mapFault};
+ghost use Rattle.probing.specs.Seeing.{Seen, MarkReady};
 
 // The smallest number from 1 to n that is not seen, else n + 1.
 fn free_of(seen: &[u8; 256], n: usize) -> usize
@@ -31,9 +31,9 @@ fn free_of(seen: &[u8; 256], n: usize) -> usize
 
 // Marks the share numbers that the probes carry.
 fn mark_probes(table: &[u8], p: sizing::Plan, probes: &[u32], seen: &mut [u8; 256])
-    requires { ⌜ PlanReady (now table) (orderOf p) p × MarkReady (now probes) (p .wires) (now seen) ⌝ }
+    requires { ⌜ PlanReady (now table) p × MarkReady (now probes) (p .wires) (now seen) ⌝ }
     ensures { λ _. ⌜ Seen
-        (carried (marks isw) (origins isw (orderOf p) (tableOf (now (table .entry)))) (now (probes .entry)))
+        (carried (marks isw) (origins isw (p .order) (tableOf (now (table .entry)))) (now (probes .entry)))
         (now (seen .exit)) ⌝ }
 {
     let mut j = 0;
@@ -49,60 +49,32 @@ fn mark_probes(table: &[u8], p: sizing::Plan, probes: &[u32], seen: &mut [u8; 25
 
 // The smallest share number that no probe carries.
 pub fn free_share(table: &[u8], p: sizing::Plan, probes: &[u32]) -> usize
-    requires { ⌜ PlanReady (now table) (orderOf p) p × Probes (now probes) (p .wires) ⌝ }
-    ensures { λ r. ⌜ r ≡ freeShare isw (orderOf p) (tableOf (now (table .entry))) (now (probes .entry)) ⌝ }
+    requires { ⌜ PlanReady (now table) p × (allBelow (p .wires) (now probes) ≡ true) ⌝ }
+    ensures { λ r. ⌜ r ≡ freeShare isw (marks isw) (p .order) (tableOf (now (table .entry))) (now (probes .entry)) ⌝ }
 {
     let mut seen = [0u8; 256];
     mark_probes(table, p, probes, &mut seen);
     free_of(&seen, p.shares)
 }
 
-// A refusal, or none where the number is 0.
-fn refused(number: u8, place: usize) -> tables::Refusal
-    requires { ⌜ place < 4294967296 ⌝ }
-    ensures { λ r. ⌜ Refused (fault number place) r ⌝ }
-{
-    tables::Refusal {
-        number,
-        place: place as u32,
-    }
-}
-
-// The first byte above 1, where the bits begin at a place of the call's bits joined.
-fn bits_fault(bits: &[u8], start: usize) -> tables::Refusal
-    requires { ⌜ start + length (now bits) < 4294967296 ⌝ }
-    ensures { λ r. ⌜ Refused (badBit start (now (bits .entry))) r ⌝ }
-{
-    let at = tables::first_bad(bits);
-    if at < bits.len() {
-        return refused(11, start + at);
-    }
-    refused(0, 0)
-}
-
 // What is supplied to a plan: wrong counts, then a byte above 1 of both secrets and the tape joined.
 fn supply_fault(p: sizing::Plan, first: &[u8], second: &[u8], tape: &[u8]) -> tables::Refusal
     requires { ⌜ (p .inputs ≤ 65535) × (p .tape ≤ 65535) ⌝ }
-    ensures { λ r. ⌜ Refused (supplyFault p (now (first .entry)) (now (second .entry)) (now (tape .entry))) r ⌝ }
+    ensures { λ r. ⌜ Refused (supplyFault (p .inputs) (p .tape) (now (first .entry)) (now (second .entry)) (now (tape .entry))) r ⌝ }
 {
     if first.len() != p.inputs {
-        return refused(10, 0);
+        return tables::refuse(10, 0);
     }
     if second.len() != p.inputs {
-        return refused(10, 0);
+        return tables::refuse(10, 0);
     }
     if tape.len() != p.tape {
-        return refused(10, 0);
+        return tables::refuse(10, 0);
     }
-    let found = bits_fault(first, 0);
-    if found.number != 0 {
-        return found;
-    }
-    let found = bits_fault(second, first.len());
-    if found.number != 0 {
-        return found;
-    }
-    bits_fault(tape, first.len() + second.len())
+    let one = tables::bits_fault(first, 0);
+    let other = tables::bits_fault(second, first.len());
+    let random = tables::bits_fault(tape, first.len() + second.len());
+    tables::first_of(one, tables::first_of(other, random))
 }
 
 // The probes: more than the order, then one that is no wire of the masked table.
@@ -110,32 +82,32 @@ fn probes_fault(order: u8, wires: usize, probes: &[u32]) -> tables::Refusal
     ensures { λ r. ⌜ Refused (probesFault order wires (now (probes .entry))) r ⌝ }
 {
     if probes.len() > order as usize {
-        return refused(12, 0);
+        return tables::refuse(12, 0);
     }
     let mut j = 0;
     while j < probes.len() {
         if probes[j] as usize >= wires {
-            return refused(13, j);
+            return tables::refuse(13, j);
         }
         j += 1;
     }
-    refused(0, 0)
+    tables::refuse(0, 0)
 }
 
 // A buffer that is shorter than what is written into it.
 fn room_fault(p: sizing::Plan, mapped: usize, one: usize, other: usize) -> tables::Refusal
-    ensures { λ r. ⌜ Refused (roomFault p mapped one other) r ⌝ }
+    ensures { λ r. ⌜ Refused (roomFault (p .tape) (p .wires) mapped one other) r ⌝ }
 {
     if mapped < p.tape {
-        return refused(9, 0);
+        return tables::refuse(9, 0);
     }
     if one < p.wires {
-        return refused(9, 0);
+        return tables::refuse(9, 0);
     }
     if other < p.wires {
-        return refused(9, 0);
+        return tables::refuse(9, 0);
     }
-    refused(0, 0)
+    tables::refuse(0, 0)
 }
 
 // The refusals that follow those of the plan: 10 to 13, then 9.
@@ -152,13 +124,20 @@ fn call_fault(
 ) -> tables::Refusal
     requires { ⌜ (p .inputs ≤ 65535) × (p .tape ≤ 65535) ⌝ }
     ensures { λ r. ⌜ Refused
-        (callFault order p (now (first .entry)) (now (second .entry)) (now (tape .entry)) (now (probes .entry)) mapped one other)
+        (callFault order (p .inputs) (p .tape) (p .wires)
+        (now (first .entry))
+        (now (second .entry))
+        (now (tape .entry))
+        (now (probes .entry))
+        mapped
+        one
+        other)
         r ⌝ }
 {
     let supplied = supply_fault(p, first, second, tape);
     let probed = probes_fault(order, p.wires, probes);
     let room = room_fault(p, mapped, one, other);
-    sizing::first_of(supplied, sizing::first_of(probed, room))
+    tables::first_of(supplied, tables::first_of(probed, room))
 }
 
 // Whether mapping is refused: the first refusal, or the sizes.
@@ -173,14 +152,17 @@ pub fn map_fault(
     one: usize,
     other: usize,
 ) -> sizing::Planned
-    ensures { λ r. ⌜ MapPlanSays (now (table .entry)) order
+    ensures { λ r. ⌜ PlanSays
+        (mapFault isw (now (table .entry)) order
         (now (first .entry))
         (now (second .entry))
         (now (tape .entry))
         (now (probes .entry))
         mapped
         one
-        other
+        other)
+        (now (table .entry))
+        order
         r ⌝ }
 {
     let planned = sizing::plan_table(table, order);

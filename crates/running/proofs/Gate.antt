@@ -12,7 +12,7 @@ use Rattle.tables.specs.Runs.{driven, drawn}
 use Rattle.running.specs.Running.{GateReady, GateSays}
 
 -- what holds of the four pairs of bits holds of two bits
-pub both-bits :
+both-bits :
     (P : ℕ → ℕ → Type 0) → P 0 0 → P 0 1 → P 1 0 → P 1 1 → (a b : ℕ) → a ≤ 1 → b ≤ 1 → P a b
 both-bits P p q r t zero zero h k = p
 both-bits P p q r t zero (suc zero) h k = q
@@ -45,7 +45,7 @@ truth-driven (suc (suc (suc zero))) a b h n ha hb l m c v p q = absurd (n refl)
 truth-driven (suc (suc (suc (suc k)))) a b h n ha hb l m c v p q = absurd (omega arith)
 
 -- a gate that is not random takes no bit
-pub drawn-none : (k : ℕ) → (k ≡ 3 → ⊥) → drawn (kindOf k) ≡ 0
+drawn-none : (k : ℕ) → (k ≡ 3 → ⊥) → drawn (kindOf k) ≡ 0
 drawn-none zero h = refl
 drawn-none (suc zero) h = refl
 drawn-none (suc (suc zero)) h = refl

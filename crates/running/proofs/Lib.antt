@@ -1,6 +1,5 @@
 -- Laws that the proofs of running cite, and the invariant of a run.
 pub mod Gate
 pub mod Running
-pub mod Filling
 pub mod RunFault
 pub mod RunTable

@@ -1,40 +1,24 @@
--- The gate loop of a run. Its invariant says what is left: running the remaining gates from the values so far gives the whole run.
+-- The gate loop of a run. Its invariant says what is left: the values from wire n + i on of the whole run, which solves the gates.
 -- Assumes nothing.
-use mathlib.Core.Path.{_≡_, refl, sym, ap, subst, _∙_}
+use mathlib.Core.Path.{_≡_, sym, ap, subst, _∙_}
 use mathlib.Core.Bool.{true}
-use mathlib.Core.List.{List, [], _∷_, _++_}
-use Prim.Native.Nat.{ℕ, zero, suc, _+_, _-_, _*_, _≤_, _<_}
+use mathlib.Core.List.{List, [], _∷_, _++_, append-assoc}
+use Prim.Native.Nat.{ℕ, zero, suc, _+_, _≤_, _<_}
 use native.Mathlib.Nat.{add-zero, add-suc}
 use native.Mathlib.Omega.{arith}
-use lib.Dec.{eqb, ltb}
-use lib.ListN.{length, getD, take, drop, set, length-set, take-append-drop}
-use lib.Seq.{length-take-le, drop-drop, getD-drop, getD-take, take-suc-set, drop-set-lt}
-use borrow.Author.Tests.{ltb-true, eqb-true}
+use lib.ListN.{length, getD, take, drop, set, length-append, length-drop, take-append-drop, drop-of-length-le, List·getD-append}
+use lib.Seq.{length-take-le, getD-take, take-take, take-length, take-append-seam, drop-cons}
 use Rattle.running.specs.declared.Drawn as DD
-use Rattle.tables.specs.Tables.{Kind, NOT, XOR, AND, RANDOM, UNKNOWN, kindOf, Gate, gate, word, tableOf, known, operandsOk}
-use Rattle.tables.specs.Runs.{driven, drawn, runFrom, randoms}
+use Rattle.tables.specs.declared.GateFields as DG
+use Rattle.tables.specs.Tables.{kindOf, Gate, noGate, Table, gateOf, tableOf, known, operandsOf, total}
+use Rattle.tables.specs.Runs.{Bits, driven, drawn, runFrom, randoms}
 use Rattle.tables.specs.Says.{over}
+use Rattle.tables.specs.Inside.{putAt, HasGates, GateIs}
 use Rattle.running.specs.Running.{GateReady, GateSays, RunReady}
-use Rattle.tables.proofs.Tests.{and-true}
-use Rattle.tables.proofs.Lists.{Bits, bits-nil, bits-cons, bits-append}
-use Rattle.tables.proofs.Run.{Earlier, driven-local, driven-bit}
-use Rattle.tables.proofs.Accept.{inputs-of, gates-of-length, accepted, Accepted}
-use Rattle.tables.proofs.Loops.{gatesAt, gates-at-table, gates-at-step, gates-at-end}
+use Rattle.tables.proofs.Put.{Writing, writing-kept, writing-byte, writing-end, over-length}
+use Rattle.tables.proofs.Run.{Solves, Earlier, driven-local, run-length, run-bits, run-solves}
+use Rattle.tables.proofs.Accept.{inputs-of, gates-are, accepted, has-gates, operands-below}
 use Rattle.tables.proofs.Format.{SoundGates, sound-earlier, passed-sound-gates}
-
--- what a known kind with good operands reads; there is an input, so that wire 0 is earlier too
-operands-earlier :
-    (w : ℕ) (k : Kind) (l r : ℕ) → 1 ≤ w → operandsOk w k l r ≡ true → (l < w) × (r < w)
-operands-earlier w NOT l r h e =
-    let a = and-true (ltb l w) (eqb r 0) e in (ltb-true l w (a .0), omega (arith, eqb-true r 0 (a .1)))
-operands-earlier w XOR l r h e =
-    let a = and-true (ltb l w) (ltb r w) e in (ltb-true l w (a .0), ltb-true r w (a .1))
-operands-earlier w AND l r h e =
-    let a = and-true (ltb l w) (ltb r w) e in (ltb-true l w (a .0), ltb-true r w (a .1))
-operands-earlier w RANDOM l r h e =
-    let a = and-true (eqb l 0) (eqb r 0) e in
-    (omega (arith, eqb-true l 0 (a .0)), omega (arith, eqb-true r 0 (a .1)))
-operands-earlier w (UNKNOWN k) l r h e = let z : _≡_ {A = ℕ} 0 1 = cc in (omega arith, omega arith)
 
 known-small : (k : ℕ) → known (kindOf k) ≡ true → k ≤ 3
 known-small zero h = omega arith
@@ -43,187 +27,194 @@ known-small (suc (suc zero)) h = omega arith
 known-small (suc (suc (suc zero))) h = omega arith
 known-small (suc (suc (suc (suc k)))) h = let z : _≡_ {A = ℕ} 0 1 = cc in omega arith
 
-first-bits : (n : ℕ) (vs : List ℕ) → ((i : ℕ) → i < n → getD vs i 0 ≤ 1) → Bits (take n vs)
-first-bits zero vs h = bits-nil
-first-bits (suc n) [] h = bits-nil
-first-bits (suc n) (v ∷ vs) h =
-    bits-cons v (take n vs) (h 0 (omega arith)) (first-bits n vs (λ i k. h (suc i) (omega arith)))
+-- a run begins with what it was given
+run-front : (gs : List Gate) (rs vs : List ℕ) → take (length vs) (runFrom gs rs vs) ≡ vs
+unfolding runFrom
+run-front [] rs vs = take-length vs
+run-front (g ∷ gs) rs vs =
+    let x = driven (g .kind) (g .left) (g .right) (λ w. getD vs w 0) (getD rs 0 0) in
+    let ws = vs ++ (x ∷ []) in
+    let all = runFrom gs (drop (drawn (g .kind)) rs) ws in
+    sym (take-take (length vs) (length ws) all (omega (arith, length-append vs (x ∷ []))))
+    ∙ ap {A = List ℕ} {B = List ℕ} (take (length vs)) (run-front gs (drop (drawn (g .kind)) rs) ws)
+    ∙ take-append-seam vs (x ∷ [])
 
--- after gate i: c random bits are taken, and the first n + i values are those of the run
-pub record Running (s rs start : List ℕ) (n g : ℕ) (vs : List ℕ) (c i : ℕ) : Type 0 where
-  pub within : i ≤ g
-  pub table : 6 + 5 * g ≤ length s
-  pub some-input : 1 ≤ n
-  pub long : length vs ≡ length start
-  pub room : n + g ≤ length vs
-  pub whole : runFrom (gatesAt s g i) (drop c rs) (take (n + i) vs) ≡ runFrom (tableOf s .gates) rs (take n start)
-  pub rest : drop (n + i) vs ≡ drop (n + i) start
-  pub bits : Bits (take (n + i) vs)
-  pub random-bits : Bits rs
-  pub random : c + randoms (gatesAt s g i) ≤ length rs
-  pub sound : SoundGates (n + i) (gatesAt s g i)
-
-pub running-start :
-    (s rs vs : List ℕ) (n g : ℕ) → RunReady s rs vs n g → Running s rs vs n g vs 0 0
-running-start s rs vs n g r =
-    let a : Accepted s = accepted s (r .accepted) in
-    let e : gatesAt s g 0 ≡ tableOf s .gates = rw (r .gates) (gates-at-table s) in
-    let inputs : n ≡ tableOf s .inputs = r .inputs ∙ sym (inputs-of s) in
-    let few : length (take n vs) ≡ n = length-take-le n vs (omega arith) in
+-- a buffer that holds the first n values of a run already
+writing-after :
+    (n : ℕ) (xs b : List ℕ) → take n xs ≡ take n b → n ≤ length xs → length xs ≤ length b
+    → Writing (over xs b) n (drop n xs) b
+unfolding putAt
+writing-after n xs b e h k =
+    let far : n + length (drop n xs) ≡ length xs = omega (arith, length-drop n xs) in
     record {
-      within = omega arith;
-      table = omega (arith, a .long, gates-of-length s);
-      some-input = omega (arith, a .some-input);
-      long = refl;
-      room = r .room;
-      whole = rw (add-zero, e);
-      rest = refl;
-      bits = rw add-zero (first-bits n vs (r .input-bits));
-      random-bits = r .random-bits;
-      random = rw e (omega arith);
-      sound = rw (add-zero, e, inputs) (passed-sound-gates s (r .accepted));
+      goal = rw (← e, far, ← append-assoc (take n xs) (drop n xs) (drop (length xs) b), take-append-drop);
+      room = omega (arith, far);
     }
 
--- one turn, at gate i
-module _ {s rs start : List ℕ} {n g : ℕ} {vs : List ℕ} {c i : ℕ} (r : Running s rs start n g vs c i) (h : i < g) where
-  abbrev kind : ℕ
-  kind = getD s (6 + i) 0
+-- the run of a table on the first n values of a buffer
+abbrev pub ranFrom : Table → List ℕ → List ℕ → ℕ → List ℕ
+ranFrom t rs start n = runFrom (t .gates) rs (take n start)
 
-  abbrev pair : ℕ
-  pair = 6 + g + 4 * i
+-- after gate i: c random bits are taken, and the first n + i values are those of the run
+pub record Running (t : Table) (rs start : List ℕ) (n : ℕ) (vs : List ℕ) (c i : ℕ) : Type 0 where
+  pub some-input : 1 ≤ n
+  pub long : length (ranFrom t rs start n) ≡ n + length (t .gates)
+  pub bits : Bits (ranFrom t rs start n)
+  pub writing : Writing (over (ranFrom t rs start n) start) (n + i) (drop (n + i) (ranFrom t rs start n)) vs
+  pub solves : Solves (n + i) c (drop i (t .gates)) (λ d. getD rs d 0) (λ p. getD (ranFrom t rs start n) p 0)
+  pub random : c + randoms (drop i (t .gates)) ≤ length rs
+  pub sound : SoundGates (n + i) (drop i (t .gates))
+
+module _ {s rs vs : List ℕ} {n g : ℕ} (r : RunReady s rs vs n g) where
+  pub ready-gates : HasGates s g
+  ready-gates = has-gates s (r .accepted) (r .gates)
+
+  pub ready-more : {i : ℕ} → i < g → i < length (tableOf s .gates)
+  ready-more h = omega (arith, gates-are ready-gates)
+
+  front-long : length (take n vs) ≡ n
+  front-long = length-take-le n vs (omega (arith, r .room))
+
+  ran-long : length (ranFrom (tableOf s) rs vs n) ≡ n + length (tableOf s .gates)
+  ran-long = omega (arith, run-length (tableOf s .gates) rs (take n vs), front-long)
+
+  ran-fits : length (ranFrom (tableOf s) rs vs n) ≤ length vs
+  ran-fits = omega (arith, ran-long, gates-are ready-gates, r .room)
+
+  pub running-long : length (over (ranFrom (tableOf s) rs vs n) vs) ≡ length vs
+  running-long = over-length (ranFrom (tableOf s) rs vs n) vs ran-fits
+
+  pub running-start : Running (tableOf s) rs vs n vs 0 0
+  running-start =
+      let t = tableOf s in
+      let inputs : n ≡ t .inputs = r .inputs ∙ sym (inputs-of s) in
+      let sound : SoundGates n (t .gates) = rw inputs (passed-sound-gates s (r .accepted)) in
+      let front : take n (ranFrom t rs vs n) ≡ take n vs =
+      ap (λ (m : ℕ). take m (ranFrom t rs vs n)) (sym front-long) ∙ run-front (t .gates) rs (take n vs) in
+      record {
+        some-input = omega (arith, accepted s (r .accepted) .some-input);
+        long = ran-long;
+        bits = run-bits (t .gates) rs (take n vs) (r .random-bits) (r .input-bits);
+        writing = rw add-zero (writing-after n (ranFrom t rs vs n) vs front (omega (arith, ran-long)) ran-fits);
+        solves = rw add-zero (run-solves n (t .gates) rs (take n vs) front-long (sound-earlier n (t .gates) sound));
+        random = omega (arith, r .random);
+        sound = rw add-zero sound;
+      }
+
+-- one turn, at gate i
+module _
+    {t : Table}
+    {rs start : List ℕ}
+    {n : ℕ}
+    {vs : List ℕ}
+    {c i : ℕ}
+    (r : Running t rs start n vs c i)
+    (h : i < length (t .gates)) where
+  abbrev ran : List ℕ
+  ran = ranFrom t rs start n
 
   abbrev this : Gate
-  this = gate (kindOf kind) (word s pair) (word s (8 + g + 4 * i))
+  this = gateOf t i
 
-  left-gates : gatesAt s g i ≡ this ∷ gatesAt s g (suc i)
-  left-gates = gates-at-step s g i h
+  abbrev later : List Gate
+  later = drop (suc i) (t .gates)
 
-  left-sound : SoundGates (n + i) (this ∷ gatesAt s g (suc i))
-  left-sound = subst (λ (gs : List Gate). SoundGates (n + i) gs) left-gates (r .sound)
+  pub gates-left : drop i (t .gates) ≡ this ∷ later
+  gates-left = drop-cons (t .gates) i noGate h
 
-  operands : (word s pair < n + i) × (word s (8 + g + 4 * i) < n + i)
+  left-sound : SoundGates (n + i) (this ∷ later)
+  left-sound = subst (λ (gs : List Gate). SoundGates (n + i) gs) gates-left (r .sound)
+
+  left-solves : Solves (n + i) c (this ∷ later) (λ d. getD rs d 0) (λ p. getD ran p 0)
+  left-solves =
+      subst (λ (gs : List Gate). Solves (n + i) c gs (λ d. getD rs d 0) (λ p. getD ran p 0)) gates-left (r .solves)
+
+  left-random : c + (drawn (this .kind) + randoms later) ≤ length rs
+  unfolding total
+  left-random = subst (λ (gs : List Gate). c + randoms gs ≤ length rs) gates-left (r .random)
+
+  -- both operands, also where they are not read
+  pub earlier : (this .left < n + i) × (this .right < n + i)
   unfolding SoundGates
-  operands = operands-earlier (n + i) (kindOf kind) _ _ (omega arith) (left-sound .0 .1)
+  earlier =
+      operands-below (n + i) (operandsOf (this .kind)) (this .left) (this .right) (omega (arith, r .some-input))
+      (left-sound .0 .1)
 
-  pub left-earlier : word s pair < n + i
-  left-earlier = operands .0
+  -- the values so far are the run's
+  pub value-same : (w : ℕ) → w < n + i → getD vs w 0 ≡ getD ran w 0
+  value-same w k =
+      sym (getD-take (n + i) vs w 0 k)
+      ∙ ap (λ (l : List ℕ). getD l w 0) (writing-kept (r .writing))
+      ∙ getD-take (n + i) (over ran start) w 0 k
+      ∙ List·getD-append ran (drop (length ran) start) 0 w (omega (arith, r .long))
 
-  pub right-earlier : word s (8 + g + 4 * i) < n + i
-  right-earlier = operands .1
+  pub value-bit : (w : ℕ) → w < n + i → getD vs w 0 ≤ 1
+  value-bit w k = rw (value-same w k) (r .bits w)
 
-  -- the values so far are bits
-  value-bit : (w : ℕ) → w < n + i → getD vs w 0 ≤ 1
-  value-bit w k = subst (λ (b : ℕ). b ≤ 1) (getD-take (n + i) vs w 0 k) (r .bits w)
+  pub value-there : (w : ℕ) → w < n + i → w < length vs
+  value-there w k = omega (arith, r .writing .room)
 
-  left-bit : getD vs (word s pair) 0 ≤ 1
-  left-bit = value-bit (word s pair) left-earlier
+  random-there : this .kind ≡ kindOf 3 → c < length rs
+  random-there e =
+      let m : c + (drawn (kindOf 3) + randoms later) ≤ length rs = rw e at left-random in omega arith
 
-  right-bit : getD vs (word s (8 + g + 4 * i)) 0 ≤ 1
-  right-bit = value-bit (word s (8 + g + 4 * i)) right-earlier
+  ran-next : drop (n + i) ran ≡ getD ran (n + i) 0 ∷ drop (suc (n + i)) ran
+  ran-next = drop-cons ran (n + i) 0 (omega (arith, r .long))
 
-  kind-small : kind ≤ 3
-  unfolding SoundGates
-  kind-small = known-small kind (left-sound .0 .0)
+  pub wire-there : n + i < length vs
+  wire-there = omega (arith, r .writing .room, ap length ran-next)
 
-  left-random : c + (drawn (kindOf kind) + randoms (gatesAt s g (suc i))) ≤ length rs
-  unfolding randoms
-  left-random = subst (λ (gs : List Gate). c + randoms gs ≤ length rs) left-gates (r .random)
-
-  random-left : kind ≡ 3 → c < length rs
-  random-left e =
-      let m : c + (drawn (kindOf 3) + randoms (gatesAt s g (suc i))) ≤ length rs =
-      subst (λ (k : ℕ). c + (drawn (kindOf k) + randoms (gatesAt s g (suc i))) ≤ length rs) e left-random in
-      omega arith
-
-  -- what this gate drives, from the values so far
-  abbrev drives : ℕ
-  drives = driven (kindOf kind) (word s pair) (word s (8 + g + 4 * i)) (λ w. getD vs w 0) (getD rs c 0)
-
-  abbrev before : List ℕ
-  before = take (n + i) vs
-
-  drives-before :
-      driven (kindOf kind) (word s pair) (word s (8 + g + 4 * i)) (λ w. getD before w 0) (getD rs c 0) ≡ drives
-  unfolding Earlier
-  drives-before =
-      driven-local (kindOf kind) (word s pair) (word s (8 + g + 4 * i)) (n + i) (getD rs c 0) _ _
-      (sound-earlier (n + i) (this ∷ gatesAt s g (suc i)) left-sound .0)
-      (λ p k. getD-take (n + i) vs p 0 k)
-
-  drives-bit : drives ≤ 1
-  drives-bit =
-      subst (λ (b : ℕ). b ≤ 1) drives-before
-      (driven-bit (kindOf kind) (word s pair) (word s (8 + g + 4 * i)) (getD rs c 0) (λ w. getD before w 0) (r .bits)
-      (r .random-bits c))
-
-  whole-next :
-      runFrom (gatesAt s g (suc i)) (drop (c + drawn (kindOf kind)) rs) (before ++ (drives ∷ []))
-      ≡ runFrom (tableOf s .gates) rs (take n start)
-  unfolding runFrom
-  whole-next =
-      let bit : getD (drop c rs) 0 0 ≡ getD rs c 0 = getD-drop c rs 0 0 ∙ ap (λ (j : ℕ). getD rs j 0) (add-zero c) in
-      rw (← drop-drop, ← drives-before, ← bit, ← r .whole, left-gates)
-
-  front-next : (x : ℕ) → take (n + suc i) (set vs (n + i) x) ≡ before ++ (x ∷ [])
-  front-next x = rw add-suc (take-suc-set vs (n + i) x (omega (arith, r .room)))
-
-  rest-next : (x : ℕ) → drop (n + suc i) (set vs (n + i) x) ≡ drop (n + suc i) start
-  rest-next x =
-      let e : n + suc i ≡ n + i + 1 = omega arith in
-      let later : drop (n + i + 1) vs ≡ drop (n + i + 1) start =
-      sym (drop-drop 1 (n + i) vs) ∙ ap {A = List ℕ} {B = List ℕ} (drop 1) (r .rest) ∙ drop-drop 1 (n + i) start in
-      rw e (drop-set-lt (n + i + 1) vs (n + i) x (omega arith) ∙ later)
+  drives :
+      driven (this .kind) (this .left) (this .right) (λ w. getD vs w 0) (getD rs c 0) ≡ getD ran (n + i) 0
+  unfolding Solves Earlier
+  drives =
+      driven-local (this .kind) (this .left) (this .right) (n + i) (getD rs c 0) _ _
+      (sound-earlier (n + i) (this ∷ later) left-sound .0)
+      value-same
+      ∙ sym (left-solves .0)
 
   running-turn :
-      (x c′ : ℕ) → x ≡ drives → c′ ≡ c + drawn (kindOf kind)
-      → Running s rs start n g (set vs (n + i) x) c′ (suc i)
-  unfolding SoundGates
-  running-turn x c′ ex ec =
+      {x c′ : ℕ} → x ≡ getD ran (n + i) 0 → c′ ≡ c + drawn (this .kind)
+      → Running t rs start n (set vs (n + i) x) c′ (suc i)
+  unfolding SoundGates Solves
+  running-turn {x} {c′} ex ec =
       record {
-        within = omega arith;
-        table = r .table;
         some-input = r .some-input;
-        long = length-set vs (n + i) x ∙ r .long;
-        room = rw length-set (r .room);
-        whole = rw (front-next x, ex, ec) whole-next;
-        rest = rest-next x;
-        bits = rw (front-next x) (bits-append before (x ∷ []) (r .bits) (bits-cons x [] (rw ex drives-bit) bits-nil));
-        random-bits = r .random-bits;
+        long = r .long;
+        bits = r .bits;
+        writing = rw (ex, add-suc) (writing-byte (r .writing) (getD ran (n + i) 0) (drop (suc (n + i)) ran) ran-next);
+        solves = rw (ec, add-suc) (left-solves .1);
         random = omega (arith, left-random);
         sound = rw add-suc (left-sound .1);
       }
 
-  -- the operands that were read, the gate that is ready, and the turn that its value makes
-  pub left-there : (l : ℕ) → l ≡ word s pair → l < length vs
-  left-there l e = omega (arith, left-earlier, r .room)
+  -- the gate that was read: it is ready, and its value makes the turn
+  module _ {x : DG.GateFields} (is : GateIs this x) where
+    pub left-earlier : x .left < n + i
+    left-earlier = omega (arith, is .left, earlier .0)
 
-  pub right-there : (m : ℕ) → m ≡ word s (8 + g + 4 * i) → m < length vs
-  right-there m e = omega (arith, right-earlier, r .room)
+    pub right-earlier : x .right < n + i
+    right-earlier = omega (arith, is .right, earlier .1)
 
-  pub gate-ready :
-      (l m : ℕ) → l ≡ word s pair → m ≡ word s (8 + g + 4 * i) → GateReady kind (getD vs l 0) (getD vs m 0) rs c
-  gate-ready l m el em =
-      rw (el, em) (record { known = kind-small; left = left-bit; right = right-bit; random = random-left })
+    pub gate-ready : GateReady (x .kind) (getD vs (x .left) 0) (getD vs (x .right) 0) rs c
+    unfolding SoundGates
+    gate-ready = record {
+      known = known-small (x .kind) (rw (is .kind) (left-sound .0 .0));
+      left = value-bit (x .left) left-earlier;
+      right = value-bit (x .right) right-earlier;
+      random = λ e. random-there (sym (is .kind) ∙ ap kindOf e);
+    }
 
-  pub gate-turn :
-      (l m : ℕ) → l ≡ word s pair → m ≡ word s (8 + g + 4 * i)
-      → (d : DD.Drawn) → GateSays kind (getD vs l 0) (getD vs m 0) rs c d
-      → Running s rs start n g (set vs (n + i) (d .value)) (d .next) (suc i)
-  gate-turn l m el em d says =
-      running-turn (d .value) (d .next)
-      (says .value (word s pair) (word s (8 + g + 4 * i)) (λ w. getD vs w 0) (rw el) (rw em))
-      (says .next)
+    pub gate-turn :
+        (d : DD.Drawn) → GateSays (x .kind) (getD vs (x .left) 0) (getD vs (x .right) 0) rs c d
+        → Running t rs start n (set vs (n + i) (d .value)) (d .next) (suc i)
+    gate-turn d says =
+        running-turn
+        (rw (is .kind) at (says .value (this .left) (this .right) (λ w. getD vs w 0) (rw (is .left)) (rw (is .right))) ∙ drives)
+        (rw (is .kind) at (says .next))
 
 pub running-end :
-    (s rs start : List ℕ) (n g : ℕ) (vs : List ℕ) (c i : ℕ) → Running s rs start n g vs c i → g ≤ i
-    → vs ≡ over (runFrom (tableOf s .gates) rs (take n start)) start
-unfolding runFrom
-running-end s rs start n g vs c i r h =
-    let e : i ≡ g = omega (arith, r .within) in
-    let all = runFrom (tableOf s .gates) rs (take n start) in
-    let none-left : gatesAt s g i ≡ [] = rw e (gates-at-end s g) in
-    let front : take (n + i) vs ≡ all = rw none-left at (r .whole) in
-    let long : length all ≡ n + i =
-    ap length (sym front) ∙ length-take-le (n + i) vs (omega (arith, r .room)) in
-    let split : vs ≡ take (n + i) vs ++ drop (n + i) vs = sym (take-append-drop (n + i) vs) in
-    rw long (split ∙ rw (front, r .rest))
+    {t : Table} {rs start : List ℕ} {n : ℕ} {vs : List ℕ} {c i : ℕ} → Running t rs start n vs c i
+    → length (t .gates) ≤ i → vs ≡ over (ranFrom t rs start n) start
+running-end {t} {rs} {start} {n} {vs} {c} {i} r h =
+    writing-end (r .writing) (drop-of-length-le (ranFrom t rs start n) {i = n + i} (omega (arith, r .long)))

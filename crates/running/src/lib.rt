@@ -1,14 +1,12 @@
 // Running a gate table on its inputs and random bits.
 ghost use mathlib.Core.Path.{_≡_};
 ghost use mathlib.Core.Bool.{true};
-ghost use mathlib.Core.List.{_++_};
-ghost use Prim.Native.Nat.{_+_, _*_, _≤_, _<_};
-ghost use lib.ListN.{length, take, drop};
-ghost use Rattle.tables.specs.Refusals.{passed, badBit};
-ghost use Rattle.tables.specs.Tables.{wordsFrom, tableOf, tableFault};
-ghost use Rattle.tables.specs.Runs.{runFrom, readAll};
-ghost use Rattle.tables.specs.Says.{Refused, over, runFault, RunSays};
-ghost use Rattle.running.specs.Running.{GateReady, GateSays, RunReady, OutputsReady, supplyFault, roomFault};
+ghost use lib.ListN.{length, take};
+ghost use Rattle.tables.specs.Refusals.{passed};
+ghost use Rattle.tables.specs.Tables.{wires, tableOf, tableFault};
+ghost use Rattle.tables.specs.Runs.{run, runFrom, outputsOf};
+ghost use Rattle.tables.specs.Says.{Refused, over, suppliedFault, lentFault, runFault, RunSays};
+ghost use Rattle.running.specs.Running.{GateReady, GateSays, RunReady, OutputsReady};
 
 // A gate's value and the number of the next random bit.
 pub struct Drawn {
@@ -52,112 +50,50 @@ pub fn run_gates(table: &[u8], inputs: usize, gates: usize, random: &[u8], value
     let mut next: usize = 0;
     let mut g: usize = 0;
     while g < gates {
-        let left = tables::field(table, 6 + gates + 4 * g);
-        let right = tables::field(table, 8 + gates + 4 * g);
-        let turn = gate_value(table[6 + g], values[left], values[right], random, next);
+        let x = tables::gate_at(table, gates, g);
+        let left = x.left;
+        let right = x.right;
+        let turn = gate_value(x.kind, values[left], values[right], random, next);
         values[inputs + g] = turn.value;
         next = turn.next;
         g += 1;
     }
 }
 
-// Copies bits to the front of a buffer.
-fn copy_bits(from: &[u8], to: &mut [u8])
-    requires { ⌜ length (now from) ≤ length (now to) ⌝ }
-    ensures { λ _. ⌜ now (to .exit) ≡ over (now (from .entry)) (now (to .entry)) ⌝ }
+// Writes the values of the output wires.
+fn read_outputs(table: &[u8], gates: usize, outputs: usize, values: &[u8], out: &mut [u8])
+    requires { ⌜ OutputsReady (now table) gates outputs (now values) (now out) ⌝ }
+    ensures { λ _. ⌜ now (out .exit) ≡ over (outputsOf (tableOf (now (table .entry))) (now (values .entry))) (now (out .entry)) ⌝ }
 {
-    let mut i: usize = 0;
-    while i < from.len() {
-        to[i] = from[i];
-        i += 1;
-    }
-}
-
-// Writes the values of the output wires that stand in the table from `start` on.
-fn read_outputs(table: &[u8], start: usize, outputs: usize, values: &[u8], out: &mut [u8])
-    requires { ⌜ OutputsReady (now table) start outputs (now values) (now out) ⌝ }
-    ensures { λ _.
-        ⌜
-        now (out .exit)
-        ≡ over
-        (readAll (now (values .entry)) (wordsFrom outputs (drop start (now (table .entry)))))
-        (now (out .entry))
-        ⌝ }
-{
-    let mut i: usize = 0;
-    while i < outputs {
-        let wire = tables::field(table, start + 2 * i);
-        out[i] = values[wire];
-        i += 1;
-    }
-}
-
-// The first byte above 1 of two lists of bits joined.
-fn bits_fault(first: &[u8], second: &[u8]) -> tables::Refusal
-    requires { ⌜ length (now first) + length (now second) < 4294967296 ⌝ }
-    ensures { λ r. ⌜ Refused (badBit 0 (now (first .entry) ++ now (second .entry))) r ⌝ }
-{
-    let at = tables::first_bad(first);
-    if at < first.len() {
-        return tables::Refusal {
-            number: 11,
-            place: at as u32,
-        };
-    }
-    let next = tables::first_bad(second);
-    if next < second.len() {
-        return tables::Refusal {
-            number: 11,
-            place: (first.len() + next) as u32,
-        };
-    }
-    tables::Refusal {
-        number: 0,
-        place: 0,
+    let mut o: usize = 0;
+    while o < outputs {
+        out[o] = values[tables::output_at(table, gates, outputs, o)];
+        o += 1;
     }
 }
 
 // The refusals of what a run of an accepted table is supplied with: wrong counts, then a byte above 1.
-fn supply_fault(table: &[u8], inputs: &[u8], random: &[u8]) -> tables::Refusal
+fn supplied_fault(table: &[u8], inputs: &[u8], random: &[u8]) -> tables::Refusal
     requires { ⌜ passed (tableFault (now table)) ≡ true ⌝ }
-    ensures { λ r. ⌜ Refused (supplyFault (now (table .entry)) (now (inputs .entry)) (now (random .entry))) r ⌝ }
+    ensures { λ r. ⌜ Refused (suppliedFault (tableOf (now (table .entry))) (now (inputs .entry)) (now (random .entry))) r ⌝ }
 {
-    if inputs.len() != tables::field(table, 0) {
-        return tables::Refusal {
-            number: 10,
-            place: 0,
-        };
+    let draws = tables::count_kind(table, tables::field(table, 2), 3);
+    if !((inputs.len() == tables::field(table, 0)) & (random.len() == draws)) {
+        return tables::refuse(10, 0);
     }
-    if random.len() != tables::count_kind(table, tables::field(table, 2), 3) {
-        return tables::Refusal {
-            number: 10,
-            place: 0,
-        };
-    }
-    bits_fault(inputs, random)
+    tables::first_of(
+        tables::bits_fault(inputs, 0),
+        tables::bits_fault(random, inputs.len()),
+    )
 }
 
 // The refusal of buffers that are shorter than what a run of an accepted table writes.
-fn room_fault(table: &[u8], values: usize, outputs: usize) -> tables::Refusal
+fn lent_fault(table: &[u8], values: usize, outputs: usize) -> tables::Refusal
     requires { ⌜ passed (tableFault (now table)) ≡ true ⌝ }
-    ensures { λ r. ⌜ Refused (roomFault (now (table .entry)) values outputs) r ⌝ }
+    ensures { λ r. ⌜ Refused (lentFault (tableOf (now (table .entry))) values outputs) r ⌝ }
 {
-    if values < tables::field(table, 0) + tables::field(table, 2) {
-        return tables::Refusal {
-            number: 9,
-            place: 0,
-        };
-    }
-    if outputs < tables::field(table, 4) {
-        return tables::Refusal {
-            number: 9,
-            place: 0,
-        };
-    }
-    tables::Refusal {
-        number: 0,
-        place: 0,
-    }
+    let wires = tables::field(table, 0) + tables::field(table, 2);
+    tables::refuse_if((values < wires) | (outputs < tables::field(table, 4)), 9)
 }
 
 // The first refusal of a run: of the table, of what is supplied, of the buffers.
@@ -174,14 +110,41 @@ fn run_fault(
     if found.number != 0 {
         return found;
     }
-    let supplied = supply_fault(table, inputs, random);
-    if supplied.number != 0 {
-        return supplied;
-    }
-    room_fault(table, values, outputs)
+    tables::first_of(
+        supplied_fault(table, inputs, random),
+        lent_fault(table, values, outputs),
+    )
 }
 
-// Runs a table: one value for each wire, and the values of the output wires.
+// Writes a run that no check refuses: one value for each wire, and the values of the output wires; the number of wires.
+fn write_run(
+    table: &[u8],
+    inputs: &[u8],
+    random: &[u8],
+    values: &mut [u8],
+    outputs: &mut [u8],
+) -> u32
+    requires { ⌜
+        passed (runFault (now table) (now inputs) (now random) (length (now values)) (length (now outputs))) ≡ true
+        ⌝ }
+    ensures { λ r. ⌜
+        (r ≡ wires (tableOf (now (table .entry))))
+        × (now (values .exit)
+        ≡ over (run (tableOf (now (table .entry))) (now (inputs .entry)) (now (random .entry))) (now (values .entry)))
+        × (now (outputs .exit)
+        ≡ over
+        (outputsOf (tableOf (now (table .entry))) (run (tableOf (now (table .entry))) (now (inputs .entry)) (now (random .entry))))
+        (now (outputs .entry)))
+        ⌝ }
+{
+    let gates = tables::field(table, 2);
+    tables::put_bytes(values, 0, inputs);
+    run_gates(table, inputs.len(), gates, random, values);
+    read_outputs(table, gates, tables::field(table, 4), values, outputs);
+    (inputs.len() + gates) as u32
+}
+
+// Runs a table: the number of its wires.
 pub fn run_table(
     table: &[u8],
     inputs: &[u8],
@@ -205,19 +168,6 @@ pub fn run_table(
     if found.number != 0 {
         return tables::refused(found);
     }
-    let gates = tables::field(table, 2);
-    copy_bits(inputs, values);
-    run_gates(table, inputs.len(), gates, random, values);
-    read_outputs(
-        table,
-        6 + 5 * gates,
-        tables::field(table, 4),
-        values,
-        outputs,
-    );
-    tables::Answer {
-        number: 0,
-        place: 0,
-        value: (inputs.len() + gates) as u32,
-    }
+    let wires = write_run(table, inputs, random, values, outputs);
+    tables::done(found, wires)
 }

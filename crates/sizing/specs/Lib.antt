@@ -1,2 +1,3 @@
--- What planning promises.
+-- What planning and the forecast's line promise.
 pub mod Plans
+pub mod Lines

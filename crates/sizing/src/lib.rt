@@ -1,20 +1,19 @@
 // What a plain table and an order come to: refusals 1 to 8, the sizes of the masked table, and the forecast's line.
 ghost use mathlib.Core.Path.{_≡_};
-ghost use Prim.Native.Nat.{_+_, _≤_};
+ghost use Prim.Native.Nat.{_≤_};
 ghost use lib.ListN.{length};
-ghost use Rattle.tables.specs.Tables.{kindOf, tableOf, randomFault};
-ghost use Rattle.masks.specs.Shares.{tri};
-ghost use Rattle.masks.specs.Wires.{cost, draws};
-ghost use Rattle.tables.specs.Refusals.{Fault, orElse};
+ghost use Rattle.tables.specs.Tables.{tableOf, randomFault};
 ghost use Rattle.tables.specs.Says.{Refused};
-ghost use Rattle.masks.specs.Says.{ForecastSays};
-ghost use Rattle.sizing.specs.Plans.{HasGates, TotalsSay, Maskable, PlanSays, PlanFits, planBytes, FiguresSay};
-ghost use mathlib.Core.List.{[], _∷_};
-ghost use Rattle.text.specs.Text.{decimal, lineOf, Puts};
-ghost use Rattle.masks.specs.Lines.{forecastLine, sizesLine, LineSays};
+ghost use Rattle.tables.specs.Inside.{HasGates};
+ghost use Rattle.text.specs.Text.{Puts};
+ghost use Rattle.masks.specs.Gadgets.{isw};
+ghost use Rattle.masks.specs.Says.{plainFault, ForecastSays};
+ghost use Rattle.sizing.specs.Plans.{TotalsSay, Maskable, PlanSays, PlanFits, planBytes, FiguresSay};
+ghost use Rattle.sizing.specs.Lines.{figuresLine, forecastLine, sizesLine, LineSays};
 
-// The sizes of a plain table that 1 to 8 accept at an order, and its masked table's wires and tape bits.
+// The order and the sizes of a plain table that 1 to 8 accept at it, and its masked table's wires and tape bits.
 pub struct Plan {
+    pub order: usize,
     pub inputs: usize,
     pub gates: usize,
     pub outputs: usize,
@@ -35,136 +34,83 @@ struct Totals {
     draws: usize,
 }
 
-// How many pairs n shares have.
-pub fn pair_count(n: usize) -> usize
-    requires { ⌜ n ≤ 31 ⌝ }
-    ensures { λ r. ⌜ r ≡ tri n ⌝ }
-{
-    (n * n - n) / 2
-}
-
-// How many masked wires a plain gate costs.
-pub fn gate_cost(kind: u8, n: usize) -> usize
-    requires { ⌜ n ≤ 31 ⌝ }
-    ensures { λ r. ⌜ r ≡ cost (kindOf kind) n ⌝ }
-{
-    let of_and = 5 * pair_count(n) + n * n;
-    let nots = tables::is_kind(kind, 0) as usize;
-    let xors = tables::is_kind(kind, 1) as usize;
-    let ands = tables::is_kind(kind, 2) as usize;
-    nots + xors * n + ands * of_and
-}
-
-// How many random bits a plain gate draws once it is masked.
-pub fn gate_draws(kind: u8, n: usize) -> usize
-    requires { ⌜ n ≤ 31 ⌝ }
-    ensures { λ r. ⌜ r ≡ draws (kindOf kind) n ⌝ }
-{
-    if kind == 2 {
-        return pair_count(n);
-    }
-    0
-}
-
 // Refusal 7 at the first random gate, or no refusal.
 fn random_fault(table: &[u8], gates: usize) -> tables::Refusal
     requires { ⌜ HasGates (now table) gates ⌝ }
     ensures { λ r. ⌜ Refused (randomFault 0 (tableOf (now (table .entry)) .gates)) r ⌝ }
 {
     if tables::count_kind(table, gates, 3) == 0 {
-        return tables::Refusal {
-            number: 0,
-            place: 0,
-        };
+        return tables::refuse(0, 0);
     }
-    let mut i = 0;
-    while i < gates {
-        if table[6 + i] == 3 {
-            return tables::Refusal {
-                number: 7,
-                place: i as u32,
-            };
+    let mut g = 0;
+    while g < gates {
+        let x = tables::gate_at(table, gates, g);
+        if x.kind == 3 {
+            return tables::refuse(7, g);
         }
-        i += 1;
+        g += 1;
     }
-    tables::Refusal {
-        number: 0,
-        place: 0,
-    }
+    tables::refuse(0, 0)
 }
 
 // What the gates of a plain table cost and draw at n shares.
 fn gate_totals(table: &[u8], gates: usize, n: usize) -> Totals
     requires { ⌜ HasGates (now table) gates × (n ≤ 31) ⌝ }
-    ensures { λ r. ⌜ TotalsSay (now (table .entry)) n r ⌝ }
+    ensures { λ r. ⌜ TotalsSay (tableOf (now (table .entry))) n r ⌝ }
 {
     let nots = tables::count_kind(table, gates, 0);
     let xors = tables::count_kind(table, gates, 1);
     let ands = tables::count_kind(table, gates, 2);
     Totals {
-        wires: nots * gate_cost(0, n) + xors * gate_cost(1, n) + ands * gate_cost(2, n),
-        draws: ands * gate_draws(2, n),
+        wires: nots * masks::gate_cost(0, n)
+            + xors * masks::gate_cost(1, n)
+            + ands * masks::gate_cost(2, n),
+        draws: ands * masks::gate_draws(2, n),
     }
-}
-
-// Of two checks in their order, the first that refuses.
-pub fn first_of(a: tables::Refusal, b: tables::Refusal) -> tables::Refusal
-    ensures { λ r. ⌜ ((f g : Fault) → Refused f a → Refused g b → Refused (orElse f g) r) ⌝ }
-{
-    if a.number != 0 {
-        return a;
-    }
-    b
-}
-
-// A refusal, by its number and place.
-fn refuse(number: u8, place: u32) -> Planned
-    ensures { λ r. ⌜ r ≡ Planned.Refused (record { number = number; place = place }) ⌝ }
-{
-    Planned::Refused(tables::Refusal { number, place })
 }
 
 // 8, or the sizes, for a table and an order that 1 to 7 accept.
 fn plan_sizes(table: &[u8], order: u8) -> Planned
     requires { ⌜ Maskable (now table) order ⌝ }
-    ensures { λ r. ⌜ PlanSays (now (table .entry)) order r ⌝ }
+    ensures { λ r. ⌜ PlanSays (plainFault isw (now (table .entry)) order) (now (table .entry)) order r ⌝ }
 {
     let inputs = tables::field(table, 0);
     let gates = tables::field(table, 2);
     let outputs = tables::field(table, 4);
-    let random = 2 * order as usize;
-    let shares = random + 1;
+    let order = order as usize;
+    let shares = 2 * order + 1;
     let all = gate_totals(table, gates, shares);
     let wires = shares * inputs + all.wires;
     if wires > 65535 {
-        return refuse(8, 0);
+        return Planned::Refused(tables::refuse(8, 0));
     }
     if shares * outputs > 65535 {
-        return refuse(8, 0);
+        return Planned::Refused(tables::refuse(8, 0));
     }
     Planned::Ready(Plan {
+        order,
         inputs,
         gates,
         outputs,
         shares,
         wires,
-        tape: random * inputs + all.draws,
+        tape: 2 * order * inputs + all.draws,
     })
 }
 
 // What a plain table and an order come to: the first of refusals 1 to 8, or the sizes.
 pub fn plan_table(table: &[u8], order: u8) -> Planned
-    ensures { λ r. ⌜ PlanSays (now (table .entry)) order r ⌝ }
+    ensures { λ r. ⌜ PlanSays (plainFault isw (now (table .entry)) order) (now (table .entry)) order r ⌝ }
 {
     let found = checking::table_fault(table);
     if found.number != 0 {
-        return refuse(found.number, found.place);
+        return Planned::Refused(found);
     }
     let gates = tables::field(table, 2);
     let random = random_fault(table, gates);
-    let first = first_of(masks::order_fault(order), random);
+    let first = tables::first_of(masks::order_fault(order), random);
     if first.number != 0 {
-        return refuse(first.number, first.place);
+        return Planned::Refused(first);
     }
     plan_sizes(table, order)
 }
@@ -196,7 +142,7 @@ fn plan_figures(p: Plan) -> masks::Sizes
 
 // Forecasts the sizes of the table that masking writes.
 pub fn forecast_sizes(table: &[u8], order: u8) -> masks::Sizes
-    ensures { λ r. ⌜ ForecastSays (now (table .entry)) order r ⌝ }
+    ensures { λ r. ⌜ ForecastSays isw (now (table .entry)) order r ⌝ }
 {
     let planned = plan_table(table, order);
     match planned {
@@ -218,27 +164,19 @@ pub fn forecast_sizes(table: &[u8], order: u8) -> masks::Sizes
 
 // Puts the line of the four figures, and answers its length.
 fn put_figures(out: &mut [u8], sizes: masks::Sizes) -> usize
-    requires { ⌜ 64 ≤ length (now out) ⌝ }
+    requires { ⌜ length (figuresLine (sizes .shares) (sizes .wires) (sizes .tape) (sizes .bytes)) ≤ length (now out) ⌝ }
     ensures { λ r. ⌜
-        Puts
-        0
-        (lineOf
-        (decimal (sizes .shares))
-        (decimal (sizes .wires) ∷ decimal (sizes .tape) ∷ decimal (sizes .bytes) ∷ []))
-        (now (out .entry))
-        (now (out .exit))
-        r
+        Puts 0 (figuresLine (sizes .shares) (sizes .wires) (sizes .tape) (sizes .bytes)) (now (out .entry)) (now (out .exit)) r
         ⌝ }
 {
-    let second = text::put_number(out, 0, sizes.shares, b' ');
-    let third = text::put_number(out, second, sizes.wires, b' ');
-    let fourth = text::put_number(out, third, sizes.tape, b' ');
-    text::put_number(out, fourth, sizes.bytes, b'\n')
+    let second = text::put_number(out, 0, b"", sizes.shares);
+    let third = text::put_number(out, second, b" ", sizes.wires);
+    text::put_two(out, third, b" ", sizes.tape, b" ", sizes.bytes)
 }
 
 // Puts the line of a forecast, and answers its length.
 fn put_line(out: &mut [u8], sizes: masks::Sizes) -> usize
-    requires { ⌜ 64 ≤ length (now out) ⌝ }
+    requires { ⌜ length (sizesLine sizes) ≤ length (now out) ⌝ }
     ensures { λ r. ⌜ Puts 0 (sizesLine sizes) (now (out .entry)) (now (out .exit)) r ⌝ }
 {
     if sizes.number != 0 {
@@ -267,14 +205,12 @@ fn line_sizes(input: &[u8]) -> masks::Sizes
     forecast_sizes(&input[1..], input[0])
 }
 
-// Writes the forecast program's line for an input, and answers its length; where fewer than 64 bytes are lent, writes nothing and
-// answers 0.
+// Writes the forecast program's line for an input, and answers its length; where it does not fit, writes nothing and answers 0.
 pub fn forecast_line(input: &[u8], out: &mut [u8]) -> usize
     ensures { λ r. ⌜ LineSays (now (input .entry)) (now (out .entry)) (now (out .exit)) r ⌝ }
 {
-    if out.len() < 64 {
-        return 0;
-    }
     let sizes = line_sizes(input);
-    put_line(out, sizes)
+    let mut line = [0u8; 64];
+    let long = put_line(&mut line, sizes);
+    text::put_all(out, &line[..long])
 }

@@ -1,51 +1,36 @@
 -- What an accepted table is: the checks that passed, read as facts on its sizes, its gates and its outputs.
 -- Assumes nothing.
 use mathlib.Core.Path.{_≡_, refl, ap}
-use mathlib.Core.Bool.{Bool, true, false, _||_, not}
+use mathlib.Core.Bool.{Bool, true, false, _&&_, _||_, not, cond}
 use mathlib.Core.List.{List, [], _∷_}
 use Prim.Native.Nat.{ℕ, zero, suc, _+_, _≤_, _<_}
 use native.Mathlib.Omega.{arith}
 use lib.Dec.{eqb, ltb}
 use lib.ListN.{length, drop}
 use borrow.Author.Tests.{ltb-true, ltb-false, eqb-true, eqb-false, not-false}
-use Rattle.tables.specs.Refusals.{pick, Fault, fault, none, passed, orElse, refusedIf}
-use Rattle.tables.specs.Tables.{
-  Kind,
-  NOT,
-  XOR,
-  AND,
-  RANDOM,
-  UNKNOWN,
-  Gate,
-  Table,
-  wires,
-  word,
-  gatesFrom,
-  wordsFrom,
-  tableOf,
-  tableLong,
-  known,
-  operandsOk,
-  gateFault,
-  gatesFault,
-  outputsFault,
-  sizesBad,
-  tableFault,
-  isRandom,
-  randomFault,
-}
+use Rattle.tables.specs.Refusals.{Fault, fault, none, passed, orElse, refusedIf}
+use Rattle.tables.specs.Tables.{Kind, NOT, XOR, AND, RANDOM, UNKNOWN, Gate, Table, wires, word, gatesFrom}
+use Rattle.tables.specs.Tables.{wordsFrom, tableOf, tableLong, known, Operands, none-read, left-read}
+use Rattle.tables.specs.Tables.{both-read, operandsOf, operandsOk, total, gateFault, gatesFault, outputsFault}
+use Rattle.tables.specs.Tables.{sizesBad, tableFault, isRandom, randomFault}
 use Rattle.tables.specs.Runs.{drawn, randoms}
+use Rattle.tables.specs.Inside.{HasGates, HasOutputs}
 use Rattle.tables.proofs.Tests.{and-true, or-false, both-passed, not-refused}
 use Rattle.tables.proofs.Lists.{All}
-use Rattle.tables.proofs.Run.{Reads, Earlier}
+use Rattle.tables.proofs.Run.{ReadBefore, Reads, Earlier}
+
+-- a kind that a plain table may have
+abbrev pub isPlain : Kind → Bool
+isPlain k = known k && not (isRandom k)
+
+-- a fact of what passed a test
+abbrev pub Given : Bool → Type 0 → Type 0
+Given true A = A
+Given false A = ⊥
 
 -- a plain gate that drives wire w
 abbrev pub PlainGate : ℕ → Kind → ℕ → ℕ → Type 0
-PlainGate w NOT l r = l < w
-PlainGate w XOR l r = (l < w) × (r < w)
-PlainGate w AND l r = (l < w) × (r < w)
-PlainGate w RANDOM l r = ⊥
-PlainGate w (UNKNOWN k) l r = ⊥
+PlainGate w k l r = Given (isPlain k) (Reads w k l r)
 
 -- plain gates that drive the wires from w on
 unfoldable pub PlainGates : ℕ → List Gate → Type 0
@@ -59,12 +44,12 @@ pub record Plain (t : Table) : Type 0 where
   pub gates : PlainGates (t .inputs) (t .gates)
   pub outputs : All (λ o. o < wires t) (t .outputs)
 
+pub given : (b : Bool) {A : Type 0} → Given b A → (b ≡ true) × A
+given true h = (refl, h)
+given false h = absurd h
+
 plain-reads : (w : ℕ) (k : Kind) (l r : ℕ) → PlainGate w k l r → Reads w k l r
-plain-reads w NOT l r h = h
-plain-reads w XOR l r h = h
-plain-reads w AND l r h = h
-plain-reads w RANDOM l r h = tt
-plain-reads w (UNKNOWN k) l r h = tt
+plain-reads w k l r h = given (isPlain k) h .1
 
 pub plain-earlier : (w : ℕ) (gs : List Gate) → PlainGates w gs → Earlier w gs
 unfolding PlainGates Earlier
@@ -79,18 +64,18 @@ plain-drawn w AND l r h = refl
 plain-drawn w RANDOM l r h = absurd h
 plain-drawn w (UNKNOWN k) l r h = refl
 
-pub plain-randoms : (w : ℕ) (gs : List Gate) → PlainGates w gs → randoms gs ≡ 0
-unfolding PlainGates randoms
+plain-randoms : (w : ℕ) (gs : List Gate) → PlainGates w gs → randoms gs ≡ 0
+unfolding PlainGates total
 plain-randoms w [] h = refl
 plain-randoms w (g ∷ gs) h =
     omega (arith, plain-drawn w (g .kind) (g .left) (g .right) (h .0), plain-randoms (suc w) gs (h .1))
 
-pub gates-length : (n : ℕ) (ks ps : List ℕ) → length (gatesFrom n ks ps) ≡ n
+gates-length : (n : ℕ) (ks ps : List ℕ) → length (gatesFrom n ks ps) ≡ n
 unfolding gatesFrom
 gates-length zero ks ps = refl
 gates-length (suc n) ks ps = ap suc (gates-length n (drop 1 ks) (drop 4 ps))
 
-pub words-length : (n : ℕ) (s : List ℕ) → length (wordsFrom n s) ≡ n
+words-length : (n : ℕ) (s : List ℕ) → length (wordsFrom n s) ≡ n
 unfolding wordsFrom
 words-length zero s = refl
 words-length (suc n) s = ap suc (words-length n (drop 2 s))
@@ -106,6 +91,13 @@ gates-of-length s = gates-length (word s 2) _ _
 pub outputs-of-length : (s : List ℕ) → length (tableOf s .outputs) ≡ word s 4
 unfolding tableOf
 outputs-of-length s = words-length (word s 4) _
+
+-- the numbers of gates and outputs that were read
+pub gates-are : {s : List ℕ} {g : ℕ} → HasGates s g → length (tableOf s .gates) ≡ g
+gates-are {s} {g} H = omega (arith, gates-of-length s, H .stated)
+
+pub outputs-are : {s : List ℕ} {g q : ℕ} → HasOutputs s g q → length (tableOf s .outputs) ≡ q
+outputs-are {s} {g} {q} H = omega (arith, outputs-of-length s, H .outputs)
 
 pub wires-of : (s : List ℕ) → wires (tableOf s) ≡ word s 0 + word s 2
 wires-of s = omega (arith, inputs-of s, gates-of-length s)
@@ -154,52 +146,72 @@ accepted s h =
       outputs = rw wires-of (e .1);
     }
 
-pub accepted-sized :
-    (s : List ℕ) → passed (tableFault s) ≡ true
-    → (wires (tableOf s) ≤ 65535) × (length s ≡ tableLong (length (tableOf s .gates)) (length (tableOf s .outputs)))
-accepted-sized s h = let c = accepted s h in (c .few-wires, c .long)
+-- the same of the fields that the bytes have
+module _ (s : List ℕ) (h : passed (tableFault s) ≡ true) where
+  pub accepted-long : length s ≡ tableLong (word s 2) (word s 4)
+  accepted-long = omega (arith, accepted s h .long, gates-of-length s, outputs-of-length s)
+
+  pub accepted-few : word s 0 + word s 2 ≤ 65535
+  accepted-few = omega (arith, accepted s h .few-wires, wires-of s)
+
+  pub has-gates : {g : ℕ} → g ≡ word s 2 → HasGates s g
+  has-gates e = record { stated = e; long = omega (arith, accepted-long, e); few = omega (arith, accepted-few, e) }
+
+  pub has-outputs : {g q : ℕ} → g ≡ word s 2 → q ≡ word s 4 → HasOutputs s g q
+  has-outputs e f = record { gates = e; outputs = f; long = omega (arith, accepted-long, e, f) }
 
 -- a test that refuses where it fails, then the check f
-pub pick-passed :
-    (b : Bool) (f : Fault) (n i : ℕ) → eqb n 0 ≡ false → passed (pick b f (fault n i)) ≡ true
+pub cond-passed :
+    (b : Bool) (f : Fault) (n i : ℕ) → eqb n 0 ≡ false → passed (cond b f (fault n i)) ≡ true
     → (b ≡ true) × (passed f ≡ true)
-pick-passed true f n i e h = (refl, h)
-pick-passed false f n i e h = (cc, cc)
+cond-passed true f n i e h = (refl, h)
+cond-passed false f n i e h = (cc, cc)
 
 -- a test that refuses where it holds, then the check f
-pub pick-refused :
-    (b : Bool) (f : Fault) (n i : ℕ) → eqb n 0 ≡ false → passed (pick b (fault n i) f) ≡ true
+pub cond-refused :
+    (b : Bool) (f : Fault) (n i : ℕ) → eqb n 0 ≡ false → passed (cond b (fault n i) f) ≡ true
     → (b ≡ false) × (passed f ≡ true)
-pick-refused true f n i e h = (cc, cc)
-pick-refused false f n i e h = (refl, h)
+cond-refused true f n i e h = (cc, cc)
+cond-refused false f n i e h = (refl, h)
 
 -- the two tests of a gate that passed
 pub gate-passed :
     (i w : ℕ) (g : Gate) → passed (gateFault i w g) ≡ true
-    → (known (g .kind) ≡ true) × (operandsOk w (g .kind) (g .left) (g .right) ≡ true)
+    → (known (g .kind) ≡ true) × (operandsOk w (operandsOf (g .kind)) (g .left) (g .right) ≡ true)
 gate-passed i w g h =
-    let ok = operandsOk w (g .kind) (g .left) (g .right) in
-    let a = pick-passed (known (g .kind)) (pick ok none (fault 4 i)) 3 i refl h in
-    (a .0, pick-passed ok none 4 i refl (a .1) .0)
+    let ok = operandsOk w (operandsOf (g .kind)) (g .left) (g .right) in
+    let a = cond-passed (known (g .kind)) (cond ok none (fault 4 i)) 3 i refl h in
+    (a .0, cond-passed ok none 4 i refl (a .1) .0)
 
--- a gate that is not random and has good operands is plain
-gate-plain :
-    (w : ℕ) (k : Kind) (l r : ℕ) → operandsOk w k l r ≡ true → isRandom k ≡ false → PlainGate w k l r
-gate-plain w NOT l r h e = ltb-true l w (and-true (ltb l w) (eqb r 0) h .0)
-gate-plain w XOR l r h e = let a = and-true (ltb l w) (ltb r w) h in (ltb-true l w (a .0), ltb-true r w (a .1))
-gate-plain w AND l r h e = let a = and-true (ltb l w) (ltb r w) h in (ltb-true l w (a .0), ltb-true r w (a .1))
-gate-plain w RANDOM l r h e = let z : _≡_ {A = ℕ} 0 1 = cc in omega arith
-gate-plain w (UNKNOWN k) l r h e = let z : _≡_ {A = ℕ} 0 1 = cc in omega arith
+-- good operands are earlier wires, and those that are not read are 0
+pub operands-read : (w : ℕ) (o : Operands) (l r : ℕ) → operandsOk w o l r ≡ true → ReadBefore w o l r
+operands-read w none-read l r h = tt
+operands-read w left-read l r h = ltb-true l w (and-true (ltb l w) (eqb r 0) h .0)
+operands-read w both-read l r h =
+    let a = and-true (ltb l w) (ltb r w) h in (ltb-true l w (a .0), ltb-true r w (a .1))
 
-pub gates-plain :
+pub operands-below : (w : ℕ) (o : Operands) (l r : ℕ) → 1 ≤ w → operandsOk w o l r ≡ true → (l < w) × (r < w)
+operands-below w none-read l r p h =
+    let a = and-true (eqb l 0) (eqb r 0) h in
+    (omega (arith, eqb-true l 0 (a .0)), omega (arith, eqb-true r 0 (a .1)))
+operands-below w left-read l r p h =
+    let a = and-true (ltb l w) (eqb r 0) h in (ltb-true l w (a .0), omega (arith, eqb-true r 0 (a .1)))
+operands-below w both-read l r p h = operands-read w both-read l r h
+
+given-by : (b : Bool) {A : Type 0} → b ≡ true → A → Given b A
+given-by true e a = a
+given-by false e a = let z : _≡_ {A = ℕ} 0 1 = cc in omega arith
+
+gates-plain :
     (i j w : ℕ) (gs : List Gate) → passed (gatesFault i w gs) ≡ true → passed (randomFault j gs) ≡ true
     → PlainGates w gs
 unfolding gatesFault randomFault PlainGates
 gates-plain i j w [] h e = tt
 gates-plain i j w (g ∷ gs) h e =
     let a = both-passed (gateFault i w g) (gatesFault (suc i) (suc w) gs) h in
-    let b = pick-refused (isRandom (g .kind)) (randomFault (suc j) gs) 7 j refl e in (
-      gate-plain w (g .kind) (g .left) (g .right) (gate-passed i w g (a .0) .1) (b .0),
+    let good = gate-passed i w g (a .0) in
+    let b = cond-refused (isRandom (g .kind)) (randomFault (suc j) gs) 7 j refl e in (
+      given-by (isPlain (g .kind)) (rw (good .0, b .0)) (operands-read w (operandsOf (g .kind)) (g .left) (g .right) (good .1)),
       gates-plain (suc i) (suc j) (suc w) gs (a .1) (b .1),
     )
 
@@ -207,7 +219,7 @@ pub outputs-passed : (i w : ℕ) (os : List ℕ) → passed (outputsFault i w os
 unfolding outputsFault All
 outputs-passed i w [] h = tt
 outputs-passed i w (o ∷ os) h =
-    let a = pick-passed (ltb o w) (outputsFault (suc i) w os) 5 i refl h in
+    let a = cond-passed (ltb o w) (outputsFault (suc i) w os) 5 i refl h in
     (ltb-true o w (a .0), outputs-passed (suc i) w os (a .1))
 
 pub accepted-plain :

@@ -1,31 +1,17 @@
--- Answers and refusals: how an answer follows from the first check that refuses, and that a success has place 0.
+-- Answers and refusals: how an answer follows from the first check that refuses.
 -- Assumes nothing.
 use mathlib.Core.Path.{_≡_, refl, sym, ap, _∙_}
-use mathlib.Core.Bool.{Bool, true, false, not}
-use mathlib.Core.List.{List, [], _∷_}
-use Prim.Native.Nat.{ℕ, suc, _+_}
-use lib.Dec.{eqb, ltb, leb}
-use lib.ListN.{length}
+use mathlib.Core.Bool.{Bool, true, false}
+use mathlib.Core.List.{List}
+use Prim.Native.Nat.{ℕ, _≤_}
+use native.Mathlib.Omega.{arith}
+use lib.ListN.{length, drop, length-append}
 use borrow.Author.Tests.{eq-eqb, ne-eqb}
+use Rattle.tables.specs.declared.Answer as DA
 use Rattle.tables.specs.declared.Refusal as DR
-use Rattle.tables.specs.Refusals.{pick, Fault, fault, none, passed, orElse, refusedIf, badBit}
-use Rattle.tables.specs.Tables.{
-  Gate,
-  word,
-  tableOf,
-  tableLong,
-  known,
-  operandsOk,
-  gateFault,
-  gatesFault,
-  outputsFault,
-  sizesBad,
-  tableFault,
-  isRandom,
-  randomFault,
-}
-use Rattle.tables.specs.Says.{Refused, Answered, over, left}
-use Rattle.tables.proofs.Tests.{both-passed, first-passed}
+use Rattle.tables.specs.Refusals.{Fault, fault, none, passed, orElse}
+use Rattle.tables.specs.Says.{Refused, Answered, over, afterCall, Writes}
+use Rattle.tables.proofs.Tests.{first-passed, first-refused}
 
 -- a refusal that gives the fault's number and place
 pub refused-is : (f : Fault) (r : DR.Refusal) → f ≡ fault (r .number) (r .place) → Refused f r
@@ -37,104 +23,66 @@ refused-is f r e = record {
 pub refused-same : {f g : Fault} {r : DR.Refusal} → f ≡ g → Refused g r → Refused f r
 refused-same e h = rw e h
 
-pub refused-passed : (f : Fault) (r : DR.Refusal) → Refused f r → r .number ≡ 0 → passed f ≡ true
-refused-passed f r h e = eq-eqb (f .number) 0 (sym (h .number) ∙ e)
+pub refused-passed : {f : Fault} {r : DR.Refusal} → Refused f r → r .number ≡ 0 → passed f ≡ true
+refused-passed {f} h e = eq-eqb (f .number) 0 (sym (h .number) ∙ e)
 
-pub refused-fails : (f : Fault) (r : DR.Refusal) → Refused f r → (r .number ≡ 0 → ⊥) → passed f ≡ false
-refused-fails f r h e = ne-eqb (f .number) 0 (λ z. e (h .number ∙ z))
+pub refused-fails : {f : Fault} {r : DR.Refusal} → Refused f r → (r .number ≡ 0 → ⊥) → passed f ≡ false
+refused-fails {f} h e = ne-eqb (f .number) 0 (λ z. e (h .number ∙ z))
 
--- a check whose success has place 0
-abbrev pub Clean : Fault → Type 0
-Clean f = passed f ≡ true → f ≡ none
+-- a chain of two checks, of which the first refuses, or not
+pub first-of :
+    {f : Fault} {r : DR.Refusal} (g : Fault) → Refused f r → (r .number ≡ 0 → ⊥) → Refused (orElse f g) r
+first-of {f} g h k = rw (first-refused f g (refused-fails h k)) h
 
-pub clean-none : Clean none
-clean-none h = refl
-
-pub clean-fault : (n i : ℕ) → eqb n 0 ≡ false → Clean (fault n i)
-clean-fault n i e h = cc
-
-pub clean-pick : (b : Bool) (f g : Fault) → Clean f → Clean g → Clean (pick b f g)
-clean-pick true f g a b = a
-clean-pick false f g a b = b
-
-pub clean-else : (f g : Fault) → Clean f → Clean g → Clean (orElse f g)
-clean-else f g a b h = let both = both-passed f g h in first-passed f g (both .0) ∙ b (both .1)
-
-pub clean-if : (b : Bool) (n : ℕ) → eqb n 0 ≡ false → Clean (refusedIf b n)
-clean-if b n e = clean-pick b (fault n 0) none (clean-fault n 0 e) clean-none
-
-pub clean-bits : (i : ℕ) (bs : List ℕ) → Clean (badBit i bs)
-unfolding badBit
-clean-bits i [] = clean-none
-clean-bits i (b ∷ bs) =
-    clean-pick (leb b 1) (badBit (suc i) bs) (fault 11 i) (clean-bits (suc i) bs) (clean-fault 11 i refl)
-
-pub clean-gates : (i w : ℕ) (gs : List Gate) → Clean (gatesFault i w gs)
-unfolding gatesFault
-clean-gates i w [] = clean-none
-clean-gates i w (g ∷ gs) =
-    let ok = operandsOk w (g .kind) (g .left) (g .right) in
-    let operands = clean-pick ok none (fault 4 i) clean-none (clean-fault 4 i refl) in
-    clean-else
-    (gateFault i w g)
-    (gatesFault (suc i) (suc w) gs)
-    (clean-pick (known (g .kind)) (pick ok none (fault 4 i)) (fault 3 i) operands (clean-fault 3 i refl))
-    (clean-gates (suc i) (suc w) gs)
-
-pub clean-outputs : (i w : ℕ) (os : List ℕ) → Clean (outputsFault i w os)
-unfolding outputsFault
-clean-outputs i w [] = clean-none
-clean-outputs i w (o ∷ os) =
-    clean-pick (ltb o w) (outputsFault (suc i) w os) (fault 5 i) (clean-outputs (suc i) w os) (clean-fault 5 i refl)
-
-pub clean-random : (i : ℕ) (gs : List Gate) → Clean (randomFault i gs)
-unfolding randomFault
-clean-random i [] = clean-none
-clean-random i (g ∷ gs) =
-    clean-pick
-    (isRandom (g .kind))
-    (fault 7 i)
-    (randomFault (suc i) gs)
-    (clean-fault 7 i refl)
-    (clean-random (suc i) gs)
-
-pub clean-table : (s : List ℕ) → Clean (tableFault s)
-unfolding tableFault
-clean-table s =
-    let short = ltb (length s) 6 in
-    let sizes = sizesBad (word s 0) (word s 2) (word s 4) in
-    let wrong = not (eqb (length s) (tableLong (word s 2) (word s 4))) in
-    let gates = gatesFault 0 (word s 0) (tableOf s .gates) in
-    let outputs = outputsFault 0 (word s 0 + word s 2) (tableOf s .outputs) in
-    let last = clean-else gates outputs (clean-gates 0 _ _) (clean-outputs 0 _ _) in
-    let long = clean-else (refusedIf wrong 1) (orElse gates outputs) (clean-if wrong 1 refl) last in
-    clean-else
-    (refusedIf short 1)
-    _
-    (clean-if short 1 refl)
-    (clean-else (refusedIf sizes 2) _ (clean-if sizes 2 refl) long)
+pub second-of :
+    {f g : Fault} {r q : DR.Refusal} → Refused f r → r .number ≡ 0 → Refused g q → Refused (orElse f g) q
+second-of {f} {g} h k m = rw (first-passed f g (refused-passed h k)) m
 
 pub answered-refused :
-    (f : Fault) (v : ℕ) (r : DR.Refusal) → Refused f r → (r .number ≡ 0 → ⊥)
+    {f : Fault} {v : ℕ} {r : DR.Refusal} → Refused f r → (r .number ≡ 0 → ⊥)
     → Answered f v (record { number = r .number; place = r .place; value = 0 })
-answered-refused f v r h e = record {
+answered-refused h e = record {
   number = h .number;
   place = h .place;
-  value = rw (refused-fails f r h e);
+  value = rw (refused-fails h e);
 }
+
+pub answered-done :
+    {f : Fault} {v : ℕ} {r : DR.Refusal} → Refused f r → r .number ≡ 0
+    → Answered f v (record { number = r .number; place = r .place; value = v })
+answered-done h e = record { number = h .number; place = h .place; value = rw (refused-passed h e) }
 
 pub answered-none : {f : Fault} {v : ℕ} → f ≡ none → Answered f v (record { number = 0; place = 0; value = v })
 answered-none e = rw e (record { number = refl; place = refl; value = refl })
 
-pub answered-passed :
-    (f : Fault) (v : ℕ) → Clean f → passed f ≡ true
-    → Answered f v (record { number = 0; place = 0; value = v })
-answered-passed f v c h = answered-none (c h)
-
 -- what a lent buffer holds after a refusal and after a success
-pub left-refused :
-    (f : Fault) (r : DR.Refusal) → Refused f r → (r .number ≡ 0 → ⊥) → (xs b : List ℕ) → b ≡ left f xs b
-left-refused f r h e xs b = rw (refused-fails f r h e)
+pub after-refused :
+    {f : Fault} {r : DR.Refusal} → Refused f r → (r .number ≡ 0 → ⊥) → (xs b : List ℕ) → b ≡ afterCall f xs b
+after-refused h e xs b = rw (refused-fails h e)
 
-pub left-none : {f : Fault} {b′ : List ℕ} (xs b : List ℕ) → f ≡ none → b′ ≡ over xs b → b′ ≡ left f xs b
-left-none xs b e w = rw e w
+pub after-passed :
+    (f : Fault) {b′ : List ℕ} (xs b : List ℕ) → passed f ≡ true → b′ ≡ over xs b → b′ ≡ afterCall f xs b
+after-passed f xs b e w = rw e w
+
+-- a call that writes into one lent buffer: refused, and done
+pub writes-refused :
+    {f : Fault} {r : DR.Refusal} (xs b : List ℕ) → Refused f r → (r .number ≡ 0 → ⊥)
+    → Writes f xs b b (record { number = r .number; place = r .place; value = 0 })
+writes-refused xs b h e = record { answer = answered-refused h e; written = after-refused h e xs b }
+
+pub writes-done :
+    {f : Fault} {r : DR.Refusal} {v : ℕ} {b′ : List ℕ} (xs b : List ℕ) → Refused f r → r .number ≡ 0 → v ≡ length xs
+    → b′ ≡ over xs b → Writes f xs b b′ (record { number = r .number; place = r .place; value = v })
+writes-done {f} xs b h e l w =
+    rw l (record { answer = answered-done h e; written = after-passed f xs b (refused-passed h e) w })
+
+-- what is written lies within the lent bytes
+pub writes-fits : {f : Fault} {xs b b′ : List ℕ} {r : DA.Answer} → Writes f xs b b′ r → r .value ≤ length b′
+writes-fits {f} {xs} {b} {b′} {r} W = go (passed f) refl
+  where
+    go : (t : Bool) → passed f ≡ t → r .value ≤ length b′
+    go true e =
+        let value : r .value ≡ length xs = rw e at (W .answer .value) in
+        let put : b′ ≡ over xs b = rw e at (W .written) in
+        omega (arith, value, ap length put, length-append xs (drop (length xs) b))
+    go false e = let value : r .value ≡ 0 = rw e at (W .answer .value) in omega (arith, value)

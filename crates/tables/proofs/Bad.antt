@@ -1,7 +1,7 @@
 -- The first byte above 1: of lists joined, of what a scan has left, and what it says where there is none.
 -- Assumes nothing.
 use mathlib.Core.Path.{_≡_, refl, _∙_, subst}
-use mathlib.Core.Bool.{Bool, true, false}
+use mathlib.Core.Bool.{Bool, true, false, cond}
 use mathlib.Core.List.{List, [], _∷_, _++_}
 use Prim.Native.Nat.{ℕ, suc, _+_, _≤_, _<_}
 use native.Mathlib.Nat.{add-zero, add-suc, suc-add}
@@ -11,10 +11,11 @@ use lib.Dec.{leb}
 use lib.ListN.{length, getD, drop, drop-of-length-le}
 use lib.Seq.{drop-cons}
 use borrow.Author.Tests.{leb-true, le-leb, lt-leb, lt-ltb, le-ltb}
-use Rattle.tables.specs.Refusals.{pick, fault, passed, orElse, badBit}
-use Rattle.tables.specs.Says.{FirstBad}
-use Rattle.tables.proofs.Lists.{Bits, bits-nil, bits-cons}
-use Rattle.tables.proofs.Accept.{pick-passed}
+use Rattle.tables.specs.Refusals.{fault, none, passed, orElse, badBit}
+use Rattle.tables.specs.Runs.{Bits}
+use Rattle.tables.specs.Inside.{FirstBad}
+use Rattle.tables.proofs.Lists.{bits-nil, bits-cons}
+use Rattle.tables.proofs.Accept.{cond-passed}
 
 pub bad-append :
     (i : ℕ) (xs ys : List ℕ) → badBit i (xs ++ ys) ≡ orElse (badBit i xs) (badBit (i + length xs) ys)
@@ -24,8 +25,8 @@ bad-append i (x ∷ xs) ys = go (leb x 1) (bad-append (suc i) xs ys)
   where
     go :
         (t : Bool) → badBit (suc i) (xs ++ ys) ≡ orElse (badBit (suc i) xs) (badBit (suc i + length xs) ys)
-        → pick t (badBit (suc i) (xs ++ ys)) (fault 11 i)
-        ≡ orElse (pick t (badBit (suc i) xs) (fault 11 i)) (badBit (i + suc (length xs)) ys)
+        → cond t (badBit (suc i) (xs ++ ys)) (fault 11 i)
+        ≡ orElse (cond t (badBit (suc i) xs) (fault 11 i)) (badBit (i + suc (length xs)) ys)
     go true e = rw (add-suc, ← suc-add i (length xs)) e
     go false e = refl
 
@@ -34,7 +35,7 @@ pub bad-bits : (i : ℕ) (bs : List ℕ) → passed (badBit i bs) ≡ true → B
 unfolding badBit
 bad-bits i [] h = bits-nil
 bad-bits i (b ∷ bs) h =
-    let a = pick-passed (leb b 1) (badBit (suc i) bs) 11 i refl h in
+    let a = cond-passed (leb b 1) (badBit (suc i) bs) 11 i refl h in
     bits-cons b bs (leb-true b 1 (a .0)) (bad-bits (suc i) bs (a .1))
 
 -- no bit of a number is lost by `or`
@@ -93,3 +94,9 @@ pub ored-end :
 ored-end bs all r o h k =
     let e : r ≡ length bs = omega (arith, o .good k .0) in
     subst (λ (n : ℕ). FirstBad bs n) e (good-end bs r (o .good k) h)
+
+pub bad-found : (i : ℕ) (bs : List ℕ) (r : ℕ) → FirstBad bs r → r < length bs → badBit i bs ≡ fault 11 (i + r)
+bad-found i bs r F h = F .bad i ∙ rw (lt-ltb r (length bs) h)
+
+pub bad-none : (i : ℕ) (bs : List ℕ) (r : ℕ) → FirstBad bs r → length bs ≤ r → badBit i bs ≡ none
+bad-none i bs r F h = F .bad i ∙ rw (le-ltb r (length bs) h)

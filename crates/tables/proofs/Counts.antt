@@ -1,30 +1,17 @@
--- Counting the gates of a kind: what a test of a byte says, and the loop over the kinds by what is left.
+-- Totals over the gates: counting the gates of a kind, and figures that are the kinds' own.
 -- Assumes nothing.
-use mathlib.Core.Path.{_≡_, refl, ap₂}
+use mathlib.Core.Path.{_≡_, refl, ap}
 use mathlib.Core.Bool.{false}
 use mathlib.Core.List.{List, [], _∷_}
-use Prim.Native.Nat.{ℕ, zero, suc, _+_, _≤_, _<_}
+use Prim.Native.Nat.{ℕ, zero, suc, _+_, _*_, _≤_, _<_}
 use native.Mathlib.Omega.{arith}
-use lib.ListN.{getD, drop}
+use lib.ListN.{length, drop, drop-of-length-le}
+use lib.Seq.{drop-cons}
 use borrow.Author.Tests.{ne-eqb}
 use Rattle.tables.specs.Refusals.{none}
-use Rattle.tables.specs.Tables.{
-  Kind,
-  NOT,
-  XOR,
-  AND,
-  RANDOM,
-  UNKNOWN,
-  kindOf,
-  Gate,
-  gatesFrom,
-  isRandom,
-  randomFault,
-  ofKind,
-  countKind,
-}
+use Rattle.tables.specs.Tables.{Kind, NOT, XOR, AND, RANDOM, UNKNOWN, kindOf, Gate, noGate, Table, gateOf}
+use Rattle.tables.specs.Tables.{isRandom, randomFault, total, ofKind}
 use Rattle.tables.specs.Runs.{drawn, randoms}
-use Rattle.tables.proofs.Loops.{gatesAt, gates-at-start, gates-at-step, gates-at-end}
 
 -- a byte that is a kind, and one that is not
 pub kind-same : (k b : ℕ) → b ≤ 3 → k ≡ b → 1 ≡ ofKind b (kindOf k)
@@ -41,44 +28,56 @@ kind-other (suc (suc zero)) b h = rw (ne-eqb b 2 (λ e. h (omega (arith, e))))
 kind-other (suc (suc (suc zero))) b h = rw (ne-eqb b 3 (λ e. h (omega (arith, e))))
 kind-other (suc (suc (suc (suc k)))) b h = refl
 
--- c of the first i of g gates are of kind b
-pub record Counting (s : List ℕ) (b g i c : ℕ) : Type 0 where
-  pub within : i ≤ g
+-- the total of the gates from number i on
+pub total-next :
+    (f : Kind → ℕ) (t : Table) (i : ℕ) → i < length (t .gates)
+    → total f (drop i (t .gates)) ≡ f (gateOf t i .kind) + total f (drop (suc i) (t .gates))
+unfolding total
+total-next f t i h = ap {A = List Gate} {B = ℕ} (total f) (drop-cons (t .gates) i noGate h)
+
+pub total-none : (f : Kind → ℕ) (t : Table) (i : ℕ) → length (t .gates) ≤ i → total f (drop i (t .gates)) ≡ 0
+unfolding total
+total-none f t i h = ap {A = List Gate} {B = ℕ} (total f) (drop-of-length-le (t .gates) {i = i} h)
+
+-- before gate i: the count so far and that of the gates left make the whole
+pub record Counting (b : ℕ) (t : Table) (i c : ℕ) : Type 0 where
   pub few : c ≤ i
-  pub left : c + countKind b (gatesAt s g i) ≡ countKind b (gatesFrom g (drop 6 s) (drop (6 + g) s))
+  pub sum : c + total (ofKind b) (drop i (t .gates)) ≡ total (ofKind b) (t .gates)
 
-pub counting-start : (s : List ℕ) (b g : ℕ) → Counting s b g 0 0
-counting-start s b g = record {
-  within = omega arith;
-  few = omega arith;
-  left = rw (gates-at-start s g) (omega arith);
-}
+pub counting-start : (b : ℕ) (t : Table) → Counting b t 0 0
+counting-start b t = record { few = omega arith; sum = omega arith }
 
-module _ {s : List ℕ} {b g i c : ℕ} (C : Counting s b g i c) where
+module _ {b : ℕ} {t : Table} {i c : ℕ} (C : Counting b t i c) where
   pub counting-turn :
-      (v : ℕ) → i < g → v ≡ ofKind b (kindOf (getD s (6 + i) 0)) → v ≤ 1 → Counting s b g (suc i) (c + v)
-  unfolding countKind
-  counting-turn v h e few =
-      let step : countKind b (gatesAt s g i) ≡ v + countKind b (gatesAt s g (suc i)) = rw (gates-at-step s g i h, e) in
-      record {
-        within = h;
-        few = omega (arith, C .few);
-        left = omega (arith, C .left, step);
-      }
+      {v : ℕ} → i < length (t .gates) → v ≡ ofKind b (gateOf t i .kind) → v ≤ 1 → Counting b t (suc i) (c + v)
+  counting-turn h e few = record {
+    few = omega (arith, C .few);
+    sum = omega (arith, C .sum, total-next (ofKind b) t i h, e);
+  }
 
-  pub counting-end :
-      g ≤ i → (c ≡ countKind b (gatesFrom g (drop 6 s) (drop (6 + g) s))) × (c ≤ g)
-  unfolding countKind
-  counting-end h =
-      let e : i ≡ g = omega (arith, C .within) in
-      let none : countKind b (gatesAt s g i) ≡ 0 = rw (e, gates-at-end s g) in
-      (omega (arith, C .left, none), omega (arith, C .few))
+  pub counting-end : length (t .gates) ≤ i → c ≡ total (ofKind b) (t .gates)
+  counting-end h = omega (arith, C .sum, total-none (ofKind b) t i h)
+
+-- totals of figures that are equal, or bounded, kind by kind
+pub total-same : (f g : Kind → ℕ) → ((k : Kind) → f k ≡ g k) → (gs : List Gate) → total f gs ≡ total g gs
+unfolding total
+total-same f g e [] = refl
+total-same f g e (x ∷ xs) = omega (arith, e (x .kind), total-same f g e xs)
+
+pub total-below : (f g : Kind → ℕ) → ((k : Kind) → f k ≤ g k) → (gs : List Gate) → total f gs ≤ total g gs
+unfolding total
+total-below f g h [] = omega arith
+total-below f g h (x ∷ xs) = omega (arith, h (x .kind), total-below f g h xs)
+
+pub total-small :
+    (f : Kind → ℕ) (m : ℕ) → ((k : Kind) → f k ≤ m) → (gs : List Gate) → total f gs ≤ m * length gs
+unfolding total
+total-small f m h [] = omega arith
+total-small f m h (x ∷ xs) = omega (arith, h (x .kind), total-small f m h xs)
 
 -- "one bit for each random gate"
-pub count-randoms : (gs : List Gate) → countKind 3 gs ≡ randoms gs
-unfolding countKind randoms
-count-randoms [] = refl
-count-randoms (g ∷ gs) = ap₂ (λ (x y : ℕ). x + y) (drawn-kind (g .kind)) (count-randoms gs)
+pub count-randoms : (gs : List Gate) → total (ofKind 3) gs ≡ randoms gs
+count-randoms = total-same (ofKind 3) drawn drawn-kind
   where
     drawn-kind : (k : Kind) → ofKind 3 k ≡ drawn k
     drawn-kind NOT = refl
@@ -88,8 +87,8 @@ count-randoms (g ∷ gs) = ap₂ (λ (x y : ℕ). x + y) (drawn-kind (g .kind)) 
     drawn-kind (UNKNOWN k) = refl
 
 -- a table with no gate of kind 3 is plain
-pub count-plain : (i : ℕ) (gs : List Gate) → countKind 3 gs ≡ 0 → randomFault i gs ≡ none
-unfolding countKind randomFault
+pub count-plain : (i : ℕ) (gs : List Gate) → total (ofKind 3) gs ≡ 0 → randomFault i gs ≡ none
+unfolding total randomFault
 count-plain i [] e = refl
 count-plain i (g ∷ gs) e =
     let few : ofKind 3 (g .kind) ≡ 0 = omega (arith, e) in

@@ -7,50 +7,25 @@ use mathlib.Core.List.{List, [], _∷_, _++_, append-assoc, append-nil}
 use Prim.Native.Nat.{ℕ, suc, _+_, _*_, _/_, _%_, _≤_, _<_}
 use native.Mathlib.Nat.{add-zero}
 use native.Mathlib.Omega.{arith}
-use lib.Dec.{eqb, ltb}
 use lib.ListN.{length, drop, length-append}
 use lib.Seq.{drop-at, drop-drop}
-use borrow.Author.Tests.{ltb-true, eqb-true, lt-ltb, le-ltb, eq-eqb, ne-eqb}
+use borrow.Author.Tests.{lt-ltb, le-ltb, eq-eqb, ne-eqb}
 use Rattle.tables.specs.Refusals.{none, passed}
-use Rattle.tables.specs.Tables.{
-  Kind,
-  NOT,
-  XOR,
-  AND,
-  RANDOM,
-  UNKNOWN,
-  kindOf,
-  kindByte,
-  Gate,
-  Table,
-  wires,
-  word,
-  two,
-  gatesFrom,
-  wordsFrom,
-  tableOf,
-  kindBytes,
-  pairBytes,
-  wordBytes,
-  tableBytes,
-  tableLong,
-  known,
-  operandsOk,
-  gateFault,
-  gatesFault,
-  outputsFault,
-  tableFault,
-}
-use Rattle.tables.proofs.Tests.{and-true, both-passed}
+use Rattle.tables.specs.Tables.{Kind, NOT, XOR, AND, RANDOM, UNKNOWN, kindOf, kindByte, Gate, Table, wires}
+use Rattle.tables.specs.Tables.{word, two, gatesFrom, wordsFrom, tableOf, kindBytes, pairBytes, wordBytes}
+use Rattle.tables.specs.Tables.{tableBytes, tableLong, known, operandsOf, operandsOk, gateFault, gatesFault}
+use Rattle.tables.specs.Tables.{outputsFault, tableFault}
+use Rattle.tables.proofs.Tests.{both-passed}
 use Rattle.tables.proofs.Lists.{All, all-append, all-getD}
-use Rattle.tables.proofs.Run.{Reads, Earlier}
+use Rattle.tables.proofs.Run.{Earlier}
 use Rattle.tables.proofs.Accept.{inputs-of, outputs-of-length, accepted, gate-passed, outputs-passed}
+use Rattle.tables.proofs.Accept.{operands-read, operands-below}
 
 -- gates that pass the checks, the first driving wire w
 unfoldable pub SoundGates : ℕ → List Gate → Type 0
 SoundGates w [] = Unit {0}
 SoundGates w (g ∷ gs) =
-    ((known (g .kind) ≡ true) × (operandsOk w (g .kind) (g .left) (g .right) ≡ true)) × SoundGates (suc w) gs
+    ((known (g .kind) ≡ true) × (operandsOk w (operandsOf (g .kind)) (g .left) (g .right) ≡ true)) × SoundGates (suc w) gs
 
 -- a table that the format can hold and that passes the checks
 pub record Sound (t : Table) : Type 0 where
@@ -69,18 +44,11 @@ sound-append w (g ∷ gs) hs a b =
     let e : w + suc (length gs) ≡ suc w + length gs = omega arith in
     (a .0, sound-append (suc w) gs hs (a .1) (rw e at b))
 
-sound-reads : (w : ℕ) (k : Kind) (l r : ℕ) → operandsOk w k l r ≡ true → Reads w k l r
-sound-reads w NOT l r h = ltb-true l w (and-true (ltb l w) (eqb r 0) h .0)
-sound-reads w XOR l r h = let a = and-true (ltb l w) (ltb r w) h in (ltb-true l w (a .0), ltb-true r w (a .1))
-sound-reads w AND l r h = let a = and-true (ltb l w) (ltb r w) h in (ltb-true l w (a .0), ltb-true r w (a .1))
-sound-reads w RANDOM l r h = tt
-sound-reads w (UNKNOWN k) l r h = tt
-
 pub sound-earlier : (w : ℕ) (gs : List Gate) → SoundGates w gs → Earlier w gs
 unfolding SoundGates Earlier
 sound-earlier w [] h = tt
 sound-earlier w (g ∷ gs) h =
-    (sound-reads w (g .kind) (g .left) (g .right) (h .0 .1), sound-earlier (suc w) gs (h .1))
+    (operands-read w (operandsOf (g .kind)) (g .left) (g .right) (h .0 .1), sound-earlier (suc w) gs (h .1))
 
 pub kinds-long : (gs : List Gate) → length (kindBytes gs) ≡ length gs
 unfolding kindBytes
@@ -102,22 +70,22 @@ unfolding tableBytes
 table-long t = simp (length-append, kinds-long, pairs-long, words-long) (omega arith)
 
 -- two bytes read back
-pub word-two : (v : ℕ) → v % 256 + 256 * (v / 256) ≡ v
+word-two : (v : ℕ) → v % 256 + 256 * (v / 256) ≡ v
 word-two v = omega arith
 
-pub kind-back : (k : Kind) → known k ≡ true → kindOf (kindByte k) ≡ k
+kind-back : (k : Kind) → known k ≡ true → kindOf (kindByte k) ≡ k
 kind-back NOT h = refl
 kind-back XOR h = refl
 kind-back AND h = refl
 kind-back RANDOM h = refl
 kind-back (UNKNOWN k) h = cc
 
-pub words-back : (ws y : List ℕ) → wordsFrom (length ws) (wordBytes ws ++ y) ≡ ws
+words-back : (ws y : List ℕ) → wordsFrom (length ws) (wordBytes ws ++ y) ≡ ws
 unfolding wordsFrom wordBytes
 words-back [] y = refl
 words-back (w ∷ ws) y = rw (word-two, words-back ws y)
 
-pub gates-back :
+gates-back :
     (w : ℕ) (gs : List Gate) (x y : List ℕ) → SoundGates w gs
     → gatesFrom (length gs) (kindBytes gs ++ x) (pairBytes gs ++ y) ≡ gs
 unfolding SoundGates gatesFrom kindBytes pairBytes
@@ -165,11 +133,11 @@ drop-pairs t =
     ∙ ap {A = List ℕ} {B = List ℕ} (drop n) (sym (append-assoc ks ps os))
     ∙ drop-at (ks ++ ps) os n long
 
-pub gates-read : (t : Table) → Sound t → tableOf (tableBytes t) .gates ≡ t .gates
+gates-read : (t : Table) → Sound t → tableOf (tableBytes t) .gates ≡ t .gates
 unfolding tableOf
 gates-read t h = rw (gates-written, drop-sizes, drop-kinds) (gates-back (t .inputs) (t .gates) _ _ (h .gates))
 
-pub outputs-read : (t : Table) → tableOf (tableBytes t) .outputs ≡ t .outputs
+outputs-read : (t : Table) → tableOf (tableBytes t) .outputs ≡ t .outputs
 unfolding tableOf
 outputs-read t =
     rw (gates-written, outputs-written, drop-pairs, ← append-nil (wordBytes (t .outputs)))
@@ -184,13 +152,13 @@ read-back t h =
     (gates-read t h)
     (outputs-read t)
 
-pub sound-gates-pass : (i w : ℕ) (gs : List Gate) → SoundGates w gs → gatesFault i w gs ≡ none
+sound-gates-pass : (i w : ℕ) (gs : List Gate) → SoundGates w gs → gatesFault i w gs ≡ none
 unfolding SoundGates gatesFault
 sound-gates-pass i w [] h = refl
 sound-gates-pass i w (g ∷ gs) h =
     rw (h .0 .0, h .0 .1) (sound-gates-pass (suc i) (suc w) gs (h .1))
 
-pub outputs-pass : (i w : ℕ) (os : List ℕ) → All (λ o. o < w) os → outputsFault i w os ≡ none
+outputs-pass : (i w : ℕ) (os : List ℕ) → All (λ o. o < w) os → outputsFault i w os ≡ none
 unfolding All outputsFault
 outputs-pass i w [] h = refl
 outputs-pass i w (o ∷ os) h = rw (lt-ltb o w (h .0)) (outputs-pass (suc i) w os (h .1))
@@ -242,32 +210,17 @@ kind-byte AND h = omega arith
 kind-byte RANDOM h = omega arith
 kind-byte (UNKNOWN k) h = let z : _≡_ {A = ℕ} 0 1 = cc in omega arith
 
-operands-below : (w : ℕ) (k : Kind) (l r : ℕ) → operandsOk w k l r ≡ true → (l ≤ w) × (r ≤ w)
-operands-below w NOT l r h =
-    let a = and-true (ltb l w) (eqb r 0) h in
-    (omega (arith, ltb-true l w (a .0)), omega (arith, eqb-true r 0 (a .1)))
-operands-below w XOR l r h =
-    let a = and-true (ltb l w) (ltb r w) h in
-    (omega (arith, ltb-true l w (a .0)), omega (arith, ltb-true r w (a .1)))
-operands-below w AND l r h =
-    let a = and-true (ltb l w) (ltb r w) h in
-    (omega (arith, ltb-true l w (a .0)), omega (arith, ltb-true r w (a .1)))
-operands-below w RANDOM l r h =
-    let a = and-true (eqb l 0) (eqb r 0) h in
-    (omega (arith, eqb-true l 0 (a .0)), omega (arith, eqb-true r 0 (a .1)))
-operands-below w (UNKNOWN k) l r h = let z : _≡_ {A = ℕ} 0 1 = cc in (omega arith, omega arith)
-
 kinds-bytes : (w : ℕ) (gs : List Gate) → SoundGates w gs → Bytes (kindBytes gs)
 unfolding SoundGates kindBytes All
 kinds-bytes w [] h = tt
 kinds-bytes w (g ∷ gs) h = (kind-byte (g .kind) (h .0 .0), kinds-bytes (suc w) gs (h .1))
 
-pairs-bytes : (w : ℕ) (gs : List Gate) → SoundGates w gs → w + length gs ≤ 65535 → Bytes (pairBytes gs)
+pairs-bytes : (w : ℕ) (gs : List Gate) → 1 ≤ w → SoundGates w gs → w + length gs ≤ 65535 → Bytes (pairBytes gs)
 unfolding SoundGates pairBytes All
-pairs-bytes w [] h e = tt
-pairs-bytes w (g ∷ gs) h e =
-    let b = operands-below w (g .kind) (g .left) (g .right) (h .0 .1) in
-    let rest = pairs-bytes (suc w) gs (h .1) (omega arith) in
+pairs-bytes w [] p h e = tt
+pairs-bytes w (g ∷ gs) p h e =
+    let b = operands-below w (operandsOf (g .kind)) (g .left) (g .right) p (h .0 .1) in
+    let rest = pairs-bytes (suc w) gs (omega arith) (h .1) (omega arith) in
     two-bytes (g .left) (two (g .right) ++ pairBytes gs) (omega arith)
     (two-bytes (g .right) (pairBytes gs) (omega arith) rest)
 
@@ -284,7 +237,7 @@ table-bytes t h =
     let ps = pairBytes (t .gates) in
     let os = wordBytes (t .outputs) in
     let a : Bytes os = words-bytes (wires t) (t .outputs) (h .few-wires) (h .outputs) in
-    let b : Bytes ps = pairs-bytes (t .inputs) (t .gates) (h .gates) (h .few-wires) in
+    let b : Bytes ps = pairs-bytes (t .inputs) (t .gates) (h .some-input) (h .gates) (h .few-wires) in
     let d : Bytes ks = kinds-bytes (t .inputs) (t .gates) (h .gates) in
     let body : Bytes (ks ++ (ps ++ os)) =
     all-append (λ b. b < 256) ks (ps ++ os) d (all-append (λ b. b < 256) ps os b a) in

@@ -9,3 +9,5 @@ pub mod Bad
 pub mod Loops
 pub mod Counts
 pub mod Answers
+pub mod RunFault
+pub mod Cut

@@ -3,7 +3,10 @@
 use mathlib.Core.List.{List, [], _∷_, _++_}
 use Prim.Native.Nat.{ℕ, zero, suc, _+_, _≤_, _<_}
 use native.Mathlib.Omega.{arith}
-use lib.ListN.{length, getD, take, drop}
+use mathlib.Core.Path.{_≡_, subst, _∙_}
+use lib.ListN.{length, getD, take, drop, length-drop, drop-of-length-le}
+use lib.Seq.{length-take-le, take-append-seam, drop-append-seam, drop-cons, getD-take, getD-drop}
+use Rattle.tables.specs.Runs.{Bits}
 
 unfoldable pub All : {A : Type 0} → (A → Type 0) → List A → Type 0
 All P [] = Unit {0}
@@ -24,10 +27,6 @@ pub all-map : {A : Type 0} (P Q : A → Type 0) → ((x : A) → P x → Q x) �
 unfolding All
 all-map P Q f [] a = tt
 all-map P Q f (x ∷ xs) a = (f x (a .0), all-map P Q f xs (a .1))
-
--- a list of bits, past its end too
-abbrev pub Bits : List ℕ → Type 0
-Bits vs = (i : ℕ) → getD vs i 0 ≤ 1
 
 pub bits-nil : Bits []
 bits-nil zero = omega arith
@@ -50,3 +49,27 @@ pub bits-take : (n : ℕ) (xs : List ℕ) → Bits xs → Bits (take n xs)
 bits-take zero xs h = bits-nil
 bits-take (suc n) [] h = h
 bits-take (suc n) (x ∷ xs) h = bits-cons x (take n xs) (h 0) (bits-take n xs (λ i. h (suc i)))
+
+pub bits-front : (xs ys : List ℕ) → Bits (xs ++ ys) → Bits xs
+bits-front xs ys h = subst (λ (l : List ℕ). Bits l) (take-append-seam xs ys) (bits-take (length xs) (xs ++ ys) h)
+
+pub bits-back : (xs ys : List ℕ) → Bits (xs ++ ys) → Bits ys
+bits-back xs ys h = subst (λ (l : List ℕ). Bits l) (drop-append-seam xs ys) (bits-drop (length xs) (xs ++ ys) h)
+
+-- the part of a list from a place on, as the elements that are read there
+abbrev pub part : ℕ → ℕ → List ℕ → List ℕ
+part n from bs = take n (drop from bs)
+
+pub part-long : (n from : ℕ) (bs : List ℕ) → from + n ≤ length bs → length (part n from bs) ≡ n
+part-long n from bs h = length-take-le n (drop from bs) (omega (arith, length-drop from bs))
+
+pub part-next :
+    (n from j : ℕ) (bs : List ℕ) → from + n ≤ length bs → j < n
+    → drop j (part n from bs) ≡ getD bs (from + j) 0 ∷ drop (suc j) (part n from bs)
+part-next n from j bs h hj =
+    let at : getD (part n from bs) j 0 ≡ getD bs (from + j) 0 =
+    getD-take n (drop from bs) j 0 hj ∙ getD-drop from bs j 0 in
+    drop-cons (part n from bs) j 0 (omega (arith, part-long n from bs h)) ∙ rw at
+
+pub part-end : (n from : ℕ) (bs : List ℕ) → from + n ≤ length bs → drop n (part n from bs) ≡ []
+part-end n from bs h = drop-of-length-le (part n from bs) {i = n} (omega (arith, part-long n from bs h))

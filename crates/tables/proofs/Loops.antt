@@ -1,87 +1,62 @@
--- What a loop over a table's gates or over its outputs has left: the gates, or the output wires, from a number on.
+-- What stands at the fields of a gate and of an output of a table.
 -- Assumes nothing.
-use mathlib.Core.Path.{_≡_}
-use mathlib.Core.List.{List, [], _∷_}
-use Prim.Native.Nat.{ℕ, suc, _+_, _-_, _*_, _<_}
-use native.Mathlib.Nat.{add-zero, add-suc}
+use mathlib.Core.Path.{_≡_, refl, ap, _∙_}
+use mathlib.Core.List.{List}
+use Prim.Native.Nat.{ℕ, zero, suc, _+_, _-_, _*_, _<_}
+use native.Mathlib.Nat.{add-suc}
 use native.Mathlib.Omega.{arith}
 use lib.ListN.{getD, drop}
-use lib.Seq.{getD-drop, drop-drop}
-use Rattle.tables.specs.Tables.{kindOf, Gate, gate, word, gatesFrom, wordsFrom, tableOf}
+use lib.Seq.{getD-drop}
+use Rattle.tables.specs.Inside.{HasGates, GateIs}
+use Rattle.tables.specs.Tables.{kindOf, gate, noGate, gateOf, word, gatesFrom, wordsFrom, tableOf}
 
--- the gates from number g on, of n gates in the bytes s
-unfoldable pub gatesAt : List ℕ → ℕ → ℕ → List Gate
-gatesAt s n g = gatesFrom (n - g) (drop (6 + g) s) (drop (6 + n + 4 * g) s)
-
--- gate number g of n gates
-abbrev pub gateAt : List ℕ → ℕ → ℕ → Gate
-gateAt s n g = gate (kindOf (getD s (6 + g) 0)) (word s (6 + n + 4 * g)) (word s (8 + n + 4 * g))
-
--- the output wires from number o on, of n in the bytes s, the first at a place
-unfoldable pub wordsAt : List ℕ → ℕ → ℕ → ℕ → List ℕ
-wordsAt s start n o = wordsFrom (n - o) (drop (start + 2 * o) s)
-
-pub word-drop : (s : List ℕ) (p i : ℕ) → word (drop p s) i ≡ word s (p + i)
+word-drop : (s : List ℕ) (p i : ℕ) → word (drop p s) i ≡ word s (p + i)
 word-drop s p i = rw (getD-drop p s i 0, getD-drop p s (suc i) 0, add-suc)
 
--- one gate, read at places p of the kinds and q of the pairs
-gates-more :
-    (s : List ℕ) (m p q : ℕ)
-    → gatesFrom (suc m) (drop p s) (drop q s)
-    ≡ gate (kindOf (getD s p 0)) (word s q) (word s (q + 2)) ∷ gatesFrom m (drop (p + 1) s) (drop (q + 4) s)
+-- the fields of gate g and of output o, as the bytes have them
+gates-getD :
+    (m : ℕ) (ks ps : List ℕ) (g : ℕ) → g < m
+    → getD (gatesFrom m ks ps) g noGate ≡ gate (kindOf (getD ks g 0)) (word ps (4 * g)) (word ps (4 * g + 2))
 unfolding gatesFrom
-gates-more s m p q =
-    let kind : getD (drop p s) 0 0 ≡ getD s p 0 = rw (getD-drop p s 0 0, add-zero) in
-    let left : word (drop q s) 0 ≡ word s q = rw (word-drop s q 0, add-zero) in
-    rw (kind, left, word-drop s q 2, drop-drop 1 p s, drop-drop 4 q s)
+gates-getD zero ks ps g h = absurd (omega arith)
+gates-getD (suc m) ks ps zero h = refl
+gates-getD (suc m) ks ps (suc g) h =
+    let k : getD (drop 1 ks) g 0 ≡ getD ks (suc g) 0 = getD-drop 1 ks g 0 ∙ ap (λ (i : ℕ). getD ks i 0) {x = 1 + g} {y = suc g} (omega arith) in
+    let a : 4 + 4 * g ≡ 4 * suc g = omega arith in
+    let b : 4 + (4 * g + 2) ≡ 4 * suc g + 2 = omega arith in
+    gates-getD m (drop 1 ks) (drop 4 ps) g (omega arith)
+    ∙ rw (k, word-drop ps 4 (4 * g), word-drop ps 4 (4 * g + 2), a, b)
 
-words-more :
-    (s : List ℕ) (m p : ℕ) → wordsFrom (suc m) (drop p s) ≡ word s p ∷ wordsFrom m (drop (p + 2) s)
+words-getD : (m : ℕ) (s : List ℕ) (o : ℕ) → o < m → getD (wordsFrom m s) o 0 ≡ word s (2 * o)
 unfolding wordsFrom
-words-more s m p =
-    let word0 : word (drop p s) 0 ≡ word s p = rw (word-drop s p 0, add-zero) in rw (word0, drop-drop 2 p s)
+words-getD zero s o h = absurd (omega arith)
+words-getD (suc m) s zero h = refl
+words-getD (suc m) s (suc o) h =
+    let a : 2 + 2 * o ≡ 2 * suc o = omega arith in
+    words-getD m (drop 2 s) o (omega arith) ∙ rw (word-drop s 2 (2 * o), a)
 
-pub gates-at-start : (s : List ℕ) (n : ℕ) → gatesAt s n 0 ≡ gatesFrom n (drop 6 s) (drop (6 + n) s)
-unfolding gatesAt
-gates-at-start s n =
-    let a : n - 0 ≡ n = omega arith in let b : 6 + n + 4 * 0 ≡ 6 + n = omega arith in rw (a, b)
-
-pub gates-at-table : (s : List ℕ) → gatesAt s (word s 2) 0 ≡ tableOf s .gates
+gate-is :
+    (s : List ℕ) (n g : ℕ) → n ≡ word s 2 → g < n
+    → gateOf (tableOf s) g ≡ gate (kindOf (getD s (6 + g) 0)) (word s (6 + n + 4 * g)) (word s (8 + n + 4 * g))
 unfolding tableOf
-gates-at-table s = gates-at-start s (word s 2)
+gate-is s n g e h =
+    let right : 6 + n + (4 * g + 2) ≡ 8 + n + 4 * g = omega arith in
+    rw (← e)
+    (gates-getD n (drop 6 s) (drop (6 + n) s) g h
+    ∙ rw (getD-drop 6 s g 0, word-drop s (6 + n) (4 * g), word-drop s (6 + n) (4 * g + 2), right))
 
-pub gates-at-step : (s : List ℕ) (n g : ℕ) → g < n → gatesAt s n g ≡ gateAt s n g ∷ gatesAt s n (suc g)
-unfolding gatesAt
-gates-at-step s n g h =
-    let p = 6 + n + 4 * g in
-    let count : n - g ≡ suc (n - suc g) = omega arith in
-    let kinds : 6 + g + 1 ≡ 6 + suc g = omega arith in
-    let right : p + 2 ≡ 8 + n + 4 * g = omega arith in
-    let pairs : p + 4 ≡ 6 + n + 4 * suc g = omega arith in
-    rw (count, gates-more s (n - suc g) (6 + g) p, kinds, right, pairs)
+-- what was read at those places is gate g
+pub gate-read :
+    {s : List ℕ} {n g l r : ℕ} → HasGates s n → g < n → (l ≡ word s (6 + n + 4 * g)) × (l < 65536)
+    → (r ≡ word s (8 + n + 4 * g)) × (r < 65536)
+    → GateIs (gateOf (tableOf s) g) (record { kind = getD s (6 + g) 0; left = l; right = r })
+gate-read {s} {n} {g} H h l r =
+    rw (gate-is s n g (H .stated) h)
+    (record { kind = refl; left = l .0; right = r .0; left-small = l .1; right-small = r .1 })
 
-pub gates-at-end : (s : List ℕ) (n : ℕ) → gatesAt s n n ≡ []
-unfolding gatesAt gatesFrom
-gates-at-end s n = let a : n - n ≡ 0 = omega arith in rw a
-
-pub words-at-start : (s : List ℕ) (start n : ℕ) → wordsAt s start n 0 ≡ wordsFrom n (drop start s)
-unfolding wordsAt
-words-at-start s start n =
-    let a : n - 0 ≡ n = omega arith in let b : start + 2 * 0 ≡ start = omega arith in rw (a, b)
-
-pub words-at-table : (s : List ℕ) → wordsAt s (6 + 5 * word s 2) (word s 4) 0 ≡ tableOf s .outputs
+pub output-is :
+    (s : List ℕ) (n m o : ℕ) → n ≡ word s 2 → m ≡ word s 4 → o < m
+    → getD (tableOf s .outputs) o 0 ≡ word s (6 + 5 * n + 2 * o)
 unfolding tableOf
-words-at-table s = words-at-start s (6 + 5 * word s 2) (word s 4)
-
-pub words-at-step :
-    (s : List ℕ) (start n o : ℕ) → o < n → wordsAt s start n o ≡ word s (start + 2 * o) ∷ wordsAt s start n (suc o)
-unfolding wordsAt
-words-at-step s start n o h =
-    let p = start + 2 * o in
-    let count : n - o ≡ suc (n - suc o) = omega arith in
-    let next : p + 2 ≡ start + 2 * suc o = omega arith in
-    rw (count, words-more s (n - suc o) p, next)
-
-pub words-at-end : (s : List ℕ) (start n : ℕ) → wordsAt s start n n ≡ []
-unfolding wordsAt wordsFrom
-words-at-end s start n = let a : n - n ≡ 0 = omega arith in rw a
+output-is s n m o e f h =
+    rw (← e, ← f) (words-getD m (drop (6 + 5 * n) s) o h ∙ word-drop s (6 + 5 * n) (2 * o))

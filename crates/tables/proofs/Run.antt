@@ -7,9 +7,10 @@ use native.Mathlib.Nat.{add-assoc, add-zero}
 use native.Mathlib.Omega.{arith}
 use lib.ListN.{length, getD, drop, length-append, length-drop, List·getD-append}
 use lib.Seq.{drop-drop, getD-drop, getD-at, drop-append-le}
-use Rattle.tables.specs.Tables.{Kind, NOT, XOR, AND, RANDOM, UNKNOWN, Gate}
-use Rattle.tables.specs.Runs.{driven, drawn, runFrom, randoms}
-use Rattle.tables.proofs.Lists.{Bits, bits-nil, bits-cons, bits-append, bits-drop}
+use Rattle.tables.specs.Tables.{Kind, NOT, XOR, AND, RANDOM, UNKNOWN, Gate, Operands, none-read, left-read}
+use Rattle.tables.specs.Tables.{both-read, operandsOf, total}
+use Rattle.tables.specs.Runs.{Bits, driven, drawn, runFrom, readAll, randoms}
+use Rattle.tables.proofs.Lists.{bits-nil, bits-cons, bits-append, bits-drop}
 
 -- v has, from wire w on, the values that the gates drive; the next random bit is the bit c of r
 unfoldable pub Solves : ℕ → ℕ → List Gate → (ℕ → ℕ) → (ℕ → ℕ) → Type 0
@@ -17,13 +18,15 @@ Solves w c [] r v = Unit {0}
 Solves w c (g ∷ gs) r v =
     (v w ≡ driven (g .kind) (g .left) (g .right) v (r c)) × Solves (suc w) (c + drawn (g .kind)) gs r v
 
+-- the operands that are read come before wire w
+abbrev pub ReadBefore : ℕ → Operands → ℕ → ℕ → Type 0
+ReadBefore w none-read l r = Unit {0}
+ReadBefore w left-read l r = l < w
+ReadBefore w both-read l r = (l < w) × (r < w)
+
 -- the wires that a gate reads come before wire w
 abbrev pub Reads : ℕ → Kind → ℕ → ℕ → Type 0
-Reads w NOT l r = l < w
-Reads w XOR l r = (l < w) × (r < w)
-Reads w AND l r = (l < w) × (r < w)
-Reads w RANDOM l r = Unit {0}
-Reads w (UNKNOWN k) l r = Unit {0}
+Reads w k l r = ReadBefore w (operandsOf k) l r
 
 unfoldable pub Earlier : ℕ → List Gate → Type 0
 Earlier w [] = Unit {0}
@@ -39,15 +42,15 @@ driven-local AND l r w b v u h e = rw (e l (h .0), e r (h .1))
 driven-local RANDOM l r w b v u h e = refl
 driven-local (UNKNOWN k) l r w b v u h e = refl
 
-pub driven-bit : (k : Kind) (l r b : ℕ) (v : ℕ → ℕ) → ((p : ℕ) → v p ≤ 1) → b ≤ 1 → driven k l r v b ≤ 1
+pub bit-mul : (x y : ℕ) → x ≤ 1 → y ≤ 1 → x * y ≤ 1
+bit-mul zero y p q = omega arith
+bit-mul (suc zero) y p q = omega arith
+bit-mul (suc (suc x)) y p q = absurd (omega arith)
+
+driven-bit : (k : Kind) (l r b : ℕ) (v : ℕ → ℕ) → ((p : ℕ) → v p ≤ 1) → b ≤ 1 → driven k l r v b ≤ 1
 driven-bit NOT l r b v h hb = omega arith
 driven-bit XOR l r b v h hb = omega arith
 driven-bit AND l r b v h hb = bit-mul (v l) (v r) (h l) (h r)
-  where
-    bit-mul : (x y : ℕ) → x ≤ 1 → y ≤ 1 → x * y ≤ 1
-    bit-mul zero y p q = omega arith
-    bit-mul (suc zero) y p q = omega arith
-    bit-mul (suc (suc x)) y p q = absurd (omega arith)
 driven-bit RANDOM l r b v h hb = hb
 driven-bit (UNKNOWN k) l r b v h hb = omega arith
 
@@ -67,14 +70,14 @@ run-keep (g ∷ gs) rs vs i h =
 pub run-append :
     (gs hs : List Gate) (rs vs : List ℕ)
     → runFrom (gs ++ hs) rs vs ≡ runFrom hs (drop (randoms gs) rs) (runFrom gs rs vs)
-unfolding runFrom randoms
+unfolding runFrom total
 run-append [] hs rs vs = refl
 run-append (g ∷ gs) hs rs vs = run-append gs hs _ _ ∙ rw drop-drop
 
-pub randoms-append : (gs hs : List Gate) → randoms (gs ++ hs) ≡ randoms gs + randoms hs
-unfolding randoms
-randoms-append [] hs = omega arith
-randoms-append (g ∷ gs) hs = omega (arith, randoms-append gs hs)
+pub total-append : (f : Kind → ℕ) (gs hs : List Gate) → total f (gs ++ hs) ≡ total f gs + total f hs
+unfolding total
+total-append f [] hs = omega arith
+total-append f (g ∷ gs) hs = omega (arith, total-append f gs hs)
 
 pub run-bits : (gs : List Gate) (rs vs : List ℕ) → Bits rs → Bits vs → Bits (runFrom gs rs vs)
 unfolding runFrom
@@ -87,7 +90,7 @@ run-bits (g ∷ gs) rs vs hr hv =
 pub solves-append :
     (w c : ℕ) (gs hs : List Gate) (r v : ℕ → ℕ) → Solves w c (gs ++ hs) r v
     → Solves w c gs r v × Solves (w + length gs) (c + randoms gs) hs r v
-unfolding Solves randoms
+unfolding Solves total
 solves-append w c [] hs r v s = (tt, rw (add-zero, add-zero) s)
 solves-append w c (g ∷ gs) hs r v s =
     let t = solves-append (suc w) (c + drawn (g .kind)) gs hs r v (s .1) in
@@ -95,7 +98,7 @@ solves-append w c (g ∷ gs) hs r v s =
     ((s .0, t .0), rw (e, ← add-assoc) (t .1))
 
 -- from bit c of the random bits on
-pub run-solves-at :
+run-solves-at :
     (w c : ℕ) (gs : List Gate) (rs vs : List ℕ) → length vs ≡ w → Earlier w gs
     → Solves w c gs (λ x. getD rs x 0) (λ p. getD (runFrom gs (drop c rs) vs) p 0)
 unfolding Solves Earlier runFrom
@@ -139,7 +142,7 @@ front-bit (UNKNOWN k) l r m v ss rest e = refl
 -- only as many random bits matter as there are random gates
 pub run-prefix :
     (gs : List Gate) (ss rest vs : List ℕ) → length ss ≡ randoms gs → runFrom gs (ss ++ rest) vs ≡ runFrom gs ss vs
-unfolding runFrom randoms
+unfolding runFrom total
 run-prefix [] ss rest vs e = refl
 run-prefix (g ∷ gs) ss rest vs e =
     let d = drawn (g .kind) in
@@ -148,3 +151,8 @@ run-prefix (g ∷ gs) ss rest vs e =
       drop-append-le d ss rest (omega arith),
     )
     (run-prefix gs (drop d ss) rest _ (length-drop d ss ∙ omega arith))
+
+pub read-length : (vs ws : List ℕ) → length (readAll vs ws) ≡ length ws
+unfolding readAll
+read-length vs [] = refl
+read-length vs (w ∷ ws) = ap suc (read-length vs ws)

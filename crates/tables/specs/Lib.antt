@@ -3,3 +3,4 @@ pub mod Refusals
 pub mod Tables
 pub mod Runs
 pub mod Says
+pub mod Inside

@@ -1,14 +1,9 @@
 -- Refusals: a number and a place (document 01, "Refusals, by who can cause them"). Number 0 is success, at place 0.
 -- Assumes nothing.
-use mathlib.Core.Bool.{Bool, true, false}
+use mathlib.Core.Bool.{Bool, cond}
 use mathlib.Core.List.{List, [], _∷_}
 use Prim.Native.Nat.{ℕ, suc}
 use lib.Dec.{eqb, leb}
-
--- a choice by a test
-abbrev pub pick {ℓ} : {A : Type ℓ} → Bool → A → A → A
-pick true a b = a
-pick false a b = b
 
 -- "Each returns its number and a place"
 pub record Fault : Type 0 where
@@ -29,17 +24,13 @@ passed f = eqb (f .number) 0
 
 -- the checks of a call in their order: the first that refuses answers
 abbrev pub orElse : Fault → Fault → Fault
-orElse f g = pick (passed f) g f
+orElse f g = cond (passed f) g f
 
 -- a check with no place of its own: number n, place 0, where b holds
 abbrev pub refusedIf : Bool → ℕ → Fault
-refusedIf b n = pick b (fault n 0) none
-
--- number n at place i, or none where n is 0
-abbrev pub numbered : ℕ → ℕ → Fault
-numbered n i = pick (eqb n 0) none (fault n i)
+refusedIf b n = cond b (fault n 0) none
 
 -- "11 a byte above 1", its place counted from i
 unfoldable pub badBit : ℕ → List ℕ → Fault
 badBit i [] = none
-badBit i (b ∷ bs) = pick (leb b 1) (badBit (suc i) bs) (fault 11 i)
+badBit i (b ∷ bs) = cond (leb b 1) (badBit (suc i) bs) (fault 11 i)

@@ -2,9 +2,13 @@
 -- it takes exactly I inputs and one bit for each random gate." A bit is a byte, 0 or 1.
 -- Assumes nothing.
 use mathlib.Core.List.{List, [], _∷_, _++_}
-use Prim.Native.Nat.{ℕ, _+_, _-_, _*_, _%_}
+use Prim.Native.Nat.{ℕ, _+_, _-_, _*_, _%_, _≤_}
 use lib.ListN.{getD, drop}
-use Rattle.tables.specs.Tables.{Kind, NOT, XOR, AND, RANDOM, UNKNOWN, Gate, Table}
+use Rattle.tables.specs.Tables.{Kind, NOT, XOR, AND, RANDOM, UNKNOWN, Gate, Table, total}
+
+-- bits, past the list's end too: "one byte a bit, 0 or 1"
+abbrev pub Bits : List ℕ → Type 0
+Bits vs = (i : ℕ) → getD vs i 0 ≤ 1
 
 -- the XOR of two bits
 abbrev pub xor : ℕ → ℕ → ℕ
@@ -47,6 +51,5 @@ abbrev pub outputsOf : Table → List ℕ → List ℕ
 outputsOf t vs = readAll vs (t .outputs)
 
 -- "one bit for each random gate"
-unfoldable pub randoms : List Gate → ℕ
-randoms [] = 0
-randoms (g ∷ gs) = drawn (g .kind) + randoms gs
+abbrev pub randoms : List Gate → ℕ
+randoms gs = total drawn gs

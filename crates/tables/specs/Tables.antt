@@ -2,12 +2,12 @@
 -- A table is six bytes of sizes, then the kinds, the operand pairs and the output wires; every field of two bytes has its
 -- low byte first. `tableOf` reads bytes, `tableBytes` writes a table, and reading what is written gives the table again.
 -- Assumes nothing.
-use mathlib.Core.Bool.{Bool, true, false, _&&_, _||_, not}
+use mathlib.Core.Bool.{Bool, true, false, _&&_, _||_, not, cond}
 use mathlib.Core.List.{List, [], _∷_, _++_}
 use Prim.Native.Nat.{ℕ, zero, suc, _+_, _*_, _/_, _%_}
 use lib.Dec.{eqb, ltb}
 use lib.ListN.{length, getD, drop}
-use Rattle.tables.specs.Refusals.{pick, Fault, fault, none, orElse, refusedIf}
+use Rattle.tables.specs.Refusals.{Fault, fault, none, orElse, refusedIf}
 
 -- "Kinds: 0 NOT of left; 1 XOR; 2 AND; 3 random bit"; any other byte is no kind
 pub data Kind : Type 0 where
@@ -40,11 +40,19 @@ pub record Gate : Type 0 where
 abbrev pub gate : Kind → ℕ → ℕ → Gate
 gate k l r = record { kind = k; left = l; right = r }
 
--- how many wires a table has: "Inputs are wires 0 to I−1; gate g (from 0) drives wire I+g"
+-- a table: how many inputs it has, its gates, and the wires that are its outputs
 pub record Table : Type 0 where
   pub inputs : ℕ
   pub gates : List Gate
   pub outputs : List ℕ
+
+-- a gate where a table has none
+abbrev pub noGate : Gate
+noGate = gate NOT 0 0
+
+-- gate number g of a table, counted from 0
+abbrev pub gateOf : Table → ℕ → Gate
+gateOf t g = getD (t .gates) g noGate
 
 -- how many wires a table has: "Inputs are wires 0 to I−1; gate g (from 0) drives wire I+g"
 abbrev pub wires : Table → ℕ
@@ -114,18 +122,31 @@ known AND = true
 known RANDOM = true
 known (UNKNOWN k) = false
 
+-- which operands a gate reads: none, the left one, or both
+pub data Operands : Type 0 where
+  none-read left-read both-read : Operands
+
+-- "NOT of left"; "random bit"
+abbrev pub operandsOf : Kind → Operands
+operandsOf NOT = left-read
+operandsOf XOR = both-read
+operandsOf AND = both-read
+operandsOf RANDOM = none-read
+operandsOf (UNKNOWN k) = none-read
+
 -- "An operand is an earlier wire. The unused right operand of NOT and both of a random gate are 0"
-abbrev pub operandsOk : ℕ → Kind → ℕ → ℕ → Bool
-operandsOk w NOT l r = ltb l w && eqb r 0
-operandsOk w XOR l r = ltb l w && ltb r w
-operandsOk w AND l r = ltb l w && ltb r w
-operandsOk w RANDOM l r = eqb l 0 && eqb r 0
-operandsOk w (UNKNOWN k) l r = false
+abbrev pub operandsOk : ℕ → Operands → ℕ → ℕ → Bool
+operandsOk w none-read l r = eqb l 0 && eqb r 0
+operandsOk w left-read l r = ltb l w && eqb r 0
+operandsOk w both-read l r = ltb l w && ltb r w
 
 -- "the gates one by one (3 before 4)": gate i, which drives wire w
 abbrev pub gateFault : ℕ → ℕ → Gate → Fault
 gateFault i w g =
-    pick (known (g .kind)) (pick (operandsOk w (g .kind) (g .left) (g .right)) none (fault 4 i)) (fault 3 i)
+    cond
+    (known (g .kind))
+    (cond (operandsOk w (operandsOf (g .kind)) (g .left) (g .right)) none (fault 4 i))
+    (fault 3 i)
 
 -- the first faulty gate, where the gates drive the wires from w on
 unfoldable pub gatesFault : ℕ → ℕ → List Gate → Fault
@@ -135,7 +156,7 @@ gatesFault i w (g ∷ gs) = orElse (gateFault i w g) (gatesFault (suc i) (suc w)
 -- "5 an output that is no wire"
 unfoldable pub outputsFault : ℕ → ℕ → List ℕ → Fault
 outputsFault i w [] = none
-outputsFault i w (o ∷ os) = pick (ltb o w) (outputsFault (suc i) w os) (fault 5 i)
+outputsFault i w (o ∷ os) = cond (ltb o w) (outputsFault (suc i) w os) (fault 5 i)
 
 -- "2 I or O is 0, or I+G above 65,535"
 abbrev pub sizesBad : ℕ → ℕ → ℕ → Bool
@@ -166,17 +187,17 @@ isRandom (UNKNOWN k) = false
 -- 7 at the first random gate
 unfoldable pub randomFault : ℕ → List Gate → Fault
 randomFault i [] = none
-randomFault i (g ∷ gs) = pick (isRandom (g .kind)) (fault 7 i) (randomFault (suc i) gs)
+randomFault i (g ∷ gs) = cond (isRandom (g .kind)) (fault 7 i) (randomFault (suc i) gs)
 
--- how many gates are of the kind with byte b, 0 to 3
+-- a figure of each gate's kind, added over the gates
+unfoldable pub total : (Kind → ℕ) → List Gate → ℕ
+total f [] = 0
+total f (g ∷ gs) = f (g .kind) + total f gs
+
+-- 1 for the kind with byte b, 0 to 3, and 0 for every other: its total counts the gates of a kind
 abbrev pub ofKind : ℕ → Kind → ℕ
-ofKind b NOT = pick (eqb b 0) 1 0
-ofKind b XOR = pick (eqb b 1) 1 0
-ofKind b AND = pick (eqb b 2) 1 0
-ofKind b RANDOM = pick (eqb b 3) 1 0
+ofKind b NOT = cond (eqb b 0) 1 0
+ofKind b XOR = cond (eqb b 1) 1 0
+ofKind b AND = cond (eqb b 2) 1 0
+ofKind b RANDOM = cond (eqb b 3) 1 0
 ofKind b (UNKNOWN k) = 0
-
--- how many gates are of a kind
-unfoldable pub countKind : ℕ → List Gate → ℕ
-countKind b [] = 0
-countKind b (g ∷ gs) = ofKind b (g .kind) + countKind b gs

@@ -1,10 +1,15 @@
-// The gate-table format: what the calls answer, two-byte fields, and bits.
+// The gate-table format: what the calls answer, two-byte fields, gates, bits and bytes.
 ghost use mathlib.Core.Path.{_≡_};
 ghost use mathlib.Core.Bool.{true};
 ghost use Prim.Native.Nat.{_+_, _≤_, _<_};
-ghost use lib.ListN.{length, getD, drop};
-ghost use Rattle.tables.specs.Tables.{kindOf, word, two, gatesFrom, ofKind, countKind};
-ghost use Rattle.tables.specs.Says.{putAt, FirstBad};
+ghost use lib.ListN.{length, getD};
+ghost use Rattle.tables.specs.Refusals.{Fault, fault, orElse, refusedIf, badBit};
+ghost use Rattle.tables.specs.Tables.{kindOf, gateOf, word, two, tableOf, total, ofKind};
+ghost use Rattle.tables.specs.Says.{Refused};
+ghost use Rattle.tables.specs.Inside.{putAt, FirstBad, HasGates, HasOutputs, GateIs};
+
+// The bytes of the longest table: 65,534 gates and 65,535 outputs.
+pub const LONGEST: usize = 458746;
 
 // A refusal's number and place; number 0 is no refusal.
 pub struct Refusal {
@@ -20,6 +25,44 @@ pub struct Answer {
     pub value: u32,
 }
 
+// A gate as a table states it: its kind's byte and its operands.
+pub struct GateFields {
+    pub kind: u8,
+    pub left: usize,
+    pub right: usize,
+}
+
+// A refusal by its number and place, or none where both are 0.
+pub fn refuse(number: u8, place: usize) -> Refusal
+    requires { ⌜ place < 4294967296 ⌝ }
+    ensures { λ r. ⌜ Refused (fault number place) r ⌝ }
+{
+    Refusal {
+        number,
+        place: place as u32,
+    }
+}
+
+// A check with no place of its own.
+pub fn refuse_if(bad: bool, number: u8) -> Refusal
+    ensures { λ r. ⌜ Refused (refusedIf bad number) r ⌝ }
+{
+    if bad {
+        return refuse(number, 0);
+    }
+    refuse(0, 0)
+}
+
+// Of two checks in their order, the first that refuses.
+pub fn first_of(a: Refusal, b: Refusal) -> Refusal
+    ensures { λ r. ⌜ ((f g : Fault) → Refused f a → Refused g b → Refused (orElse f g) r) ⌝ }
+{
+    if a.number != 0 {
+        return a;
+    }
+    b
+}
+
 // The answer of a refused call.
 pub fn refused(found: Refusal) -> Answer
     ensures { λ r. ⌜ r ≡ record { number = found .number; place = found .place; value = 0 } ⌝ }
@@ -28,6 +71,17 @@ pub fn refused(found: Refusal) -> Answer
         number: found.number,
         place: found.place,
         value: 0,
+    }
+}
+
+// The answer of a call that no check refuses: `found` has number 0.
+pub fn done(found: Refusal, value: u32) -> Answer
+    ensures { λ r. ⌜ r ≡ record { number = found .number; place = found .place; value = value } ⌝ }
+{
+    Answer {
+        number: found.number,
+        place: found.place,
+        value,
     }
 }
 
@@ -50,6 +104,38 @@ pub fn put_field(out: &mut [u8], at: usize, v: usize)
     out[at + 1] = (v / 256) as u8;
 }
 
+// Writes bytes at a place.
+pub fn put_bytes(out: &mut [u8], at: usize, src: &[u8])
+    requires { ⌜ at + length (now src) ≤ length (now out) ⌝ }
+    ensures { λ _. ⌜ now (out .exit) ≡ putAt at (now (src .entry)) (now (out .entry)) ⌝ }
+{
+    let mut i = 0;
+    while i < src.len() {
+        out[at + i] = src[i];
+        i += 1;
+    }
+}
+
+// Gate g of a table, counted from 0.
+pub fn gate_at(table: &[u8], gates: usize, g: usize) -> GateFields
+    requires { ⌜ HasGates (now table) gates × (g < gates) ⌝ }
+    ensures { λ r. ⌜ GateIs (gateOf (tableOf (now (table .entry))) g) r ⌝ }
+{
+    GateFields {
+        kind: table[6 + g],
+        left: field(table, 6 + gates + 4 * g),
+        right: field(table, 8 + gates + 4 * g),
+    }
+}
+
+// The wire of output o of a table, counted from 0.
+pub fn output_at(table: &[u8], gates: usize, outputs: usize, o: usize) -> usize
+    requires { ⌜ HasOutputs (now table) gates outputs × (o < outputs) ⌝ }
+    ensures { λ r. ⌜ (r ≡ getD (tableOf (now (table .entry)) .outputs) o 0) × (r < 65536) ⌝ }
+{
+    field(table, 6 + 5 * gates + 2 * o)
+}
+
 // 1 where a byte is a kind, else 0: a number, so that a sum over kinds needs no branch.
 pub fn is_kind(byte: u8, kind: u8) -> u32
     requires { ⌜ kind ≤ 3 ⌝ }
@@ -63,25 +149,20 @@ pub fn is_kind(byte: u8, kind: u8) -> u32
 
 // How many gates of a table are of a kind.
 pub fn count_kind(table: &[u8], gates: usize, kind: u8) -> usize
-    requires { ⌜ (6 + gates ≤ length (now table)) × (gates ≤ 65535) × (kind ≤ 3) ⌝ }
-    ensures { λ r.
-        ⌜
-        (r
-        ≡ countKind kind
-        (gatesFrom gates (drop 6 (now (table .entry))) (drop (6 + gates) (now (table .entry)))))
-        × (r ≤ gates)
-        ⌝ }
+    requires { ⌜ HasGates (now table) gates × (kind ≤ 3) ⌝ }
+    ensures { λ r. ⌜ (r ≡ total (ofKind kind) (tableOf (now (table .entry)) .gates)) × (r ≤ gates) ⌝ }
 {
     let mut count: u32 = 0;
     let mut g = 0;
     while g < gates {
-        count += is_kind(table[6 + g], kind);
+        let x = gate_at(table, gates, g);
+        count += is_kind(x.kind, kind);
         g += 1;
     }
     count as usize
 }
 
-// A bit of a tape or of a secret: the only place where one is read.
+// A bit of a tape, of a secret or of the inputs of a run.
 pub fn tape_bit(bits: &[u8], at: usize) -> u8
     requires { ⌜ at < length (now bits) ⌝ }
     ensures { λ r. ⌜ r ≡ getD (now (bits .entry)) at 0 ⌝ }
@@ -117,4 +198,16 @@ pub fn first_bad(bits: &[u8]) -> usize
         i += 1;
     }
     i
+}
+
+// The first byte above 1, where the bits begin at a place of the call's bits joined.
+pub fn bits_fault(bits: &[u8], start: usize) -> Refusal
+    requires { ⌜ start + length (now bits) < 4294967296 ⌝ }
+    ensures { λ r. ⌜ Refused (badBit start (now (bits .entry))) r ⌝ }
+{
+    let at = first_bad(bits);
+    if at < bits.len() {
+        return refuse(11, start + at);
+    }
+    refuse(0, 0)
 }

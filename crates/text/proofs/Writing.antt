@@ -4,18 +4,16 @@ use mathlib.Core.Path.{_≡_, refl, sym, ap, _∙_, subst}
 use mathlib.Core.Bool.{Bool, true, false}
 use mathlib.Core.List.{List, [], _∷_, _++_, append-assoc, append-nil}
 use Prim.Native.Nat.{ℕ, zero, suc, _+_, _-_, _*_, _/_, _%_, _^_, _≤_, _<_}
-use native.Mathlib.Nat.{pow-succ'}
-use native.Mathlib.Numerals.{add-one}
+use native.Mathlib.Nat.{pow-succ', zero-add}
 use native.Mathlib.Omega.{arith}
 use borrow.Author.Tests.{lt-ltb, le-ltb, ltb-false}
 use lib.Dec.{ltb}
-use lib.ListN.{length, getD, take, drop, set, length-append, length-set, length-drop}
-use lib.Seq.{drop-cons, drop-set-lt, getD-set-same, take-suc, take-all, take-length, drop-length, length-take-le}
-use Rattle.tables.specs.Says.{putAt}
-use Rattle.tables.proofs.Put.{put-length, put-nil, put-set, put-append}
-use Rattle.text.specs.Text.{digits, decimal, refusedWord, lineOf, refusalLine, Spelled, Puts}
+use lib.ListN.{length, take, drop, set, length-append, length-set, length-drop}
+use lib.Seq.{drop-cons, drop-set-lt, getD-set-same, take-all, take-at, drop-length}
+use Rattle.tables.proofs.Put.{put-length, put-zero, put-append}
+use Rattle.text.specs.Text.{digits, decimal, lineOf, refusalLine, Spelled, Puts, PutsAll}
 
-pub digits-long : (c v : ℕ) → length (digits c v) ≤ c
+digits-long : (c v : ℕ) → length (digits c v) ≤ c
 unfolding digits
 digits-long zero v = omega arith
 digits-long (suc c) v = go (ltb v 10) refl (digits-long c (v / 10))
@@ -39,11 +37,11 @@ digits-few (suc c) (suc k) v h = go (ltb v 10) refl (digits-few c k (v / 10) (om
     go true e i = rw (e, digits) (omega arith)
     go false e i = rw (e, digits) (omega (arith, i, length-append (digits c (v / 10)) ((48 + v % 10) ∷ [])))
 
-pub digits-more : (c v : ℕ) → 9 < v → digits (suc c) v ≡ digits c (v / 10) ++ ((48 + v % 10) ∷ [])
+digits-more : (c v : ℕ) → 9 < v → digits (suc c) v ≡ digits c (v / 10) ++ ((48 + v % 10) ∷ [])
 unfolding digits
 digits-more c v h = rw (le-ltb v 10 h, digits)
 
-pub digits-last : (c v : ℕ) → v ≤ 9 → digits (suc c) v ≡ (48 + v) ∷ []
+digits-last : (c v : ℕ) → v ≤ 9 → digits (suc c) v ≡ (48 + v) ∷ []
 unfolding digits
 digits-last c v h = rw (lt-ltb v 10 (omega arith), digits)
 
@@ -98,127 +96,66 @@ module _ {v : ℕ} {b : List ℕ} {rest i : ℕ} (S : Spelling v b rest i) where
             ∙ S .left;
       }
 
--- the bytes src are put at a place of b, the first i of them so far
-pub record Putting (at : ℕ) (src b out : List ℕ) (i : ℕ) : Type 0 where
-  pub within : i ≤ length src
-  pub so-far : out ≡ putAt at (take i src) b
+-- the same bytes
+pub puts-as : {at m : ℕ} {xs ys b c : List ℕ} → xs ≡ ys → Puts at xs b c m → Puts at ys b c m
+puts-as {at} {m} {xs} {ys} {b} {c} e P = subst (λ (zs : List ℕ). Puts at zs b c m) e P
 
-pub putting-start : (at : ℕ) (src b : List ℕ) → Putting at src b b 0
-putting-start at src b = record { within = omega arith; so-far = sym (put-nil at b) }
+-- a piece is put, and another after it
+module _ {at m : ℕ} {xs b c : List ℕ} (ys : List ℕ) (room : at + length (xs ++ ys) ≤ length b) (P : Puts at xs b c m) where
+  first-room : at + length xs ≤ length b
+  first-room = omega (arith, room, length-append xs ys)
 
-module _ {at : ℕ} {src b out : List ℕ} {i : ℕ} (room : at + length src ≤ length b) (P : Putting at src b out i) where
-  taken : length (take i src) ≡ i
-  taken = length-take-le i src (P .within)
+  pub next-room : m + length ys ≤ length c
+  next-room =
+      let same = ap length (P .bytes) ∙ put-length at xs b first-room in
+      omega (arith, room, length-append xs ys, P .next, same)
 
-  pub putting-long : length out ≡ length b
-  putting-long = ap length (P .so-far) ∙ put-length at (take i src) b (omega (arith, taken, P .within))
+  pub puts-then : {r : ℕ} {d : List ℕ} → Puts m ys c d r → Puts at (xs ++ ys) b d r
+  puts-then Q =
+      record {
+        bytes = Q .bytes ∙ rw (P .next, P .bytes) (put-append at xs ys b first-room);
+        next = omega (arith, Q .next, P .next, length-append xs ys);
+      }
 
-  pub putting-turn : i < length src → Putting at src b (set out (at + i) (getD src i 0)) (i + 1)
-  putting-turn h =
-      let v = getD src i 0 in
-      let one : set out (at + i) v ≡ putAt (at + i) (v ∷ []) out =
-      put-set (at + i) v out (omega (arith, putting-long)) in
-      let more : putAt (at + i) (v ∷ []) (putAt at (take i src) b) ≡ putAt at (take i src ++ (v ∷ [])) b =
-      subst (λ (m : ℕ). putAt (at + m) (v ∷ []) (putAt at (take i src) b) ≡ putAt at (take i src ++ (v ∷ [])) b) taken
-      (put-append at (take i src) (v ∷ []) b (omega (arith, taken))) in
-      rw add-one
-      (record {
-        within = h;
-        so-far = one
-            ∙ ap {A = List ℕ} {B = List ℕ} (putAt (at + i) (v ∷ [])) (P .so-far)
-            ∙ more
-            ∙ ap {A = List ℕ} {B = List ℕ} (λ l. putAt at l b) (sym (take-suc src i 0 h));
-      })
+-- the part of the buffer from where the digits begin
+pub spelled-digits : {v r : ℕ} {ds : List ℕ} → Spelled v ds r → take (10 - r) (drop r ds) ≡ decimal v
+spelled-digits {r = r} {ds = ds} S =
+    take-all (10 - r) (drop r ds) (omega (arith, length-drop r ds, S .long)) ∙ S .digits
 
-  pub putting-end : length src ≤ i → Puts at src b out (at + i)
-  putting-end h =
-      let e : i ≡ length src = omega (arith, P .within) in
-      record { bytes = P .so-far ∙ rw (e, take-length src); next = rw e }
+-- all of xs, or nothing
+pub all-short : (xs b : List ℕ) → length b < length xs → PutsAll xs b b 0
+all-short xs b h = let e = lt-ltb (length b) (length xs) h in record { bytes = rw e; length-is = rw e }
 
--- two pieces, one after the other
-pub puts-append :
-    {at m r : ℕ} {xs ys b out out′ : List ℕ} → at + length xs ≤ length b → Puts at xs b out m → Puts m ys out out′ r
-    → Puts at (xs ++ ys) b out′ r
-puts-append {at} {m} {r} {xs} {ys} {b} {out} {out′} room P Q =
-    record {
-      bytes = Q .bytes
-          ∙ rw (P .next, P .bytes) (put-append at xs ys b room);
-      next = omega (arith, Q .next, P .next, length-append xs ys);
-    }
+pub all-put : {xs b b′ : List ℕ} {r : ℕ} → length xs ≤ length b → Puts 0 xs b b′ r → PutsAll xs b b′ r
+all-put {xs} {b} h P =
+    let e = le-ltb (length b) (length xs) h in
+    record { bytes = rw e (P .bytes ∙ put-zero xs b); length-is = rw e (P .next ∙ zero-add _) }
 
--- one byte more
-pub puts-byte :
-    {at m : ℕ} {xs b out : List ℕ} → at + length xs < length b → Puts at xs b out m → (z : ℕ)
-    → Puts at (xs ++ (z ∷ [])) b (set out m z) (m + 1)
-puts-byte {at} {m} {xs} {b} {out} room P z =
-    let long : length out ≡ length b = ap length (P .bytes) ∙ put-length at xs b (omega arith) in
-    puts-append (omega arith) P
-    (record { bytes = put-set m z out (omega (arith, P .next)); next = refl })
+-- what was put at the front of a buffer, and then all of it elsewhere
+pub put-elsewhere :
+    {xs b c out out′ : List ℕ} {n r : ℕ} → Puts 0 xs b c n → PutsAll (take n c) out out′ r → PutsAll xs out out′ r
+put-elsewhere {xs} {b} {c} {out} {out′} {n} {r} P A =
+    let e : take n c ≡ xs =
+    ap {A = List ℕ} {B = List ℕ} (take n) (P .bytes ∙ put-zero xs b)
+    ∙ take-at xs (drop (length xs) b) n (sym (P .next ∙ zero-add _)) in
+    subst (λ (ys : List ℕ). PutsAll ys out out′ r) e A
 
--- the digits and the byte that ends them
-pub puts-number :
-    {at v first m : ℕ} {b ds out : List ℕ} → at + 11 ≤ length b → Spelled v ds first
-    → Puts at (take (10 - first) (drop first ds)) b out m → (z : ℕ)
-    → Puts at (decimal v ++ (z ∷ [])) b (set out m z) (m + 1) × (m + 1 ≤ at + 11)
-puts-number {at} {v} {first} {m} {b} {ds} {out} room S P z =
-    let all : take (10 - first) (drop first ds) ≡ decimal v =
-    take-all (10 - first) (drop first ds) (omega (arith, length-drop first ds, S .long)) ∙ S .digits in
-    let Q = subst (λ (xs : List ℕ). Puts at xs b out m) all P in
-    (puts-byte (omega (arith, digits-long 10 v)) Q z, omega (arith, Q .next, digits-long 10 v))
+-- what is written lies within the lent bytes
+pub all-fits : {xs b b′ : List ℕ} {r : ℕ} → PutsAll xs b b′ r → r ≤ length b′
+all-fits {xs} {b} {b′} {r} A = go (ltb (length b) (length xs)) refl
+  where
+    go : (t : Bool) → ltb (length b) (length xs) ≡ t → r ≤ length b′
+    go true e = let none : r ≡ 0 = rw e at (A .length-is) in omega (arith, none)
+    go false e =
+        let all : r ≡ length xs = rw e at (A .length-is) in
+        let put : b′ ≡ xs ++ drop (length xs) b = rw e at (A .bytes) in
+        omega (arith, all, ap length put, length-append xs (drop (length xs) b))
 
-pub puts-long : {at m : ℕ} {xs b out : List ℕ} → m ≤ length b → Puts at xs b out m → length out ≡ length b
-puts-long {at} {m} {xs} {b} {out} h P = ap length (P .bytes) ∙ put-length at xs b (omega (arith, P .next))
+-- a number and what follows it
+pub number-long : (v : ℕ) (ys : List ℕ) → length (decimal v ++ ys) ≤ 10 + length ys
+number-long v ys = omega (arith, length-append (decimal v) ys, digits-long 10 v)
 
--- a word of a line and the rest of the line
-pub puts-line :
-    {at m r : ℕ} {b out out′ : List ℕ} (w x : List ℕ) (xs : List (List ℕ)) → m ≤ length b
-    → Puts at (w ++ (32 ∷ [])) b out m → Puts m (lineOf x xs) out out′ r → Puts at (lineOf w (x ∷ xs)) b out′ r
+pub refusal-long : (n p : ℕ) → length (refusalLine n p) ≤ 64
 unfolding lineOf
-puts-line {at} {m} {r} {b} {out} {out′} w x xs room P Q =
-    subst (λ (l : List ℕ). Puts at l b out′ r) (append-assoc w (32 ∷ []) (lineOf x xs))
-    (puts-append (omega (arith, P .next)) P Q)
-
--- the last word of a line
-pub puts-last :
-    {at m : ℕ} {b out : List ℕ} (w : List ℕ) → Puts at (w ++ (10 ∷ [])) b out m → Puts at (lineOf w []) b out m
-unfolding lineOf
-puts-last w P = P
-
--- a number of a line, put at a place
-abbrev pub PutsNumber : ℕ → ℕ → ℕ → List ℕ → List ℕ → ℕ → Type 0
-PutsNumber at v z b out m = Puts at (decimal v ++ (z ∷ [])) b out m × (m ≤ at + 11)
-
--- two numbers that end a line, from a place in its first half on
-pub puts-two :
-    {at k m : ℕ} {b c d : List ℕ} (x y : ℕ) → at ≤ 32 → 64 ≤ length b
-    → PutsNumber at x 32 b c k → PutsNumber k y 10 c d m → Puts at (lineOf (decimal x) (decimal y ∷ [])) b d m
-puts-two x y h room P Q = puts-line (decimal x) (decimal y) [] (omega arith) (P .0) (puts-last (decimal y) (Q .0))
-
-pub puts-refusal :
-    {k m r : ℕ} {b c d e : List ℕ} (x y : ℕ) → 64 ≤ length b
-    → Puts 0 (refusedWord ++ (32 ∷ [])) b c k → PutsNumber k x 32 c d m → PutsNumber m y 10 d e r
-    → Puts 0 (refusalLine x y) b e r
-puts-refusal {k = k} x y room P Q R =
-    let start : k ≡ 8 = P .next in
-    puts-line refusedWord (decimal x) (decimal y ∷ []) (omega arith) P
-    (puts-two x y (omega arith) (omega (arith, puts-long (omega arith) P)) Q R)
-
--- how long a line is
-pub line-more : (w x : List ℕ) (xs : List (List ℕ)) → length (lineOf w (x ∷ xs)) ≡ length w + 1 + length (lineOf x xs)
-unfolding lineOf
-line-more w x xs = omega (arith, length-append w (32 ∷ lineOf x xs))
-
-pub line-last : (w : List ℕ) → length (lineOf w []) ≡ length w + 1
-unfolding lineOf
-line-last w = omega (arith, length-append w (10 ∷ []))
-
-pub refusal-long : (n p : ℕ) → length (refusalLine n p) ≤ 30
 refusal-long n p =
-    omega (
-      arith,
-      line-more refusedWord (decimal n) (decimal p ∷ []),
-      line-more (decimal n) (decimal p) [],
-      line-last (decimal p),
-      digits-long 10 n,
-      digits-long 10 p,
-    )
+    omega (arith, number-long n (32 ∷ (decimal p ++ (10 ∷ []))), number-long p (10 ∷ []))

@@ -1,70 +1,77 @@
 -- Mapping the inputs' tape bits: what is left of one input's bits while they are copied, and of all bits between two inputs.
 -- Assumes nothing.
-use mathlib.Core.Path.{_≡_, refl, sym, ap, ap₂, subst, _∙_}
+use mathlib.Core.Path.{_≡_, refl, sym, ap, ap₂, _∙_}
+use mathlib.Core.Bool.{cond}
 use mathlib.Core.List.{List, [], _∷_, _++_}
 use Prim.Native.Nat.{ℕ, suc, _+_, _-_, _*_, _%_, _≤_, _<_}
 use native.Mathlib.Nat.{add-zero, add-suc}
 use native.Mathlib.Numerals.{add-one}
 use native.Mathlib.Omega.{arith}
 use lib.Dec.{eqb}
-use lib.ListN.{length, getD, drop, set, length-set, length-drop, drop-of-length-le, take-append-drop}
-use lib.Seq.{length-take-le, drop-cons, drop-drop}
+use lib.ListN.{length, getD, drop, set, length-drop, drop-of-length-le, take-append-drop}
+use lib.Seq.{drop-cons, drop-drop}
 use borrow.Author.Tests.{eq-eqb, ne-eqb}
-use Rattle.tables.specs.Refusals.{pick}
 use Rattle.tables.specs.Runs.{xor}
-use Rattle.tables.specs.Says.{over, putAt}
-use Rattle.tables.proofs.Put.{put-length, put-zero, put-nil, put-append}
+use Rattle.tables.specs.Says.{over}
+use Rattle.tables.specs.Inside.{putAt}
+use Rattle.tables.proofs.Lists.{part, part-long, part-next, part-end}
+use Rattle.tables.proofs.Put.{Writing, writing-start, writing-front, writing-piece, writing-byte, writing-end}
 use Rattle.masks.specs.Shares.{upFrom}
-use Rattle.encoding.proofs.Encoding.{part, part-next, part-end, put-cons}
 use Rattle.maps.specs.Maps.{flipped, inputFlips}
 use Rattle.maps.proofs.Inputs.{flipsOf, flips-long, flipped-append, flipped-length}
 use Rattle.walking.specs.Flipping.{FlipReady}
 
-pub bit-at : (bit s k flip : ℕ) → s ≡ k → (bit + flip) % 2 ≡ xor bit (pick (eqb s k) flip 0)
+pub bit-at : (bit s k flip : ℕ) → s ≡ k → (bit + flip) % 2 ≡ xor bit (cond (eqb s k) flip 0)
 bit-at bit s k flip e = rw (eq-eqb s k e)
 
-pub bit-off : (bit s k flip : ℕ) → bit ≤ 1 → (s ≡ k → ⊥) → bit ≡ xor bit (pick (eqb s k) flip 0)
+pub bit-off : (bit s k flip : ℕ) → bit ≤ 1 → (s ≡ k → ⊥) → bit ≡ xor bit (cond (eqb s k) flip 0)
 bit-off bit s k flip h n = rw (ne-eqb s k n) (omega arith)
 
 -- share k alone is flipped
 abbrev only : ℕ → ℕ → ℕ → ℕ
-only k flip s = pick (eqb s k) flip 0
+only k flip s = cond (eqb s k) flip 0
 
--- before bit s of an input, whose tape bits stand from `at` on: the bits from s on are left
+-- the bits of an input from s on, flipped, where they stand from `at` on
+abbrev bitsLeft : ℕ → ℕ → ℕ → List ℕ → ℕ → ℕ → List ℕ
+bitsLeft n k flip ts at s = flipped (drop s (part n at ts)) (upFrom (n - s) (suc s) (only k flip))
+
+-- before bit s of an input: the bits from s on are left
 pub record FlippingOne (n k flip : ℕ) (ts : List ℕ) (at : ℕ) (b₀ : List ℕ) (s : ℕ) (b : List ℕ) : Type 0 where
   pub within : s ≤ n
-  pub long : length b ≡ length b₀
-  pub left :
-      putAt (at + s) (flipped (drop s (part n at ts)) (upFrom (n - s) (suc s) (only k flip))) b
-      ≡ putAt at (flipped (part n at ts) (upFrom n 1 (only k flip))) b₀
+  pub writing :
+      Writing (putAt at (flipped (part n at ts) (upFrom n 1 (only k flip))) b₀) (at + s) (bitsLeft n k flip ts at s) b
 
 pub flipping-one-start :
-    (n k flip : ℕ) (ts : List ℕ) (at : ℕ) (b : List ℕ) → FlippingOne n k flip ts at b 0 b
-flipping-one-start n k flip ts at b =
+    (n k flip : ℕ) (ts : List ℕ) (at : ℕ) (b : List ℕ) → at + n ≤ length ts → at + n ≤ length b
+    → FlippingOne n k flip ts at b 0 b
+flipping-one-start n k flip ts at b h room =
     let all : n - 0 ≡ n = omega arith in
-    record { within = omega arith; long = refl; left = rw (add-zero, all) }
+    let flips = upFrom n 1 (only k flip) in
+    let long : at + length (flipped (part n at ts) flips) ≤ length b =
+    omega (arith, flipped-length (part n at ts) flips, part-long n at ts h) in
+    record { within = omega arith; writing = rw (add-zero, all) (writing-start at (flipped (part n at ts) flips) b long) }
 
 module _ {n k flip : ℕ} {ts : List ℕ} {at : ℕ} {b₀ : List ℕ} {s : ℕ} {b : List ℕ}
     (F : FlippingOne n k flip ts at b₀ s b) (tape : at + n ≤ length ts) where
+  pub flipping-one-there : s < n → at + s < length b
+  flipping-one-there h =
+      let bits = drop s (part n at ts) in
+      let long = flipped-length bits (upFrom (n - s) (suc s) (only k flip)) in
+      omega (arith, F .writing .room, length-drop s (part n at ts), part-long n at ts tape)
+
   pub flipping-one-turn :
-      {bit v : ℕ} → s < n → at + n ≤ length b₀ → bit ≡ getD ts (at + s) 0 → v ≡ xor bit (pick (eqb (s + 1) k) flip 0)
+      {bit v : ℕ} → s < n → bit ≡ getD ts (at + s) 0 → v ≡ xor bit (cond (eqb (s + 1) k) flip 0)
       → FlippingOne n k flip ts at b₀ (s + 1) (set b (at + s) v)
   unfolding flipped upFrom
-  flipping-one-turn {bit} {v} h room e ev =
-      let rest = drop (suc s) (part n at ts) in
-      let flips = upFrom (n - suc s) (suc (suc s)) (only k flip) in
-      let next : drop s (part n at ts) ≡ bit ∷ rest = part-next n at s ts tape h ∙ rw e in
+  flipping-one-turn {bit} {v} h e ev =
+      let next : drop s (part n at ts) ≡ bit ∷ drop (suc s) (part n at ts) = part-next n at s ts tape h ∙ rw e in
       let count : n - s ≡ suc (n - suc s) = omega arith in
       let value : v ≡ xor bit (only k flip (suc s)) = rw (← add-one s) ev in
-      let left : putAt (at + s) (v ∷ flipped rest flips) b ≡ putAt at (flipped (part n at ts) (upFrom n 1 (only k flip))) b₀ =
-      rw value (rw (next, count) at (F .left)) in
-      let step : putAt (suc (at + s)) (flipped rest flips) (set b (at + s) v) ≡ putAt (at + s) (v ∷ flipped rest flips) b =
-      put-cons (at + s) v (flipped rest flips) b (omega (arith, F .long)) in
+      let rest : bitsLeft n k flip ts at s ≡ v ∷ bitsLeft n k flip ts at (suc s) = rw (next, count, value) in
       rw add-one
       record {
         within = omega arith;
-        long = length-set b (at + s) v ∙ F .long;
-        left = rw add-suc (step ∙ left);
+        writing = rw add-suc (writing-byte (F .writing) v (bitsLeft n k flip ts at (suc s)) rest);
       }
 
   pub flipping-one-end : n ≤ s → b ≡ putAt at (flipped (part n at ts) (upFrom n 1 (only k flip))) b₀
@@ -72,34 +79,32 @@ module _ {n k flip : ℕ} {ts : List ℕ} {at : ℕ} {b₀ : List ℕ} {s : ℕ}
   flipping-one-end h =
       let e : s ≡ n = omega (arith, F .within) in
       let none : drop s (part n at ts) ≡ [] = rw e (part-end n at ts tape) in
-      sym (put-nil (at + s) b) ∙ rw none at (F .left)
+      writing-end (F .writing) (rw none)
 
 flips-next :
     (o k x y : ℕ) (xs ys : List ℕ) → inputFlips o k (x ∷ xs) (y ∷ ys) ≡ flipsOf o k x y ++ inputFlips o k xs ys
 unfolding inputFlips
 flips-next o k x y xs ys = refl
 
+-- the bits of the inputs from i on, flipped, where they stand from `at` on
+abbrev flipsLeft : ℕ → ℕ → List ℕ → List ℕ → List ℕ → ℕ → ℕ → List ℕ
+flipsLeft o k xs ys ts at i = flipped (drop at ts) (inputFlips o k (drop i xs) (drop i ys))
+
 -- between two inputs: the tape bits of those from i on are left
 pub record Flipping (o k : ℕ) (xs ys ts b₀ : List ℕ) (at i : ℕ) (b : List ℕ) : Type 0 where
-  pub within : i ≤ length xs
   pub second : length ys ≡ length xs
   pub tape : at + 2 * o * length (drop i xs) ≡ length ts
-  pub room : length ts ≤ length b₀
-  pub long : length b ≡ length b₀
-  pub left :
-      putAt at (flipped (drop at ts) (inputFlips o k (drop i xs) (drop i ys))) b
-      ≡ over (flipped ts (inputFlips o k xs ys)) b₀
+  pub writing : Writing (over (flipped ts (inputFlips o k xs ys)) b₀) at (flipsLeft o k xs ys ts at i) b
 
 pub flipping-start :
-    (o k : ℕ) (xs ys ts b : List ℕ) → FlipReady o xs ys ts b → Flipping o k xs ys ts b 0 0 b
+    (o k : ℕ) (xs ys ts b : List ℕ) → FlipReady o xs ys ts b
+    → Flipping o k xs ys ts b 0 0 b
 flipping-start o k xs ys ts b r =
+    let flips = inputFlips o k xs ys in
     record {
-      within = omega arith;
       second = r .second;
       tape = omega (arith, r .tape);
-      room = r .room;
-      long = refl;
-      left = put-zero (flipped ts (inputFlips o k xs ys)) b;
+      writing = writing-front (flipped ts flips) b (omega (arith, flipped-length ts flips, r .room));
     }
 
 module _ {o k : ℕ} {xs ys ts b₀ : List ℕ} {at i : ℕ} {b : List ℕ} (F : Flipping o k xs ys ts b₀ at i b) where
@@ -107,45 +112,34 @@ module _ {o k : ℕ} {xs ys ts b₀ : List ℕ} {at i : ℕ} {b : List ℕ} (F :
   flipping-fits h =
       let next : length (drop i xs) ≡ suc (length (drop (suc i) xs)) = ap length (drop-cons xs i 0 h) in
       let tape : at + 2 * o * suc (length (drop (suc i) xs)) ≡ length ts = rw next at (F .tape) in
-      (omega arith, omega (arith, F .long, F .room))
+      let long = flipped-length (drop at ts) (inputFlips o k (drop i xs) (drop i ys)) in
+      (omega arith, omega (arith, F .writing .room, length-drop at ts))
 
   pub flipping-turn :
       {x y : ℕ} {b′ : List ℕ} → i < length xs → x ≡ getD xs i 0 → y ≡ getD ys i 0
       → b′ ≡ putAt at (flipped (part (2 * o) at ts) (upFrom (2 * o) 1 (only k ((x + y) % 2)))) b
       → Flipping o k xs ys ts b₀ (at + 2 * o) (i + 1) b′
   flipping-turn {x} {y} {b′} h ex ey w =
-      let fits = flipping-fits h in
       let after = drop (suc i) xs in
       let behind = drop (suc i) ys in
       let next : drop i xs ≡ x ∷ after = drop-cons xs i 0 h ∙ rw ex in
       let follow : drop i ys ≡ y ∷ behind = drop-cons ys i 0 (omega (arith, F .second)) ∙ rw ey in
-      let count : length (drop i xs) ≡ suc (length after) = ap length next in
-      let tape : at + 2 * o * suc (length after) ≡ length ts = rw count at (F .tape) in
+      let tape : at + 2 * o * suc (length after) ≡ length ts = rw (ap length next) at (F .tape) in
       let here = part (2 * o) at ts in
       let later = drop (at + 2 * o) ts in
-      let size : length here ≡ 2 * o = length-take-le (2 * o) (drop at ts) (omega (arith, length-drop at ts)) in
+      let size : length here ≡ 2 * o = part-long (2 * o) at ts (flipping-fits h .0) in
       let bits : drop at ts ≡ here ++ later =
       sym (take-append-drop (2 * o) (drop at ts)) ∙ rw (drop-drop (2 * o) at ts) in
-      let one = flipped here (flipsOf o k x y) in
-      let rest = flipped later (inputFlips o k after behind) in
       let flips : inputFlips o k (drop i xs) (drop i ys) ≡ flipsOf o k x y ++ inputFlips o k after behind =
       rw (next, follow) (flips-next o k x y after behind) in
-      let split : flipped (drop at ts) (inputFlips o k (drop i xs) (drop i ys)) ≡ one ++ rest =
+      let one = flipped here (flipsOf o k x y) in
+      let rest = flipped later (inputFlips o k after behind) in
+      let split : flipsLeft o k xs ys ts at i ≡ one ++ rest =
       ap₂ flipped bits flips
-      ∙ (flipped-append here later (flipsOf o k x y) (inputFlips o k after behind) (size ∙ sym (flips-long o k x y))) in
+      ∙ flipped-append here later (flipsOf o k x y) (inputFlips o k after behind) (size ∙ sym (flips-long o k x y)) in
       let long : length one ≡ 2 * o = flipped-length here (flipsOf o k x y) ∙ size in
-      let put : putAt (at + 2 * o) rest (putAt at one b) ≡ putAt at (one ++ rest) b =
-      subst (λ (y : ℕ). putAt (at + y) rest (putAt at one b) ≡ putAt at (one ++ rest) b) long
-      (put-append at one rest b (omega (arith, fits))) in
-      rw (add-one i, w)
-      record {
-        within = omega arith;
-        second = F .second;
-        tape = omega arith;
-        room = F .room;
-        long = put-length at one b (omega (arith, fits)) ∙ F .long;
-        left = put ∙ rw split at (F .left);
-      }
+      rw (add-one i)
+      record { second = F .second; tape = omega arith; writing = writing-piece (F .writing) one rest split w (rw long) }
 
   pub flipping-end : length xs ≤ i → b ≡ over (flipped ts (inputFlips o k xs ys)) b₀
   unfolding flipped
@@ -153,4 +147,4 @@ module _ {o k : ℕ} {xs ys ts b₀ : List ℕ} {at i : ℕ} {b : List ℕ} (F :
       let none : drop i xs ≡ [] = drop-of-length-le xs {i = i} h in
       let done : at + 2 * o * length (drop i xs) ≡ length ts = F .tape in
       let no-bits : drop at ts ≡ [] = drop-of-length-le ts {i = at} (omega (arith, rw none at done)) in
-      sym (put-nil at b) ∙ rw no-bits at (F .left)
+      writing-end (F .writing) (rw no-bits)

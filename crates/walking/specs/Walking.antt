@@ -1,21 +1,18 @@
+-- For contracts inside the library only: no promise of a call cites this.
 -- What the parts of the walk over a masked table take and give (document 01, "Marks and the mapped tape"): whether a product
 -- differs between the two runs, the bit that a random gate takes in the second run, and the walk as a whole.
 -- Assumes nothing.
 use mathlib.Core.Path.{_≡_}
-use mathlib.Core.Bool.{Bool}
+use mathlib.Core.Bool.{Bool, cond}
 use mathlib.Core.List.{List}
-use Prim.Native.Nat.{ℕ, _+_, _*_, _≤_, _<_}
+use Prim.Native.Nat.{ℕ, _+_, _≤_, _<_}
 use lib.ListN.{length, getD, set, take}
-use Rattle.tables.specs.Refusals.{pick}
-use Rattle.tables.specs.Tables.{Kind, NOT, XOR, AND, RANDOM, UNKNOWN, kindOf, Gate, gate, word, tableOf}
+use Rattle.tables.specs.Tables.{Kind, NOT, XOR, AND, RANDOM, UNKNOWN, Table, gateOf, tableOf}
 use Rattle.tables.specs.Runs.{xor, randoms, runFrom}
 use Rattle.tables.specs.Says.{over}
+use Rattle.tables.specs.Inside.{HasGates}
 use Rattle.running.specs.Running.{RunReady}
 use Rattle.maps.specs.Walk.{inRow, gateDiffers, walked, Crossing}
-
--- gate number g of the n gates in the bytes s
-abbrev pub gateOf : List ℕ → ℕ → ℕ → Gate
-gateOf s n g = gate (kindOf (getD s (6 + g) 0)) (word s (6 + n + 4 * g)) (word s (8 + n + 4 * g))
 
 -- the wires l and r have values in vs, which are bits
 pub record Valued (vs : List ℕ) (l r : ℕ) : Type 0 where
@@ -26,20 +23,19 @@ pub record Valued (vs : List ℕ) (l r : ℕ) : Type 0 where
 
 -- gate g of the n in the bytes s, whose operands have values in both runs
 pub record ProductReady (s : List ℕ) (n g : ℕ) (a b : List ℕ) : Type 0 where
-  pub table : 6 + 5 * n ≤ length s
-  pub few : n ≤ 65535
+  pub table : HasGates s n
   pub within : g < n
-  pub one : Valued a (gateOf s n g .left) (gateOf s n g .right)
-  pub other : Valued b (gateOf s n g .left) (gateOf s n g .right)
+  pub one : Valued a (gateOf (tableOf s) g .left) (gateOf (tableOf s) g .right)
+  pub other : Valued b (gateOf (tableOf s) g .left) (gateOf (tableOf s) g .right)
 
 -- what random gate g flips, where t says whether its pair is of the free share: the products are gates g + 1 and g + 3
-abbrev pub crossFlip : List ℕ → ℕ → ℕ → Bool → List ℕ → List ℕ → ℕ
-crossFlip s n g t a b =
-    pick
+abbrev pub crossFlip : Table → ℕ → Bool → List ℕ → List ℕ → ℕ
+crossFlip x g t a b =
+    cond
     t
     (xor
-    (gateDiffers (λ p. getD a p 0) (λ p. getD b p 0) (gateOf s n (g + 1)))
-    (gateDiffers (λ p. getD a p 0) (λ p. getD b p 0) (gateOf s n (g + 3))))
+    (gateDiffers (λ p. getD a p 0) (λ p. getD b p 0) (gateOf x (g + 1)))
+    (gateDiffers (λ p. getD a p 0) (λ p. getD b p 0) (gateOf x (g + 3))))
     0
 
 -- both products of random gate g can be made
@@ -47,13 +43,11 @@ pub record CrossReady (s : List ℕ) (n g : ℕ) (a b : List ℕ) : Type 0 where
   pub one : ProductReady s n (g + 1) a b
   pub other : ProductReady s n (g + 3) a b
 
--- gate g may take bit c of the random bits rs, and put one into m
-pub record BitReady (s rs : List ℕ) (n g c : ℕ) (a b m : List ℕ) : Type 0 where
-  pub table : 6 + 5 * n ≤ length s
-  pub within : g < n
-  pub random : getD s (6 + g) 0 ≡ 3 → (c < length rs) × (getD rs c 0 ≤ 1)
-  pub room : getD s (6 + g) 0 ≡ 3 → c < length m
-  pub cross : getD s (6 + g) 0 ≡ 3 → CrossReady s n g a b
+-- gate g, whose kind's byte is k, may take bit c of the random bits rs, and put one into m
+pub record BitReady (s rs : List ℕ) (k n g c : ℕ) (a b m : List ℕ) : Type 0 where
+  pub random : k ≡ 3 → (c < length rs) × (getD rs c 0 ≤ 1)
+  pub room : k ≡ 3 → c < length m
+  pub cross : k ≡ 3 → CrossReady s n g a b
 
 -- a random gate puts its bit at c, and no other gate does
 abbrev pub bitPut : Kind → List ℕ → ℕ → ℕ → List ℕ

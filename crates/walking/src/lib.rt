@@ -1,24 +1,24 @@
 // The mapped tape: the inputs' bits, then the walk over a masked table's gates with both runs.
+ghost use mathlib.Core.Bool.{cond};
 ghost use mathlib.Core.Path.{_≡_};
 ghost use Prim.Native.Nat.{_+_, _*_, _≤_, _<_};
 ghost use lib.ListN.{length, take, drop, getD};
 ghost use lib.Dec.{eqb};
-ghost use Rattle.tables.specs.Refusals.{pick};
-ghost use Rattle.tables.specs.Runs.{xor};
-ghost use Rattle.tables.specs.Says.{over, putAt};
-ghost use Rattle.tables.proofs.Lists.{Bits};
+ghost use Rattle.tables.specs.Tables.{kindOf, gateOf, tableOf};
+ghost use Rattle.tables.specs.Runs.{Bits, xor};
+ghost use Rattle.tables.specs.Says.{over};
+ghost use Rattle.tables.specs.Inside.{putAt};
 ghost use Rattle.masks.specs.Shares.{upFrom};
 ghost use Rattle.maps.specs.Maps.{flipped, inputFlips};
 ghost use Rattle.walking.specs.Flipping.{FlipReady};
-ghost use Rattle.tables.specs.Tables.{kindOf};
 ghost use Rattle.running.specs.Running.{GateReady, GateSays};
 ghost use Rattle.maps.specs.Walk.{inRow, gateDiffers, afterGate};
-ghost use Rattle.walking.specs.Walking.{gateOf, ProductReady, crossFlip, CrossReady, BitReady, bitPut, WalkReady, WalkSays};
+ghost use Rattle.walking.specs.Walking.{ProductReady, crossFlip, CrossReady, BitReady, bitPut, WalkReady, WalkSays};
 
 // A tape bit of share s of an input, flipped where s is the free share and the secrets differ.
 fn flip_bit(bit: u8, s: usize, k: usize, flip: u8) -> u8
     requires { ⌜ (bit ≤ 1) × (flip ≤ 1) ⌝ }
-    ensures { λ r. ⌜ r ≡ xor bit (pick (eqb s k) flip 0) ⌝ }
+    ensures { λ r. ⌜ r ≡ xor bit (cond (eqb s k) flip 0) ⌝ }
 {
     if s == k {
         return (bit + flip) % 2;
@@ -34,7 +34,7 @@ fn flip_one(bits: usize, k: usize, flip: u8, tape: &[u8], at: usize, mapped: &mu
         × Bits (now tape) ⌝ }
     ensures { λ _. ⌜ now (mapped .exit)
         ≡ putAt at
-        (flipped (take bits (drop at (now (tape .entry)))) (upFrom bits 1 (λ s. pick (eqb s k) flip 0)))
+        (flipped (take bits (drop at (now (tape .entry)))) (upFrom bits 1 (λ s. cond (eqb s k) flip 0)))
         (now (mapped .entry)) ⌝ }
 {
     let mut s = 0;
@@ -77,11 +77,12 @@ fn product_differs(masked: &[u8], gates: usize, g: usize, one: &[u8], other: &[u
     requires { ⌜ ProductReady (now masked) gates g (now one) (now other) ⌝ }
     ensures { λ r. ⌜ (r
         ≡ gateDiffers (λ p. getD (now (one .entry)) p 0) (λ p. getD (now (other .entry)) p 0)
-        (gateOf (now (masked .entry)) gates g))
+        (gateOf (tableOf (now (masked .entry))) g))
         × (r ≤ 1) ⌝ }
 {
-    let left = tables::field(masked, 6 + gates + 4 * g);
-    let right = tables::field(masked, 8 + gates + 4 * g);
+    let x = tables::gate_at(masked, gates, g);
+    let left = x.left;
+    let right = x.right;
     (one[left] * one[right] + other[left] * other[right]) % 2
 }
 
@@ -100,7 +101,7 @@ fn mapped_bit(
     requires { ⌜ CrossReady (now masked) gates g (now one) (now other) × (bit ≤ 1) ⌝ }
     ensures { λ r. ⌜ r
         ≡ xor bit
-        (crossFlip (now (masked .entry)) gates g (inRow from to pair) (now (one .entry)) (now (other .entry))) ⌝ }
+        (crossFlip (tableOf (now (masked .entry))) g (inRow from to pair) (now (one .entry)) (now (other .entry))) ⌝ }
 {
     if pair < from {
         return bit;
@@ -113,8 +114,9 @@ fn mapped_bit(
     (bit + (a + b) % 2) % 2
 }
 
-// Puts the bit that gate g takes in the second run, where it is a random gate.
+// Puts the bit that gate g takes in the second run, where its kind is random.
 fn put_mapped(
+    kind: u8,
     masked: &[u8],
     gates: usize,
     g: usize,
@@ -127,13 +129,13 @@ fn put_mapped(
     other: &[u8],
     mapped: &mut [u8],
 )
-    requires { ⌜ BitReady (now masked) (now random) gates g next (now one) (now other) (now mapped) ⌝ }
+    requires { ⌜ BitReady (now masked) (now random) kind gates g next (now one) (now other) (now mapped) ⌝ }
     ensures { λ _. ⌜ now (mapped .exit)
-        ≡ bitPut (kindOf (getD (now (masked .entry)) (6 + g) 0)) (now (mapped .entry)) next
+        ≡ bitPut (kindOf kind) (now (mapped .entry)) next
         (xor (getD (now (random .entry)) next 0)
-        (crossFlip (now (masked .entry)) gates g (inRow from to pair) (now (one .entry)) (now (other .entry)))) ⌝ }
+        (crossFlip (tableOf (now (masked .entry))) g (inRow from to pair) (now (one .entry)) (now (other .entry)))) ⌝ }
 {
-    if masked[6 + g] == 3 {
+    if kind == 3 {
         let bit = tables::tape_bit(random, next);
         mapped[next] = mapped_bit(masked, gates, g, from, to, pair, bit, one, other);
     }
@@ -209,10 +211,11 @@ pub fn walk(
     let mut pair: usize = 0;
     let mut g: usize = 0;
     while g < gates {
-        let kind = masked[6 + g];
-        let left = tables::field(masked, 6 + gates + 4 * g);
-        let right = tables::field(masked, 8 + gates + 4 * g);
+        let x = tables::gate_at(masked, gates, g);
+        let left = x.left;
+        let right = x.right;
         put_mapped(
+            x.kind,
             masked,
             gates,
             g,
@@ -225,11 +228,11 @@ pub fn walk(
             other,
             mapped,
         );
-        let a = gate_value(kind, one[left], one[right], random, next);
-        let b = gate_value(kind, other[left], other[right], mapped, next);
+        let a = gate_value(x.kind, one[left], one[right], random, next);
+        let b = gate_value(x.kind, other[left], other[right], mapped, next);
         one[inputs + g] = a.value;
         other[inputs + g] = b.value;
-        pair = next_pair(kind, pair, pairs);
+        pair = next_pair(x.kind, pair, pairs);
         next = a.next;
         g += 1;
     }

@@ -1,50 +1,26 @@
--- The kinds of a gate's new wires: repeated pieces, that depend on neither wires nor shares. And the gates that drive them do
--- not depend on the plain gate's number.
+-- The kinds of a gate's new wires: repeated pieces, that depend on neither wires nor shares.
 -- Assumes nothing.
 use mathlib.Core.Path.{_≡_, refl, sym, ap, ap₂, _∙_}
-use mathlib.Core.List.{List, [], _∷_, _++_, map, map-append}
+use mathlib.Core.List.{List, [], _∷_, _++_}
 use Prim.Native.Nat.{ℕ, zero, suc, _+_, _-_, _*_, _≤_, _<_}
 use native.Mathlib.Omega.{arith}
-use lib.ListN.{length, drop, set, replicate, length-replicate, replicate-append-replicate}
+use lib.ListN.{length, getD, drop, set, replicate, length-replicate, replicate-append-replicate}
 use lib.Seq.{drop-drop}
 use Rattle.tables.specs.Tables.{Kind, NOT, XOR, AND, RANDOM, UNKNOWN, kindOf, Gate, gate, kindBytes}
-use Rattle.tables.specs.Says.{putAt}
+use Rattle.tables.specs.Inside.{putAt}
 use Rattle.tables.proofs.Lists.{All}
 use Rattle.tables.proofs.Put.{put-length, put-set, put-past}
 use Rattle.masks.specs.Shares.{upFrom, inTurn, pairs, tri, row}
-use Rattle.masks.specs.Gadgets.{Gadget, isw}
-use Rattle.masks.specs.Wires.{
-  Origin,
-  Wire,
-  wire,
-  andPart,
-  sum,
-  xorShare,
-  driverOf,
-  share,
-  pairWires,
-  adding,
-  rowWires,
-  pairWire,
-  andWires,
-  newWires,
-  cost,
-}
-use Rattle.writing.specs.Layout.{wireKinds, times, pairKinds, rowKinds, XorsFrom}
+use Rattle.masks.specs.Gadgets.{isw}
+use Rattle.masks.specs.Wires.{Origin, Wire, wire, andPart, sum, xorShare, share, pairWires, adding, rowWires}
+use Rattle.masks.specs.Wires.{pairWire, andWires, newWires, newShares, cost, masked}
+use Rattle.writing.specs.Layout.{wireKinds, joined, pairKinds, rowKinds, newKinds, gateKinds, XorsFrom}
 use Rattle.masks.proofs.Sum.{up-length, up-all}
 use Rattle.masks.proofs.Rows.{pairs-length, row-length}
 use Rattle.masks.proofs.Costs.{all-of}
-use Rattle.writing.proofs.Bytes.{wire-kinds-append, joined, joined-long}
+use Rattle.writing.proofs.Bytes.{wire-kinds-append}
 
--- a piece repeated, and a byte repeated, as pieces one after another
-times-from : (m c : ℕ) (xs : List ℕ) → times m xs ≡ joined m c (λ _. xs)
-unfolding times joined
-times-from zero c xs = refl
-times-from (suc m) c xs = rw (times-from m (suc c) xs) refl
-
-pub times-joined : (m : ℕ) (xs : List ℕ) → times m xs ≡ joined m 0 (λ _. xs)
-times-joined m xs = times-from m 0 xs
-
+-- a byte repeated, as pieces one after another
 replicate-from : (m c v : ℕ) → replicate m v ≡ joined m c (λ _. v ∷ [])
 unfolding joined
 replicate-from zero c v = refl
@@ -55,12 +31,6 @@ replicate-joined m v = replicate-from m 0 v
 
 pub row-kinds-long : (n : ℕ) → 1 ≤ n → length (rowKinds n) ≡ n
 row-kinds-long n h = omega (arith, length-replicate {A = ℕ} (n - 1) 1)
-
-pub rows-kinds-long : (n : ℕ) → length (joined n 0 (λ _. rowKinds n)) ≡ n * n
-unfolding joined
-rows-kinds-long zero = refl
-rows-kinds-long (suc n) =
-    joined-long (suc n) (suc n) 0 (λ _. rowKinds (suc n)) (λ _. row-kinds-long (suc n) (omega arith))
 
 -- bytes of which all from a place on are the kind of an XOR gate
 abbrev ones : ℕ → List ℕ
@@ -86,7 +56,7 @@ xors-after at xs b h fits put next =
     rw (next, put, long) (put-past at xs b fits ∙ xors-later at (length xs) b h)
 
 -- one byte, and the kinds of XOR gates that stand after it
-pub xors-head :
+xors-head :
     (at m v : ℕ) (b : List ℕ) → XorsFrom at b → at + suc m ≤ length b → set b at v ≡ putAt at (v ∷ ones m) b
 unfolding putAt
 xors-head at m v b h fits =
@@ -104,23 +74,24 @@ pub row-head :
 row-head at n b some h fits = xors-head at (n - 1) 2 b h (omega arith)
 
 -- blocks of wires that all have the same kinds
-pub in-turn-kinds :
-    {A : Type 0} (size w : ℕ) (xs : List A) (F : ℕ → A → List Wire) (ks : List ℕ)
-    → All (λ x. (v : ℕ) → wireKinds (F v x) ≡ ks) xs → wireKinds (inTurn size w xs F) ≡ times (length xs) ks
-unfolding All inTurn times kindBytes
-in-turn-kinds size w [] F ks h = refl
-in-turn-kinds size w (x ∷ xs) F ks h =
+in-turn-kinds :
+    {A : Type 0} (size w c : ℕ) (xs : List A) (F : ℕ → A → List Wire) (ks : List ℕ)
+    → All (λ x. (v : ℕ) → wireKinds (F v x) ≡ ks) xs → wireKinds (inTurn size w xs F) ≡ joined (length xs) c (λ _. ks)
+unfolding All inTurn joined kindBytes
+in-turn-kinds size w c [] F ks h = refl
+in-turn-kinds size w c (x ∷ xs) F ks h =
     wire-kinds-append (F w x) (inTurn size (w + size) xs F)
-    ∙ ap₂ {A = List ℕ} {B = List ℕ} {C = List ℕ} (λ y z. y ++ z) (h .0 w) (in-turn-kinds size (w + size) xs F ks (h .1))
+    ∙ ap₂ {A = List ℕ} {B = List ℕ} {C = List ℕ} (λ y z. y ++ z) (h .0 w)
+    (in-turn-kinds size (w + size) (suc c) xs F ks (h .1))
 
-pub adding-kinds :
-    (o : ℕ → Origin) (m last next : ℕ) (zs : List ℕ) → wireKinds (adding o m last next zs) ≡ replicate (length zs) 1
+adding-kinds :
+    (o : ℕ → Origin) (m last next : ℕ) (zs : List ℕ) → wireKinds (adding o m last next zs) ≡ ones (length zs)
 unfolding adding kindBytes
 adding-kinds o m last next [] = refl
 adding-kinds o m last next (z ∷ zs) =
     ap {A = List ℕ} {B = List ℕ} (λ y. 1 ∷ y) (adding-kinds o (suc m) next (suc next) zs)
 
-pub row-kinds :
+row-kinds :
     (n g w : ℕ) (a b : List ℕ) (low high : ℕ → ℕ) (i : ℕ) → i < n
     → wireKinds (rowWires g a b (row n low high) w i) ≡ rowKinds n
 unfolding kindBytes
@@ -129,101 +100,47 @@ row-kinds n g w a b low high i h =
     ap {A = List ℕ} {B = List ℕ} (λ y. 2 ∷ y)
     (adding-kinds (λ m. andPart g (sum i m)) 1 w (suc w) (row n low high i) ∙ rw long refl)
 
-pub and-kinds :
-    (n g w : ℕ) (a b : List ℕ)
-    → wireKinds (newWires isw AND n g w a b) ≡ times (tri n) pairKinds ++ times n (rowKinds n)
-unfolding andWires kindBytes
-and-kinds n g w a b =
-    let low = pairWire w (isw .low) in
-    let high = pairWire w (isw .high) in
-    let rows = upFrom n 0 (λ i. i) in
-    let ofPairs = in-turn-kinds 5 w (pairs n) (pairWires isw g a b) pairKinds (all-of _ (λ p v. refl) (pairs n)) in
-    let ofRows = in-turn-kinds n (w + 5 * tri n) rows (rowWires g a b (row n low high)) (rowKinds n)
-    (up-all _ n 0 (λ i. i) (λ i _ h v. row-kinds n g v a b low high i (omega arith))) in
-    wire-kinds-append (inTurn 5 w (pairs n) (pairWires isw g a b)) _
-    ∙ ap₂ {A = List ℕ} {B = List ℕ} {C = List ℕ} (λ y z. y ++ z)
-    (ofPairs ∙ ap (λ (m : ℕ). times m pairKinds) (pairs-length n 0))
-    (ofRows ∙ ap (λ (m : ℕ). times m (rowKinds n)) (up-length n 0 (λ (i : ℕ). i)))
-
 xors-kinds :
     (g m c : ℕ) (a b : List ℕ)
-    → wireKinds (upFrom m c (λ s. wire (gate XOR (share a s) (share b s)) (xorShare g s))) ≡ replicate m 1
+    → wireKinds (upFrom m c (λ s. wire (gate XOR (share a s) (share b s)) (xorShare g s))) ≡ ones m
 unfolding upFrom kindBytes
 xors-kinds g zero c a b = refl
 xors-kinds g (suc m) c a b = ap {A = List ℕ} {B = List ℕ} (λ y. 1 ∷ y) (xors-kinds g m (suc c) a b)
 
-pub xor-kinds : (n g w : ℕ) (a b : List ℕ) → wireKinds (newWires isw XOR n g w a b) ≡ replicate n 1
-xor-kinds n g w a b = xors-kinds g n 0 a b
+pub new-kinds : (k : Kind) (n g w : ℕ) (a b : List ℕ) → wireKinds (newWires isw k n g w a b) ≡ newKinds k n
+unfolding andWires kindBytes
+new-kinds NOT n g w a b = refl
+new-kinds XOR n g w a b = xors-kinds g n 0 a b
+new-kinds AND n g w a b =
+    let low = pairWire w (isw .low) in
+    let high = pairWire w (isw .high) in
+    let rows = upFrom n 0 (λ i. i) in
+    let ofPairs = in-turn-kinds 5 w 0 (pairs n) (pairWires isw g a b) pairKinds (all-of _ (λ p v. refl) (pairs n)) in
+    let ofRows = in-turn-kinds n (w + 5 * tri n) 0 rows (rowWires g a b (row n low high)) (rowKinds n)
+    (up-all _ n 0 (λ i. i) (λ i _ h v. row-kinds n g v a b low high i (omega arith))) in
+    wire-kinds-append (inTurn 5 w (pairs n) (pairWires isw g a b)) _
+    ∙ ap₂ {A = List ℕ} {B = List ℕ} {C = List ℕ} (λ y z. y ++ z)
+    (ofPairs ∙ ap (λ (m : ℕ). joined m 0 (λ _. pairKinds)) (pairs-length n 0))
+    (ofRows ∙ ap (λ (m : ℕ). joined m 0 (λ _. rowKinds n)) (up-length n 0 (λ (i : ℕ). i)))
+new-kinds RANDOM n g w a b = refl
+new-kinds (UNKNOWN c) n g w a b = refl
+
+pub masked-kinds :
+    (n g w : ℕ) (S : List (List ℕ)) (xs : List Gate) → wireKinds (masked isw n g w S xs) ≡ gateKinds n xs
+unfolding masked gateKinds kindBytes
+masked-kinds n g w S [] = refl
+masked-kinds n g w S (x ∷ xs) =
+    wire-kinds-append (newWires isw (x .kind) n g w (getD S (x .left) []) (getD S (x .right) [])) _
+    ∙ ap₂ {A = List ℕ} {B = List ℕ} {C = List ℕ} (λ p q. p ++ q)
+    (new-kinds (x .kind) n g w _ _)
+    (masked-kinds n (suc g) (w + cost (x .kind) n) (S ++ (newShares (x .kind) n w (getD S (x .left) []) ∷ [])) xs)
 
 -- the kinds of a NOT and of an XOR, where the kinds of XOR gates stand already
 pub kinds-head :
     (k n at : ℕ) (b : List ℕ) → k < 3 → (k ≡ 2 → ⊥) → 1 ≤ n → at + cost (kindOf k) n ≤ length b → XorsFrom at b
-    → set b at k ≡ putAt at (wireKinds (newWires isw (kindOf k) n 0 0 [] [])) b
-unfolding kindBytes
-kinds-head zero n at b h e some fits xors = put-set at 0 b (omega arith)
+    → (at < length b) × (set b at k ≡ putAt at (newKinds (kindOf k) n) b)
+kinds-head zero n at b h e some fits xors = (omega arith, put-set at 0 b (omega arith))
 kinds-head (suc zero) zero at b h e some fits xors = absurd (omega arith)
-kinds-head (suc zero) (suc n) at b h e some fits xors = xors-head at n 1 b xors fits ∙ rw (xor-kinds (suc n) 0 0 [] []) refl
+kinds-head (suc zero) (suc n) at b h e some fits xors = (omega arith, xors-head at n 1 b xors fits)
 kinds-head (suc (suc zero)) n at b h e some fits xors = absurd (e refl)
 kinds-head (suc (suc (suc k))) n at b h e some fits xors = absurd (omega arith)
-
-pub kinds-room :
-    (k n at : ℕ) (b : List ℕ) → k < 3 → (k ≡ 2 → ⊥) → 1 ≤ n → at + cost (kindOf k) n ≤ length b → at < length b
-kinds-room zero n at b h e some fits = omega arith
-kinds-room (suc zero) n at b h e some fits = omega arith
-kinds-room (suc (suc zero)) n at b h e some fits = absurd (e refl)
-kinds-room (suc (suc (suc k))) n at b h e some fits = absurd (omega arith)
-
--- the kinds depend on neither wires nor shares
-pub kinds-same :
-    (k : Kind) (n g w : ℕ) (a b : List ℕ) (g' w' : ℕ) (a' b' : List ℕ)
-    → kindBytes (map driverOf (newWires isw k n g w a b)) ≡ kindBytes (map driverOf (newWires isw k n g' w' a' b'))
-unfolding kindBytes
-kinds-same NOT n g w a b g' w' a' b' = refl
-kinds-same XOR n g w a b g' w' a' b' = xor-kinds n g w a b ∙ sym (xor-kinds n g' w' a' b')
-kinds-same AND n g w a b g' w' a' b' = and-kinds n g w a b ∙ sym (and-kinds n g' w' a' b')
-kinds-same RANDOM n g w a b g' w' a' b' = refl
-kinds-same (UNKNOWN c) n g w a b g' w' a' b' = refl
-
-adding-drivers :
-    (o o' : ℕ → Origin) (m m' last next : ℕ) (zs : List ℕ)
-    → map driverOf (adding o m last next zs) ≡ map driverOf (adding o' m' last next zs)
-unfolding adding
-adding-drivers o o' m m' last next [] = refl
-adding-drivers o o' m m' last next (z ∷ zs) =
-    ap {A = List Gate} {B = List Gate} (λ y. gate XOR last z ∷ y)
-    (adding-drivers o o' (suc m) (suc m') next (suc next) zs)
-
-in-turn-drivers :
-    {A : Type 0} (size w : ℕ) (xs : List A) (F F' : ℕ → A → List Wire)
-    → ((v : ℕ) (x : A) → map driverOf (F v x) ≡ map driverOf (F' v x))
-    → map driverOf (inTurn size w xs F) ≡ map driverOf (inTurn size w xs F')
-unfolding inTurn
-in-turn-drivers size w [] F F' h = refl
-in-turn-drivers size w (x ∷ xs) F F' h =
-    simp map-append (rw (h w x, in-turn-drivers size (w + size) xs F F' h) refl)
-
-xors-drivers :
-    (g g' m c : ℕ) (a b : List ℕ)
-    → map driverOf (upFrom m c (λ s. wire (gate XOR (share a s) (share b s)) (xorShare g s)))
-    ≡ map driverOf (upFrom m c (λ s. wire (gate XOR (share a s) (share b s)) (xorShare g' s)))
-unfolding upFrom
-xors-drivers g g' zero c a b = refl
-xors-drivers g g' (suc m) c a b =
-    ap {A = List Gate} {B = List Gate} (λ y. gate XOR (share a c) (share b c) ∷ y) (xors-drivers g g' m (suc c) a b)
-
--- the gates of the new wires do not depend on the plain gate's number
-pub drivers-same :
-    (G : Gadget) (k : Kind) (n g g' w : ℕ) (a b : List ℕ)
-    → map driverOf (newWires G k n g w a b) ≡ map driverOf (newWires G k n g' w a b)
-unfolding andWires
-drivers-same G NOT n g g' w a b = refl
-drivers-same G XOR n g g' w a b = xors-drivers g g' n 0 a b
-drivers-same G AND n g g' w a b =
-    let zs = row n (pairWire w (G .low)) (pairWire w (G .high)) in
-    let ofPairs = in-turn-drivers 5 w (pairs n) (pairWires G g a b) (pairWires G g' a b) (λ v p. refl) in
-    let ofRows = in-turn-drivers n (w + 5 * tri n) (upFrom n 0 (λ i. i)) (rowWires g a b zs) (rowWires g' a b zs)
-    (λ v i. ap {A = List Gate} {B = List Gate} (λ y. gate AND (share a i) (share b i) ∷ y)
-    (adding-drivers (λ m. andPart g (sum i m)) (λ m. andPart g' (sum i m)) 1 1 v (suc v) (zs i))) in
-    simp map-append (rw (ofPairs, ofRows) refl)
-drivers-same G RANDOM n g g' w a b = refl
-drivers-same G (UNKNOWN c) n g g' w a b = refl

@@ -1,6 +1,5 @@
--- Laws that the proofs of writing cite: bytes of gates, and the pieces of a masked gate.
-pub mod Listed
+-- Laws of the wires of shares, the bytes of gates, and the pieces of a masked gate.
+pub mod ShareWires
 pub mod Bytes
 pub mod Pieces
 pub mod GateKinds
-pub mod Drivers

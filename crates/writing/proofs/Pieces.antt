@@ -1,35 +1,22 @@
--- The bytes of a gate's new wires as pieces one after another, as the loops write them.
+-- The operands of a gate's new wires as pieces one after another, as the loops write them; the plain gate's number does not matter.
 -- Assumes nothing.
-use mathlib.Core.Path.{_≡_, refl, sym, ap, _∙_, subst}
-use mathlib.Core.List.{List, [], _∷_, _++_, map, append-assoc}
+use mathlib.Core.Path.{_≡_, refl, sym, ap, ap₂, _∙_, subst}
+use mathlib.Core.List.{List, [], _∷_, _++_, map}
 use Prim.Native.Nat.{ℕ, zero, suc, _+_, _-_, _*_, _≤_, _<_}
 use native.Mathlib.Nat.{zero-add, add-zero}
 use native.Mathlib.Omega.{arith}
-use lib.ListN.{length, getD}
+use lib.ListN.{length, getD, length-append}
 use Rattle.tables.specs.Tables.{XOR, AND, kindOf, gate, two, pairBytes}
 use Rattle.masks.specs.Shares.{upFrom, inTurn, Pair, pairOf, pairs, tri, pairAt, row}
-use Rattle.masks.specs.Gadgets.{Gadget, allFive, iswGates, isw}
-use Rattle.masks.specs.Wires.{
-  Wire,
-  wire,
-  andPart,
-  sum,
-  xorShare,
-  share,
-  pairWires,
-  adding,
-  pairWire,
-  rowWires,
-  andWires,
-  newWires,
-}
+use Rattle.masks.specs.Gadgets.{Gadget, allFive, isw}
+use Rattle.masks.specs.Wires.{Origin, Wire, wire, andPart, sum, xorShare, share, pairWires, adding, pairWire}
+use Rattle.masks.specs.Wires.{rowWires, andWires, newWires}
 use Rattle.writing.specs.declared.Pair as DQ
-use Rattle.writing.specs.Layout.{PairNo, operandBytes, allPairs, sumBytes, highWires, lowWires, rowBytes, allRows}
-use Rattle.writing.proofs.Bytes.{operands-append, operands-long, adding-operands, sums-append, joined}
-use Rattle.masks.proofs.Sum.{up-length, up-plus, up-cong, up-shift}
-use Rattle.masks.proofs.Rows.{pairs-length, pair-at, pair-below, tri-closed, pair-closed, row-length}
-use Rattle.masks.proofs.Each.{in-turn-length}
-use Rattle.masks.proofs.Costs.{adding-length, pairs-span, rows-span}
+use Rattle.writing.specs.Layout.{PairNo, operandBytes, joined, pairOperands, sumOperands, highSums, lowSums}
+use Rattle.writing.specs.Layout.{rowOperands, allRows, andOperands, xorOperands}
+use Rattle.writing.proofs.Bytes.{operands-append, joined-long, joined-same}
+use Rattle.masks.proofs.Sum.{up-length, up-plus, up-shift}
+use Rattle.masks.proofs.Rows.{pairs-length, pair-at, pair-below, tri-closed, pair-closed}
 
 -- blocks of wires for a counted list, from block c on: the block c starts at wire w + size·c
 in-turn-from :
@@ -43,7 +30,7 @@ in-turn-from size w (suc m) s c g F =
     let k : suc (s + c) ≡ s + suc c = omega arith in
     operands-append (F (w + size * c) (g (s + c))) _ ∙ rw (e, k, in-turn-from size w m s (suc c) g F) refl
 
-pub in-turn-joined :
+in-turn-joined :
     {A : Type 0} (size w m s : ℕ) (g : ℕ → A) (F : ℕ → A → List Wire)
     → operandBytes (inTurn size w (upFrom m s g) F) ≡ joined m 0 (λ d. operandBytes (F (w + size * d) (g (s + d))))
 in-turn-joined size w m s g F =
@@ -61,32 +48,19 @@ up-get {A} (x ∷ xs) d =
     ap {A = List A} {B = List A} (λ ys. x ∷ ys)
     (up-get xs d ∙ sym (up-shift (length xs) 0 (λ i. getD (x ∷ xs) i d)))
 
--- the five wires of pair number c
-abbrev pub pairPiece : ℕ → ℕ → List ℕ → List ℕ → ℕ → List ℕ
-pairPiece n w a b c = operandBytes (pairWires isw 0 a b (w + 5 * c) (getD (pairs n) c (pairOf 0 0)))
-
-pub pair-long : (n w : ℕ) (a b : List ℕ) (c : ℕ) → length (pairPiece n w a b c) ≡ 20
-unfolding pairBytes
-pair-long n w a b c = refl
-
-pub all-pairs-joined : (n w : ℕ) (a b : List ℕ) → allPairs n w a b ≡ joined (tri n) 0 (pairPiece n w a b)
-all-pairs-joined n w a b =
-    let d = pairOf 0 0 in
-    let F = pairWires isw 0 a b in
-    let turns = in-turn-joined 5 w (length (pairs n)) 0 (λ c. getD (pairs n) c d) F in
-    ap {A = List Pair} {B = List ℕ} (λ ps. operandBytes (inTurn 5 w ps F)) (up-get (pairs n) d)
-    ∙ (simp zero-add at turns)
-    ∙ ap (λ (m : ℕ). joined m 0 (pairPiece n w a b)) (pairs-length n 0)
-
 -- the piece from the wires that are its operands
 pub pair-piece :
-    {ai bj aj bi n c : ℕ} {p : DQ.Pair} (w : ℕ) (a b : List ℕ) → PairNo n c p → ai ≡ share a (p .i) → bj ≡ share b (p .j)
-    → aj ≡ share a (p .j) → bi ≡ share b (p .i)
-    → pairBytes (map (iswGates (w + 5 * c) ai bj aj bi) allFive) ≡ pairPiece n w a b c
-pair-piece {n = n} {c = c} {p = p} w a b P q r s t =
+    {ai bj aj bi n c : ℕ} {p : DQ.Pair} (G : Gadget) (w : ℕ) (a b : List ℕ) → PairNo n c p → ai ≡ share a (p .i)
+    → bj ≡ share b (p .j) → aj ≡ share a (p .j) → bi ≡ share b (p .i)
+    → pairBytes (map (G .gates (w + 5 * c) ai bj aj bi) allFive) ≡ pairOperands G n w a b c
+pair-piece {n = n} {c = c} {p = p} G w a b P q r s t =
     let d = pairOf 0 0 in
     let here : getD (pairs n) c d ≡ pairOf (p .i) (p .j) = rw (P .place) (pair-at n (p .i) (p .j) d (P .rising) (P .inside) .1) in
     rw (here, q, r, s, t) refl
+
+pub pair-long : (G : Gadget) (n w : ℕ) (a b : List ℕ) (c : ℕ) → length (pairOperands G n w a b c) ≡ 20
+unfolding pairBytes
+pair-long G n w a b c = refl
 
 -- the pairs one after another: those of share i, then those of the next share
 pub pair-first : (n : ℕ) → 0 < tri n → PairNo n 0 (record { i = 0; j = 1 })
@@ -138,44 +112,31 @@ pair-turn {n} {c} {p} P h more =
           );
     }
 
-pub in-turn-append :
-    {A B : Type 0} (size w : ℕ) (xs ys : List A) (F : ℕ → A → List B)
-    → inTurn size w (xs ++ ys) F ≡ inTurn size w xs F ++ inTurn size (w + size * length xs) ys F
-unfolding inTurn
-in-turn-append size w [] ys F =
-    let e : w ≡ w + size * 0 = omega arith in ap (λ (v : ℕ). inTurn size v ys F) e
-in-turn-append size w (x ∷ xs) ys F =
-    let e : w + size + size * length xs ≡ w + size * suc (length xs) = omega arith in
-    rw (in-turn-append size (w + size) xs ys F, e) (sym (append-assoc (F w x) _ _))
+-- a running sum's wires, those of the first sums and those of the others
+adding-append :
+    (o : ℕ → Origin) (m last : ℕ) (xs ys : List ℕ)
+    → operandBytes (adding o m last (suc last) (xs ++ ys))
+    ≡ operandBytes (adding o m last (suc last) xs)
+    ++ operandBytes (adding o (m + length xs) (last + length xs) (suc (last + length xs)) ys)
+unfolding adding pairBytes
+adding-append o m last [] ys = rw (add-zero, add-zero) refl
+adding-append o m last (x ∷ xs) ys =
+    let e : last + suc (length xs) ≡ suc last + length xs = omega arith in
+    let k : m + suc (length xs) ≡ suc m + length xs = omega arith in
+    rw (e, k, adding-append o (suc m) (suc last) xs ys) refl
 
--- few pairs, few shares
-pub tri-more : (n : ℕ) → n ≤ suc (tri n)
-unfolding tri
-tri-more zero = omega arith
-tri-more (suc n) = omega (arith, tri-more n)
+adding-from :
+    (o : ℕ → Origin) (m last c s : ℕ) (z : ℕ → ℕ)
+    → operandBytes (adding o m (last + s) (suc (last + s)) (upFrom c s z)) ≡ joined c s (sumOperands last z)
+unfolding adding joined upFrom pairBytes
+adding-from o m last zero s z = refl
+adding-from o m last (suc c) s z =
+    let e : suc (last + s) ≡ last + suc s = omega arith in rw (e, adding-from o (suc m) last c (suc s) z) refl
 
-pub all-pairs-long : (n w : ℕ) (a b : List ℕ) → length (allPairs n w a b) ≡ 20 * tri n
-all-pairs-long n w a b =
-    operands-long (inTurn 5 w (pairs n) (pairWires isw 0 a b))
-    ∙ omega (
-      arith,
-      in-turn-length 5 w (pairs n) (pairWires isw 0 a b) (pairs-span isw n 0 a b),
-      pairs-length n 0,
-    )
-
--- one sum of a running sum: the wire before it, and the wire that it adds
-abbrev pub sumPiece : ℕ → (ℕ → ℕ) → ℕ → List ℕ
-sumPiece last g c = two (last + c) ++ two (g c)
-
-sums-from :
-    (last m c : ℕ) (g : ℕ → ℕ) → sumBytes (last + c) (upFrom m c g) ≡ joined m c (sumPiece last g)
-unfolding joined upFrom sumBytes
-sums-from last zero c g = refl
-sums-from last (suc m) c g =
-    let e : suc (last + c) ≡ last + suc c = omega arith in rw (e, sums-from last m (suc c) g) refl
-
-pub sums-joined : (last m : ℕ) (g : ℕ → ℕ) → sumBytes last (upFrom m 0 g) ≡ joined m 0 (sumPiece last g)
-sums-joined last m g = rw add-zero at (sums-from last m 0 g)
+adding-joined :
+    (o : ℕ → Origin) (m last c : ℕ) (z : ℕ → ℕ)
+    → operandBytes (adding o m last (suc last) (upFrom c 0 z)) ≡ joined c 0 (sumOperands last z)
+adding-joined o m last c z = rw add-zero at (adding-from o m last c 0 z)
 
 -- z is the wire after the pair (j, i), while there is one, and the first wire of the pair (i, i + 1) where j is i
 abbrev pub Upright : ℕ → ℕ → ℕ → ℕ → ℕ → Type 0
@@ -202,21 +163,20 @@ upright-low n w i j z h k e =
     let end : Upright n w i i z = rw k at e in omega (arith, pair-closed n i (suc i) (omega arith) h)
 
 -- the wires of the pairs (i, j) follow one another
-pub low-wires :
-    (n w i z : ℕ) → (suc i < n → z ≡ pairWire w (isw .low) (pairAt n i (suc i)))
-    → upFrom (n - suc i) (suc i) (λ j. pairWire w (isw .low) (pairAt n i j)) ≡ lowWires (n - suc i) z
-low-wires n w i z e =
-    let g : ℕ → ℕ = λ j. pairWire w (isw .low) (pairAt n i j) in
-    let moved = rw add-zero at (up-plus (n - suc i) (suc i) 0 g) in
-    moved
-    ∙ up-cong (n - suc i) 0 (λ c. g (suc i + c)) (pairWire z (isw .low))
-    (λ c _ h.
-    omega (
+pub low-same :
+    (n w i z v m : ℕ) → m ≡ n - suc i → (suc i < n → z ≡ pairWire w (isw .low) (pairAt n i (suc i)))
+    → joined (n - suc i) 0 (sumOperands v (λ j. pairWire w (isw .low) (pairAt n i (suc i + j)))) ≡ lowSums isw z v m
+low-same n w i z v m e h =
+    rw e
+    (joined-same (n - suc i) 0 _ _
+    (λ c k.
+    ap (λ (y : ℕ). two (v + c) ++ two y)
+    (omega (
       arith,
-      e (omega arith),
+      h (omega arith),
       pair-closed n i (suc i) (omega arith) (omega arith),
       pair-closed n i (suc i + c) (omega arith) (omega arith),
-    ))
+    ))))
 
 pub low-within :
     (n w i z c : ℕ) → z ≡ pairWire w (isw .low) (pairAt n i (suc i)) → suc i + c < n
@@ -229,68 +189,60 @@ low-within n w i z c e h =
       pair-below n i (suc i + c) (omega arith) h,
     )
 
-pub row-bytes :
-    (n w v : ℕ) (a b : List ℕ) (i z : ℕ) → i < n → (suc i < n → z ≡ pairWire w (isw .low) (pairAt n i (suc i)))
-    → rowBytes n w v a b i
-    ≡ (two (share a i) ++ two (share b i)) ++ (sumBytes v (highWires n w i) ++ sumBytes (v + i) (lowWires (n - suc i) z))
+pub row-long : (G : Gadget) (n w v : ℕ) (a b : List ℕ) (i : ℕ) → i < n → length (rowOperands G n w v a b i) ≡ 4 * n
+row-long G n w v a b i h =
+    let high = joined-long 4 i 0 (sumOperands v (λ j. pairWire w (G .high) (pairAt n j i))) (λ _ _. refl) in
+    let low = joined-long 4 (n - suc i) 0 (sumOperands (v + i) (λ j. pairWire w (G .low) (pairAt n i (suc i + j)))) (λ _ _. refl) in
+    omega (
+      arith,
+      length-append (highSums G n w v i)
+          (joined (n - suc i) 0 (sumOperands (v + i) (λ j. pairWire w (G .low) (pairAt n i (suc i + j))))),
+    )
+
+-- the operands of a row's wires
+row-operands :
+    (G : Gadget) (n g w v : ℕ) (a b : List ℕ) (i : ℕ)
+    → operandBytes (rowWires g a b (row n (pairWire w (G .low)) (pairWire w (G .high))) v i) ≡ rowOperands G n w v a b i
 unfolding row pairBytes
-row-bytes n w v a b i z h e =
-    let low = upFrom (n - suc i) (suc i) (λ j. pairWire w (isw .low) (pairAt n i j)) in
-    let long : length (highWires n w i) ≡ i = up-length i 0 _ in
-    let sums : operandBytes (adding (λ m. andPart 0 (sum i m)) 1 v (suc v) (highWires n w i ++ low))
-    ≡ sumBytes v (highWires n w i) ++ sumBytes (v + i) (lowWires (n - suc i) z) =
-    adding-operands _ 1 v (highWires n w i ++ low)
-    ∙ sums-append v (highWires n w i) low
-    ∙ rw (long, low-wires n w i z e) refl in
-    ap {A = List ℕ} {B = List ℕ} (λ y. (two (share a i) ++ two (share b i)) ++ y) sums
-
-pub row-long :
-    (n w v : ℕ) (a b : List ℕ) (i : ℕ) → i < n → length (rowBytes n w v a b i) ≡ 4 * n
-row-long n w v a b i h =
-    let zs = row n (pairWire w (isw .low)) (pairWire w (isw .high)) in
-    operands-long (rowWires 0 a b zs v i)
-    ∙ omega (
-      arith,
-      adding-length (λ m. andPart 0 (sum i m)) 1 v (suc v) (zs i),
-      row-length n (pairWire w (isw .low)) (pairWire w (isw .high)) i h,
-    )
-
-pub all-rows-joined :
-    (n w v : ℕ) (a b : List ℕ) → allRows n w v a b ≡ joined n 0 (λ i. rowBytes n w (v + n * i) a b i)
-all-rows-joined n w v a b =
-    simp zero-add at
-    (in-turn-joined n v n 0 (λ i. i) (rowWires 0 a b (row n (pairWire w (isw .low)) (pairWire w (isw .high)))))
-
-pub all-rows-long : (n w v : ℕ) (a b : List ℕ) → length (allRows n w v a b) ≡ 4 * (n * n)
-all-rows-long n w v a b =
-    let F = rowWires 0 a b (row n (pairWire w (isw .low)) (pairWire w (isw .high))) in
-    operands-long (inTurn n v (upFrom n 0 (λ i. i)) F)
-    ∙ omega (
-      arith,
-      in-turn-length n v (upFrom n 0 (λ i. i)) F (rows-span isw n 0 a b _ _),
-      ap (λ (y : ℕ). n * y) (up-length n 0 (λ (i : ℕ). i)),
-    )
-
--- one share of an XOR
-abbrev pub xorPiece : List ℕ → List ℕ → ℕ → List ℕ
-xorPiece a b s = two (share a s) ++ two (share b s)
+row-operands G n g w v a b i =
+    let o : ℕ → Origin = λ m. andPart g (sum i m) in
+    let high : ℕ → ℕ = λ j. pairWire w (G .high) (pairAt n j i) in
+    let low : ℕ → ℕ = λ j. pairWire w (G .low) (pairAt n i j) in
+    let moved = rw add-zero at (up-plus (n - suc i) (suc i) 0 low) in
+    let long : length (upFrom i 0 high) ≡ i = up-length i 0 high in
+    ap {A = List ℕ} {B = List ℕ} (λ y. (two (share a i) ++ two (share b i)) ++ y)
+    (adding-append o 1 v (upFrom i 0 high) (upFrom (n - suc i) (suc i) low)
+    ∙ rw (long, moved, adding-joined o 1 v i high, adding-joined o (1 + i) (v + i) (n - suc i) (λ j. low (suc i + j))) refl)
 
 xors-from :
     (g m c : ℕ) (a b : List ℕ)
-    → operandBytes (upFrom m c (λ s. wire (gate XOR (share a s) (share b s)) (xorShare g s))) ≡ joined m c (xorPiece a b)
+    → operandBytes (upFrom m c (λ s. wire (gate XOR (share a s) (share b s)) (xorShare g s))) ≡ joined m c (xorOperands a b)
 unfolding joined upFrom pairBytes
 xors-from g zero c a b = refl
 xors-from g (suc m) c a b = rw (xors-from g m (suc c) a b) refl
 
-pub xors-joined :
-    (n g w : ℕ) (a b : List ℕ) → operandBytes (newWires isw XOR n g w a b) ≡ joined n 0 (xorPiece a b)
-xors-joined n g w a b = xors-from g n 0 a b
+pub xor-operands :
+    (G : Gadget) (n g w : ℕ) (a b : List ℕ) → operandBytes (newWires G XOR n g w a b) ≡ joined n 0 (xorOperands a b)
+xor-operands G n g w a b = xors-from g n 0 a b
 
-pub and-bytes :
-    (n w : ℕ) (a b : List ℕ)
-    → operandBytes (newWires isw AND n 0 w a b) ≡ allPairs n w a b ++ allRows n w (w + 5 * tri n) a b
+pub and-operands :
+    (G : Gadget) (n g w : ℕ) (a b : List ℕ) → operandBytes (newWires G AND n g w a b) ≡ andOperands G n w a b
 unfolding andWires
-and-bytes n w a b = operands-append (inTurn 5 w (pairs n) (pairWires isw 0 a b)) _
+and-operands G n g w a b =
+    let d = pairOf 0 0 in
+    let F = pairWires G g a b in
+    let v = w + 5 * tri n in
+    let R = rowWires g a b (row n (pairWire w (G .low)) (pairWire w (G .high))) in
+    let turns = in-turn-joined 5 w (length (pairs n)) 0 (λ c. getD (pairs n) c d) F in
+    let ofPairs : operandBytes (inTurn 5 w (pairs n) F) ≡ joined (tri n) 0 (pairOperands G n w a b) =
+    ap {A = List Pair} {B = List ℕ} (λ ps. operandBytes (inTurn 5 w ps F)) (up-get (pairs n) d)
+    ∙ (simp zero-add at turns)
+    ∙ ap (λ (m : ℕ). joined m 0 (pairOperands G n w a b)) (pairs-length n 0) in
+    let ofRows : operandBytes (inTurn n v (upFrom n 0 (λ i. i)) R) ≡ allRows G n w v a b =
+    (simp zero-add at (in-turn-joined n v n 0 (λ i. i) R))
+    ∙ joined-same n 0 _ _ (λ i _. row-operands G n g w (v + n * i) a b i) in
+    operands-append (inTurn 5 w (pairs n) F) _
+    ∙ ap₂ {A = List ℕ} {B = List ℕ} {C = List ℕ} (λ x y. x ++ y) ofPairs ofRows
 
 -- a byte that is no kind of a plain gate has no new wires
 pub no-wires :

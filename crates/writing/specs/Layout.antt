@@ -1,24 +1,24 @@
--- How the code keeps the wires of a plain wire's shares: share 1 on one wire, the others evenly spaced. And what is written for
--- the new wires of a plain gate: their operands' bytes and their kinds' bytes.
+-- For contracts inside the library only: no promise of a call cites this. How the code keeps the wires of a plain wire's
+-- shares, and what is written for the new wires of a plain gate: their operands' bytes and their kinds' bytes.
 -- Assumes nothing.
 use mathlib.Core.Path.{_≡_}
 use mathlib.Core.List.{List, [], _∷_, _++_, map}
 use Prim.Native.Nat.{ℕ, zero, suc, _+_, _-_, _*_, _≤_, _<_}
-use lib.ListN.{length, drop, replicate}
-use Rattle.tables.specs.Tables.{kindOf, kindBytes, pairBytes, two}
+use lib.ListN.{length, getD, drop, replicate}
+use Rattle.tables.specs.Tables.{Kind, NOT, XOR, AND, RANDOM, UNKNOWN, kindOf, Gate, kindBytes, pairBytes, two}
 use Rattle.writing.specs.declared.Places as DP
 use Rattle.writing.specs.declared.Pair as DQ
-use Rattle.masks.specs.Shares.{upFrom, inTurn, pairs, pairAt, row}
-use Rattle.masks.specs.Gadgets.{isw}
-use Rattle.masks.specs.Wires.{Wire, driverOf, share, pairWires, rowWires, pairWire, cost}
+use Rattle.masks.specs.Shares.{upFrom, pairOf, pairs, tri, pairAt}
+use Rattle.masks.specs.Gadgets.{allFive, Gadget}
+use Rattle.masks.specs.Wires.{Wire, driverOf, share, pairWire, cost}
 
--- share 1 on wire first, share s on wire base + (s − 2)·step
-abbrev pub listed : ℕ → DP.Places → List ℕ
-listed n a = a .first ∷ upFrom (n - 1) 0 (λ s. a .base + s * a .step)
+-- share 1 on wire head, share s on wire base + (s − 2)·step
+abbrev pub shareWires : ℕ → DP.Places → List ℕ
+shareWires n a = a .head ∷ upFrom (n - 1) 0 (λ s. a .base + s * a .step)
 
 -- the wires of n shares are below 65,536
 abbrev pub LowShares : ℕ → DP.Places → Type 0
-LowShares n a = (i : ℕ) → i < n → share (listed n a) i < 65536
+LowShares n a = (i : ℕ) → i < n → share (shareWires n a) i < 65536
 
 -- the operands of wires, as bytes
 abbrev pub operandBytes : List Wire → List ℕ
@@ -28,39 +28,51 @@ operandBytes xs = pairBytes (map driverOf xs)
 abbrev pub wireKinds : List Wire → List ℕ
 wireKinds xs = kindBytes (map driverOf xs)
 
--- the operands of all pairs, from wire w on
-abbrev pub allPairs : ℕ → ℕ → List ℕ → List ℕ → List ℕ
-allPairs n w a b = operandBytes (inTurn 5 w (pairs n) (pairWires isw 0 a b))
+-- c pieces one after another, the first being the piece s
+unfoldable pub joined : ℕ → ℕ → (ℕ → List ℕ) → List ℕ
+joined zero s f = []
+joined (suc c) s f = f s ++ joined c (suc s) f
 
--- the operands of a running sum that adds zs: the first wire reads wire last, each other one the wire before it
-unfoldable pub sumBytes : ℕ → List ℕ → List ℕ
-sumBytes last [] = []
-sumBytes last (z ∷ zs) = (two last ++ two z) ++ sumBytes (suc last) zs
+-- the operands of the five wires of pair number c, where the AND's first wire is w
+abbrev pub pairOperands : Gadget → ℕ → ℕ → List ℕ → List ℕ → ℕ → List ℕ
+pairOperands G n w a b c =
+    let p = getD (pairs n) c (pairOf 0 0) in
+    let i = p .lower in
+    let j = p .upper in
+    pairBytes (map (G .gates (w + 5 * c) (share a i) (share b j) (share a j) (share b i)) allFive)
 
--- the wires that row i adds of the pairs (j, i), j rising, and those of m pairs that follow one another, from wire z on
-abbrev pub highWires : ℕ → ℕ → ℕ → List ℕ
-highWires n w i = upFrom i 0 (λ j. pairWire w (isw .high) (pairAt n j i))
+-- the operands of sum number c of a running sum: the wire before it, and the wire that it adds
+abbrev pub sumOperands : ℕ → (ℕ → ℕ) → ℕ → List ℕ
+sumOperands last z c = two (last + c) ++ two (z c)
 
--- the wires that a row adds of pairs of which it is the lower share
-abbrev pub lowWires : ℕ → ℕ → List ℕ
-lowWires m z = upFrom m 0 (pairWire z (isw .low))
+-- the operands of row i's first sums, which add one wire each of the pairs (j, i), j rising
+abbrev pub highSums : Gadget → ℕ → ℕ → ℕ → ℕ → List ℕ
+highSums G n w last i = joined i 0 (sumOperands last (λ j. pairWire w (G .high) (pairAt n j i)))
 
--- the operands of row i from wire v on, where the AND's first wire is w, and those of all rows
-abbrev pub rowBytes : ℕ → ℕ → ℕ → List ℕ → List ℕ → ℕ → List ℕ
-rowBytes n w v a b i = operandBytes (rowWires 0 a b (row n (pairWire w (isw .low)) (pairWire w (isw .high))) v i)
+-- the operands of m sums that add one wire each of pairs that follow one another, from wire z on
+abbrev pub lowSums : Gadget → ℕ → ℕ → ℕ → List ℕ
+lowSums G z last m = joined m 0 (sumOperands last (pairWire z (G .low)))
 
--- the operands of all rows
-abbrev pub allRows : ℕ → ℕ → ℕ → List ℕ → List ℕ → List ℕ
-allRows n w v a b =
-    operandBytes
-    (inTurn n v (upFrom n 0 (λ i. i)) (rowWires 0 a b (row n (pairWire w (isw .low)) (pairWire w (isw .high)))))
+-- the operands of row i from wire v on: its own product, the sums of the pairs (j, i), those of the pairs (i, j)
+abbrev pub rowOperands : Gadget → ℕ → ℕ → ℕ → List ℕ → List ℕ → ℕ → List ℕ
+rowOperands G n w v a b i =
+    (two (share a i) ++ two (share b i))
+    ++ (highSums G n w v i
+    ++ joined (n - suc i) 0 (sumOperands (v + i) (λ j. pairWire w (G .low) (pairAt n i (suc i + j)))))
 
--- a piece c times over
-unfoldable pub times : ℕ → List ℕ → List ℕ
-times zero xs = []
-times (suc c) xs = xs ++ times c xs
+-- the operands of all rows, from wire v on
+abbrev pub allRows : Gadget → ℕ → ℕ → ℕ → List ℕ → List ℕ → List ℕ
+allRows G n w v a b = joined n 0 (λ i. rowOperands G n w (v + n * i) a b i)
 
--- the kinds of a pair's five wires, and of a row of n wires
+-- the operands of an AND's wires: the pairs, then the rows
+abbrev pub andOperands : Gadget → ℕ → ℕ → List ℕ → List ℕ → List ℕ
+andOperands G n w a b = joined (tri n) 0 (pairOperands G n w a b) ++ allRows G n w (w + 5 * tri n) a b
+
+-- the operands of one share of an XOR
+abbrev pub xorOperands : List ℕ → List ℕ → ℕ → List ℕ
+xorOperands a b s = two (share a s) ++ two (share b s)
+
+-- the kinds of a pair's five wires
 abbrev pub pairKinds : List ℕ
 pairKinds = 3 ∷ 2 ∷ 1 ∷ 2 ∷ 1 ∷ []
 
@@ -68,17 +80,34 @@ pairKinds = 3 ∷ 2 ∷ 1 ∷ 2 ∷ 1 ∷ []
 abbrev pub rowKinds : ℕ → List ℕ
 rowKinds n = 2 ∷ replicate (n - 1) 1
 
+-- the kinds of a plain gate's new wires
+abbrev pub newKinds : Kind → ℕ → List ℕ
+newKinds NOT n = 0 ∷ []
+newKinds XOR n = replicate n 1
+newKinds AND n = joined (tri n) 0 (λ _. pairKinds) ++ joined n 0 (λ _. rowKinds n)
+newKinds RANDOM n = []
+newKinds (UNKNOWN k) n = []
+
+-- the kinds of the new wires of plain gates
+unfoldable pub gateKinds : ℕ → List Gate → List ℕ
+gateKinds n [] = []
+gateKinds n (x ∷ xs) = newKinds (x .kind) n ++ gateKinds n xs
+
 -- from a place on, every byte is the kind of an XOR gate
 abbrev pub XorsFrom : ℕ → List ℕ → Type 0
 XorsFrom at b = drop at b ≡ replicate (length b - at) 1
 
+-- the wires of both operands' n shares are below 65,536
+pub record ReadsShares (n : ℕ) (a b : DP.Places) : Type 0 where
+  pub few : n ≤ 31
+  pub left : LowShares n a
+  pub right : LowShares n b
+
 -- what writing the operands of a plain gate's new wires takes: wires that a field can hold, and room for them
 pub record OperandRoom (kind n w : ℕ) (a b : DP.Places) (at : ℕ) (ops : List ℕ) : Type 0 where
   pub some : 1 ≤ n
+  pub shares : ReadsShares n a b
   pub wires : w + cost (kindOf kind) n ≤ 65536
-  pub left : LowShares n a
-  -- "NOT: one new wire": it reads the left operand alone
-  pub right : 1 ≤ kind → LowShares n b
   pub room : at + 4 * cost (kindOf kind) n ≤ length ops
 
 -- what writing the operands of a pair's five wires takes
@@ -87,12 +116,6 @@ pub record PairRoom (w ai bj aj bi at : ℕ) (ops : List ℕ) : Type 0 where
   pub cross : (ai < 65536) × (bj < 65536)
   pub back : (aj < 65536) × (bi < 65536)
   pub room : at + 20 ≤ length ops
-
--- share i is one of n, and the wires of both operands' shares are below 65,536
-pub record ReadsShares (n i : ℕ) (a b : DP.Places) : Type 0 where
-  pub inside : i < n
-  pub left : LowShares n a
-  pub right : LowShares n b
 
 -- a pair of shares i < j is number c of the pairs of n shares
 pub record PairNo (n c : ℕ) (p : DQ.Pair) : Type 0 where

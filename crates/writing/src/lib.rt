@@ -1,38 +1,44 @@
 // Writing the new wires of one masked gate: their kinds and their operands.
 ghost use mathlib.Core.Path.{_≡_};
-ghost use Prim.Native.Nat.{_+_, _*_, _≤_, _<_, ℕ, suc, _-_};
+ghost use mathlib.Core.List.{_++_, map};
+ghost use Prim.Native.Nat.{_+_, _*_, _≤_, _<_, ℕ, suc};
 ghost use lib.ListN.{length, replicate};
-ghost use Rattle.tables.specs.Tables.{kindOf, two, kindBytes, pairBytes, XOR, AND};
+ghost use Rattle.tables.specs.Inside.{putAt};
+ghost use Rattle.tables.specs.Tables.{kindOf, two, pairBytes, AND};
 ghost use Rattle.masks.specs.Shares.{tri, pairAt};
-ghost use Rattle.masks.specs.Wires.{cost, driverOf, share, pairWire, newWires};
-ghost use Rattle.writing.specs.Layout.{listed, LowShares, OperandRoom, PairRoom, ReadsShares, PairNo, operandBytes, allPairs};
-ghost use Rattle.writing.specs.Layout.{sumBytes, times, highWires, lowWires, rowBytes, allRows, pairKinds, rowKinds, XorsFrom};
-ghost use Rattle.tables.specs.Says.{putAt};
-ghost use mathlib.Core.List.{[], _++_, map};
-ghost use Rattle.masks.specs.Gadgets.{first, allFive, iswGates, isw};
+ghost use Rattle.masks.specs.Gadgets.{first, allFive, isw};
+ghost use Rattle.masks.specs.Wires.{cost, share, pairWire, newWires};
+ghost use Rattle.writing.specs.Layout.{shareWires, ReadsShares, OperandRoom, PairRoom, PairNo, operandBytes, joined, pairOperands};
+ghost use Rattle.writing.specs.Layout.{highSums, lowSums, rowOperands, allRows, andOperands, xorOperands, pairKinds, rowKinds};
+ghost use Rattle.writing.specs.Layout.{newKinds, XorsFrom};
 
-// Where the shares of a plain wire are: share 1 on wire first, share s on wire base + (s − 2)·step.
+// Which of the five wires of a pair (i, j) the rows add: row i the first, row j the fifth.
+const LOW: usize = 0;
+
+const HIGH: usize = 4;
+
+// Where the shares of a plain wire are: share 1 on wire head, share s on wire base + (s − 2)·step.
 pub struct Places {
-    pub first: usize,
+    pub head: usize,
     pub base: usize,
     pub step: usize,
 }
 
 // The wire of share i, counted from 0, for a share that is not the first.
 fn later_wire(a: Places, i: usize) -> usize
-    requires { ⌜ (1 ≤ i) × (share (listed (suc i) a) i < 65536) ⌝ }
-    ensures { λ r. ⌜ (r < 65536) × ((n : ℕ) → i < n → r ≡ share (listed n a) i) ⌝ }
+    requires { ⌜ (1 ≤ i) × (share (shareWires (suc i) a) i < 65536) ⌝ }
+    ensures { λ r. ⌜ (r < 65536) × ((n : ℕ) → i < n → r ≡ share (shareWires n a) i) ⌝ }
 {
     a.base + (i - 1) * a.step
 }
 
 // The wire of share i, counted from 0.
 pub fn share_wire(a: Places, i: usize) -> usize
-    requires { ⌜ share (listed (suc i) a) i < 65536 ⌝ }
-    ensures { λ r. ⌜ (r < 65536) × ((n : ℕ) → i < n → r ≡ share (listed n a) i) ⌝ }
+    requires { ⌜ share (shareWires (suc i) a) i < 65536 ⌝ }
+    ensures { λ r. ⌜ (r < 65536) × ((n : ℕ) → i < n → r ≡ share (shareWires n a) i) ⌝ }
 {
     if i == 0 {
-        return a.first;
+        return a.head;
     }
     later_wire(a, i)
 }
@@ -50,7 +56,7 @@ fn put_gate(ops: &mut [u8], at: usize, left: usize, right: usize)
 fn write_pair(ops: &mut [u8], at: usize, w: usize, ai: usize, bj: usize, aj: usize, bi: usize)
     requires { ⌜ PairRoom w ai bj aj bi at (now ops) ⌝ }
     ensures { λ _. ⌜ now (ops .exit)
-        ≡ putAt at (pairBytes (map (iswGates w ai bj aj bi) allFive)) (now (ops .entry)) ⌝ }
+        ≡ putAt at (pairBytes (map (isw .gates w ai bj aj bi) allFive)) (now (ops .entry)) ⌝ }
 {
     put_gate(ops, at, 0, 0);
     put_gate(ops, at + 4, ai, bj);
@@ -81,11 +87,11 @@ fn next_pair(p: Pair, n: usize) -> Pair
 
 // Writes the operands of all pairs, from wire w on, and returns the wire after them.
 fn write_pairs(ops: &mut [u8], at: usize, w: usize, n: usize, a: Places, b: Places) -> usize
-    requires { ⌜ LowShares n a × LowShares n b × (w + 5 * tri n ≤ 65536) × (at + 20 * tri n ≤ length (now ops)) ⌝ }
+    requires { ⌜ ReadsShares n a b × (w + 5 * tri n ≤ 65536) × (at + 20 * tri n ≤ length (now ops)) ⌝ }
     ensures { λ r. ⌜ (r ≡ w + 5 * tri n)
-        × (now (ops .exit) ≡ putAt at (allPairs n w (listed n a) (listed n b)) (now (ops .entry))) ⌝ }
+        × (now (ops .exit) ≡ putAt at (joined (tri n) 0 (pairOperands isw n w (shareWires n a) (shareWires n b))) (now (ops .entry))) ⌝ }
 {
-    let m = (n * n - n) / 2;
+    let m = masks::pair_count(n);
     let mut p = Pair { i: 0, j: 1 };
     let mut c = 0;
     while c < m {
@@ -104,7 +110,7 @@ fn write_pairs(ops: &mut [u8], at: usize, w: usize, n: usize, a: Places, b: Plac
 // wire z on.
 fn write_low_sums(ops: &mut [u8], at: usize, last: usize, z: usize, m: usize)
     requires { ⌜ (last + m ≤ 65536) × ((c : ℕ) → c < m → pairWire z (isw .low) c < 65536) × (at + 4 * m ≤ length (now ops)) ⌝ }
-    ensures { λ _. ⌜ now (ops .exit) ≡ putAt at (sumBytes last (lowWires m z)) (now (ops .entry)) ⌝ }
+    ensures { λ _. ⌜ now (ops .exit) ≡ putAt at (lowSums isw z last m) (now (ops .entry)) ⌝ }
 {
     let mut c = 0;
     while c < m {
@@ -118,7 +124,7 @@ fn write_low_sums(ops: &mut [u8], at: usize, last: usize, z: usize, m: usize)
 fn write_high_sums(ops: &mut [u8], at: usize, last: usize, w: usize, n: usize, i: usize) -> usize
     requires { ⌜ (i < n) × (last + n ≤ 65536) × (w + 5 * tri n ≤ 65536) × (at + 4 * i ≤ length (now ops)) ⌝ }
     ensures { λ r. ⌜ (suc i < n → r ≡ pairWire w first (pairAt n i (suc i)))
-        × (now (ops .exit) ≡ putAt at (sumBytes last (highWires n w i)) (now (ops .entry))) ⌝ }
+        × (now (ops .exit) ≡ putAt at (highSums isw n w last i) (now (ops .entry))) ⌝ }
 {
     let mut z = w + 5 * i;
     let mut j = 0;
@@ -141,8 +147,8 @@ fn write_row(
     a: Places,
     b: Places,
 )
-    requires { ⌜ ReadsShares n i a b × (v + n ≤ 65536) × (w + 5 * tri n ≤ 65536) × (at + 4 * n ≤ length (now ops)) ⌝ }
-    ensures { λ _. ⌜ now (ops .exit) ≡ putAt at (rowBytes n w v (listed n a) (listed n b) i) (now (ops .entry)) ⌝ }
+    requires { ⌜ ReadsShares n a b × (i < n) × (v + n ≤ 65536) × (w + 5 * tri n ≤ 65536) × (at + 4 * n ≤ length (now ops)) ⌝ }
+    ensures { λ _. ⌜ now (ops .exit) ≡ putAt at (rowOperands isw n w v (shareWires n a) (shareWires n b) i) (now (ops .entry)) ⌝ }
 {
     let ai = share_wire(a, i);
     let bi = share_wire(b, i);
@@ -153,12 +159,11 @@ fn write_row(
 
 // Writes the operands of all rows from wire v on, where the AND's first wire is w.
 fn write_rows(ops: &mut [u8], at: usize, v: usize, w: usize, n: usize, a: Places, b: Places)
-    requires { ⌜ LowShares n a
-        × LowShares n b
+    requires { ⌜ ReadsShares n a b
         × (v + n * n ≤ 65536)
         × (w + 5 * tri n ≤ 65536)
         × (at + 4 * (n * n) ≤ length (now ops)) ⌝ }
-    ensures { λ _. ⌜ now (ops .exit) ≡ putAt at (allRows n w v (listed n a) (listed n b)) (now (ops .entry)) ⌝ }
+    ensures { λ _. ⌜ now (ops .exit) ≡ putAt at (allRows isw n w v (shareWires n a) (shareWires n b)) (now (ops .entry)) ⌝ }
 {
     let mut to = at;
     let mut from = v;
@@ -173,9 +178,8 @@ fn write_rows(ops: &mut [u8], at: usize, v: usize, w: usize, n: usize, a: Places
 
 // Writes the operands of an XOR's wires, share by share.
 fn write_xor(ops: &mut [u8], at: usize, n: usize, a: Places, b: Places)
-    requires { ⌜ LowShares n a × LowShares n b × (at + 4 * n ≤ length (now ops)) ⌝ }
-    ensures { λ _. ⌜ now (ops .exit)
-        ≡ putAt at (operandBytes (newWires isw XOR n 0 0 (listed n a) (listed n b))) (now (ops .entry)) ⌝ }
+    requires { ⌜ ReadsShares n a b × (at + 4 * n ≤ length (now ops)) ⌝ }
+    ensures { λ _. ⌜ now (ops .exit) ≡ putAt at (joined n 0 (xorOperands (shareWires n a) (shareWires n b))) (now (ops .entry)) ⌝ }
 {
     let mut s = 0;
     while s < n {
@@ -188,12 +192,8 @@ fn write_xor(ops: &mut [u8], at: usize, n: usize, a: Places, b: Places)
 
 // Writes the operands of an AND's wires, from wire w on: the pairs, then the rows.
 fn write_and(ops: &mut [u8], at: usize, w: usize, n: usize, a: Places, b: Places)
-    requires { ⌜ LowShares n a
-        × LowShares n b
-        × (w + cost AND n ≤ 65536)
-        × (at + 4 * cost AND n ≤ length (now ops)) ⌝ }
-    ensures { λ _. ⌜ now (ops .exit)
-        ≡ putAt at (operandBytes (newWires isw AND n 0 w (listed n a) (listed n b))) (now (ops .entry)) ⌝ }
+    requires { ⌜ ReadsShares n a b × (w + cost AND n ≤ 65536) × (at + 4 * cost AND n ≤ length (now ops)) ⌝ }
+    ensures { λ _. ⌜ now (ops .exit) ≡ putAt at (andOperands isw n w (shareWires n a) (shareWires n b)) (now (ops .entry)) ⌝ }
 {
     let v = write_pairs(ops, at, w, n, a, b);
     write_rows(ops, at + 4 * (v - w), v, w, n, a, b);
@@ -210,8 +210,8 @@ pub fn write_operands_of(
     at: usize,
 )
     requires { ⌜ OperandRoom kind n w a b at (now ops) ⌝ }
-    ensures { λ _. ⌜ now (ops .exit)
-        ≡ putAt at (pairBytes (map driverOf (newWires isw (kindOf kind) n 0 w (listed n a) (listed n b)))) (now (ops .entry)) ⌝ }
+    ensures { λ _. ⌜ ((g : ℕ) → now (ops .exit)
+        ≡ putAt at (operandBytes (newWires isw (kindOf kind) n g w (shareWires n a) (shareWires n b))) (now (ops .entry))) ⌝ }
 {
     if kind == 2 {
         write_and(ops, at, w, n, a, b);
@@ -238,7 +238,7 @@ fn put_pair_kinds(kinds: &mut [u8], at: usize)
 // Writes the kinds of m pairs.
 fn write_pair_kinds(kinds: &mut [u8], at: usize, m: usize)
     requires { ⌜ at + 5 * m ≤ length (now kinds) ⌝ }
-    ensures { λ _. ⌜ now (kinds .exit) ≡ putAt at (times m pairKinds) (now (kinds .entry)) ⌝ }
+    ensures { λ _. ⌜ now (kinds .exit) ≡ putAt at (joined m 0 (λ _. pairKinds)) (now (kinds .entry)) ⌝ }
 {
     let mut c = 0;
     while c < m {
@@ -259,23 +259,15 @@ pub fn write_xor_kinds(kinds: &mut [u8], at: usize, m: usize)
     }
 }
 
-// Writes the kinds of a row: its own product, then the sums, where the kinds of XOR gates stand already.
-fn write_row_kinds(kinds: &mut [u8], at: usize, n: usize)
-    requires { ⌜ (1 ≤ n) × (at + n ≤ length (now kinds)) × XorsFrom at (now kinds) ⌝ }
-    ensures { λ _. ⌜ now (kinds .exit) ≡ putAt at (rowKinds n) (now (kinds .entry)) ⌝ }
-{
-    kinds[at] = 2;
-}
-
-// Writes the kinds of all rows.
+// Writes the kinds of all rows, each its own product and then the sums, where the kinds of XOR gates stand already.
 fn write_rows_kinds(kinds: &mut [u8], at: usize, n: usize)
     requires { ⌜ (at + n * n ≤ length (now kinds)) × XorsFrom at (now kinds) ⌝ }
-    ensures { λ _. ⌜ now (kinds .exit) ≡ putAt at (times n (rowKinds n)) (now (kinds .entry)) ⌝ }
+    ensures { λ _. ⌜ now (kinds .exit) ≡ putAt at (joined n 0 (λ _. rowKinds n)) (now (kinds .entry)) ⌝ }
 {
     let mut to = at;
     let mut i = 0;
     while i < n {
-        write_row_kinds(kinds, to, n);
+        kinds[to] = 2;
         to += n;
         i += 1;
     }
@@ -283,20 +275,18 @@ fn write_rows_kinds(kinds: &mut [u8], at: usize, n: usize)
 
 // Writes the kinds of an AND's wires: the pairs, then the rows.
 fn write_and_kinds(kinds: &mut [u8], at: usize, n: usize)
-    requires { ⌜ (at + cost AND n ≤ length (now kinds)) × XorsFrom at (now kinds) ⌝ }
-    ensures { λ _. ⌜ now (kinds .exit)
-        ≡ putAt at (times (tri n) pairKinds ++ times n (rowKinds n)) (now (kinds .entry)) ⌝ }
+    requires { ⌜ (n ≤ 31) × (at + cost AND n ≤ length (now kinds)) × XorsFrom at (now kinds) ⌝ }
+    ensures { λ _. ⌜ now (kinds .exit) ≡ putAt at (newKinds AND n) (now (kinds .entry)) ⌝ }
 {
-    let m = (n * n - n) / 2;
+    let m = masks::pair_count(n);
     write_pair_kinds(kinds, at, m);
     write_rows_kinds(kinds, at + 5 * m, n);
 }
 
 // Writes the kinds of a plain gate's new wires, where the kinds of XOR gates stand already.
 pub fn write_kinds_of(kind: u8, n: usize, kinds: &mut [u8], at: usize)
-    requires { ⌜ (kind < 3) × (1 ≤ n) × (at + cost (kindOf kind) n ≤ length (now kinds)) × XorsFrom at (now kinds) ⌝ }
-    ensures { λ _. ⌜ now (kinds .exit)
-        ≡ putAt at (kindBytes (map driverOf (newWires isw (kindOf kind) n 0 0 [] []))) (now (kinds .entry)) ⌝ }
+    requires { ⌜ (kind < 3) × (1 ≤ n) × (n ≤ 31) × (at + cost (kindOf kind) n ≤ length (now kinds)) × XorsFrom at (now kinds) ⌝ }
+    ensures { λ _. ⌜ now (kinds .exit) ≡ putAt at (newKinds (kindOf kind) n) (now (kinds .entry)) ⌝ }
 {
     if kind == 2 {
         write_and_kinds(kinds, at, n);
@@ -304,8 +294,3 @@ pub fn write_kinds_of(kind: u8, n: usize, kinds: &mut [u8], at: usize)
     }
     kinds[at] = kind;
 }
-
-// Which of the five wires of a pair (i, j) the rows add: row i the first, row j the fifth.
-const LOW: usize = 0;
-
-const HIGH: usize = 4;

@@ -48,7 +48,7 @@ fn by_number(folder: &Folder) -> Result<(), String> {
     let others = [
         (random, "refused 7 at gate 1: "),
         (and_chain(2_731), "refused 8: "),
-        (vec![1; 458_747], "refused 9: "),
+        (vec![1; 458_747], "refused 1: "),
     ];
     for (table, told) in faulty().into_iter().chain(others) {
         folder.write("table", &table)?;

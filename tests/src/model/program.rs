@@ -5,8 +5,6 @@ use super::{AND, NOT, Refusal, XOR, forecast, mask};
 
 /// The longest input, the order byte included, that the forecast program takes.
 const MOST_FORECAST: usize = 65_536;
-/// The longest table, and an order byte before it.
-const MOST_MASK: usize = 1 + 6 + 5 * 65_534 + 2 * 65_535;
 
 /// The line of a refusal, with its line feed.
 fn refused(number: u8, place: u32) -> String {
@@ -40,9 +38,6 @@ pub fn forecast_line(input: &[u8]) -> String {
 
 /// The masked table that the mask program writes for an input, or the line of its refusal.
 pub fn masked(input: &[u8]) -> Result<Vec<u8>, String> {
-    if input.len() > MOST_MASK {
-        return Err(refused(9, 0));
-    }
     let (order, table) = order_and_table(input);
     let mut out = vec![0; forecast(table, order)?.bytes as usize];
     mask(table, order, &mut out)?;

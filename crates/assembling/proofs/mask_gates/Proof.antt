@@ -2,25 +2,17 @@
 -- Assumes nothing.
 use native.Mathlib.Omega.{arith}
 use borrow.Author.Needs.{needs}
-use Rattle.assembling.proofs.Assembled.{
-  kindsBack,
-  operandsBack,
-  plan-numbers,
-  kinds-asked,
-  operands-asked,
-  outputs-asked,
-  kinds-kept,
-  operands-kept,
-  parts-back,
-}
+use Rattle.sizing.proofs.Planning.{plan-fits}
+use Rattle.assembling.proofs.Assembled.{parts-start, kinds-asked, kinds-back, operands-asked, operands-back}
+use Rattle.assembling.proofs.Assembled.{outputs-asked, outputs-back}
 use Rattle.assembling.proofs.mask_gates.Statement.{statement}
 use Rattle.assembling.proofs.mask_gates.Tie as tie
 
 mul-w : tie.Need-mul-w
-mul-w c = let m = plan-numbers (c .before .before .before .before .before .before .pre .0) in omega arith
+mul-w c = let m = plan-fits (c .before .before .before .before .before .before .pre .0) in omega (arith, m .inputs, m .wires)
 
 sub-g : tie.Need-sub-g
-sub-g c = plan-numbers (c .before .before .before .before .before .before .before .pre .0) .inputs
+sub-g c = plan-fits (c .before .before .before .before .before .before .before .pre .0) .inputs
 
 add-write-kinds : tie.Need-add-write-kinds
 add-write-kinds c = search needs
@@ -36,8 +28,9 @@ part-write-kinds-end c = search needs
 
 write-kinds-requires : tie.Need-write-kinds-requires
 write-kinds-requires c κs =
-    let pre = c .before .before .before .before .before .before .before .before .pre in
-    kinds-asked (pre .0) (pre .1) (c .before .before .before .before .before .before .before .before .args .out .now) (pre .2)
+    let s = c .before .before .before .before .before .before .before .before in
+    let R = s .pre .0 in
+    (R, omega arith, omega arith, kinds-asked R (parts-start R (s .args .out .now) (s .pre .2)))
 
 add-write-operands : tie.Need-add-write-operands
 add-write-operands c = search needs
@@ -59,19 +52,18 @@ part-write-operands-end c = search needs
 
 write-operands-requires : tie.Need-write-operands-requires
 write-operands-requires c κs =
-    let pre = c .before .before .before .before .before .before .before .before .before .before .before .before .pre in
-    let kept = kinds-kept (pre .0) (pre .1)
-    (c .before .before .before .before .before .before .before .before .before .before .before .before .args .out .now) (pre .2)
-    (c .before .before .before .write-kinds .ensures) in
-    operands-asked (pre .0) (pre .1) _ kept
+    let s = c .before .before .before .before .before .before .before .before .before .before .before .before in
+    let R = s .pre .0 in
+    let asked = operands-asked R (kinds-back R (parts-start R (s .args .out .now) (s .pre .2)) (c .before .before .before .write-kinds .ensures)) in
+    (R, s .pre .1, omega arith, omega arith, asked .0, asked .1)
 
 mul-write-outputs : tie.Need-mul-write-outputs
-mul-write-outputs c = let m = plan-numbers
-    (c .before .before .before .before .before .before .before .before .before .before .before .before .before .before .before .pre .0) in omega arith
+mul-write-outputs c = let m = plan-fits (c .before .before .before .before .before .before .before .before .before .before .before .before
+    .before .before .before .pre .0) in omega (arith, m .wires)
 
 add-write-outputs : tie.Need-add-write-outputs
-add-write-outputs c = let m = plan-numbers
-    (c .before .before .before .before .before .before .before .before .before .before .before .before .before .before .before .pre .0) in omega arith
+add-write-outputs c = let m = plan-fits (c .before .before .before .before .before .before .before .before .before .before .before .before
+    .before .before .before .pre .0) in omega (arith, m .wires)
 
 sub-write-outputs : tie.Need-sub-write-outputs
 sub-write-outputs c = search needs
@@ -84,31 +76,24 @@ part-write-outputs-end c = search needs
 
 write-outputs-requires : tie.Need-write-outputs-requires
 write-outputs-requires c κs =
-    let pre = c .before .before .before .before .before .before .before .before .before .before .before .before .before .before .before .before .pre in
-    let kept = kinds-kept (pre .0) (pre .1)
-    (c .before .before .before .before .before .before .before .before .before .before .before .before .before .before .before .before .args .out .now)
-    (pre .2) (c .before .before .before .before .before .before .before .write-kinds .ensures) in
-    let kept₂ = operands-kept (pre .0) (pre .1) _ kept (c .before .before .before .write-operands .ensures) in
-    let p = c .before .before .before .before .before .before .before .before .before .before .before .before .before .before .before .before .args .p in
-    let x = c .before .before .before .before .before .before .before .write-kinds .last .1 .1 .1 .1 .0 in
-    let y = c .before .before .before .write-operands .last .1 .1 .1 .1 .1 .1 .1 .1 .1 .0 in
-    outputs-asked (pre .0) (pre .1) (operandsBack p (kindsBack p
-    (c .before .before .before .before .before .before .before .before .before .before .before .before .before .before .before .before
-    .args .out .now) x) y) kept₂
+    let s = c .before .before .before .before .before .before .before .before .before .before .before .before .before .before .before .before in
+    let R = s .pre .0 in
+    let kinds = kinds-back R (parts-start R (s .args .out .now) (s .pre .2)) (c .before .before .before .before .before .before .before
+    .write-kinds .ensures) in
+    (R, s .pre .1, outputs-asked R (operands-back R kinds (c .before .before .before .write-operands .ensures)))
 
 same-length : tie.Need-same-length
 same-length c = search needs
 
 returns : tie.Need-returns
 returns c =
-    let pre = c .before .before .before .before .before .before .before .before .before .before .before .before .before .before .before
-    .before .before .before .before .pre in
-    parts-back (pre .0) (pre .1)
-    (c .before .before .before .before .before .before .before .before .before .before .before .before .before .before .before .before
-    .before .before .before .args .out .now)
-    (pre .2)
-    (c .before .before .before .before .before .before .before .before .before .before .write-kinds .ensures)
-    (c .before .before .before .before .before .before .write-operands .ensures) (c .before .before .write-outputs .ensures)
+    let s = c .before .before .before .before .before .before .before .before .before .before .before .before .before .before .before .before
+    .before .before .before in
+    let R = s .pre .0 in
+    let kinds = kinds-back R (parts-start R (s .args .out .now) (s .pre .2)) (c .before .before .before .before .before .before .before .before
+    .before .before .write-kinds .ensures) in
+    outputs-back R (operands-back R kinds (c .before .before .before .before .before .before .write-operands .ensures)) (c .before .before
+    .write-outputs .ensures)
 
 pub mask-gates-spec : {M : Type 1} → statement M
 mask-gates-spec =

@@ -5,7 +5,8 @@ use Prim.Native.Nat.{ℕ}
 use native.Mathlib.Omega.{arith}
 use lib.ListN.{length-replicate}
 use borrow.Author.Needs.{needs}
-use Rattle.assembling.proofs.Fitting.{room-of, plan-plain}
+use Rattle.placing.proofs.Turns.{plan-sized}
+use Rattle.assembling.proofs.Assembled.{room-of}
 use Rattle.assembling.proofs.mask_large.Statement.{statement}
 use Rattle.assembling.proofs.mask_large.Tie as tie
 
@@ -21,8 +22,11 @@ slice-aggregate-mask-with-3 c = sym (length-replicate {A = ℕ} 65536 0)
 mask-with-requires : tie.Need-mask-with-requires
 mask-with-requires c κs = let pre = c .before .before .before .before .before .before .pre in (
   pre .0,
-  room-of _ 65536 (omega
-      (arith, plan-plain (pre .0))),
+  room-of _ 65536 (omega (
+    arith,
+    plan-sized
+        (pre .0) .plain,
+  )),
   pre .1,
 )
 

@@ -1,13 +1,13 @@
--- `assembling::mask_lean` meets its contract, for a tiny table and for any other.
+-- `assembling::mask_lean` meets its contract: a tiny table, and any other.
 -- Assumes nothing.
 use native.Mathlib.Omega.{arith}
 use borrow.Author.Needs.{needs}
-use Rattle.assembling.proofs.Fitting.{plan-plain}
+use Rattle.placing.proofs.Turns.{plan-sized}
 use Rattle.assembling.proofs.mask_lean.Statement.{statement}
 use Rattle.assembling.proofs.mask_lean.Tie as tie
 
 add-if1 : tie.Need-add-if1
-add-if1 c = omega (arith, plan-plain (c .before .before .before .pre .0))
+add-if1 c = omega (arith, plan-sized (c .before .before .before .pre .0) .plain)
 
 mask-tiny-requires : tie.Need-mask-tiny-requires
 mask-tiny-requires c κs = let pre = c .before .before .before .before .before .pre in (pre .0, c .before .if1 .taken, pre .1)

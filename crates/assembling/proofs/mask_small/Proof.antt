@@ -2,10 +2,9 @@
 -- Assumes nothing.
 use mathlib.Core.Path.{sym}
 use Prim.Native.Nat.{ℕ}
-use native.Mathlib.Omega.{arith}
 use lib.ListN.{length-replicate}
 use borrow.Author.Needs.{needs}
-use Rattle.assembling.proofs.Fitting.{room-of}
+use Rattle.assembling.proofs.Assembled.{room-of}
 use Rattle.assembling.proofs.mask_small.Statement.{statement}
 use Rattle.assembling.proofs.mask_small.Tie as tie
 

@@ -2,7 +2,8 @@
 -- Assumes nothing.
 use native.Mathlib.Omega.{arith}
 use borrow.Author.Needs.{needs}
-use Rattle.assembling.proofs.Assembled.{plan-numbers, whole-back}
+use Rattle.sizing.proofs.Planning.{plan-fits}
+use Rattle.assembling.proofs.Assembled.{plan-located, whole-back}
 use Rattle.assembling.proofs.mask_with.Statement.{statement}
 use Rattle.assembling.proofs.mask_with.Tie as tie
 
@@ -10,40 +11,40 @@ locate-requires : tie.Need-locate-requires
 locate-requires c κs = let pre = c .before .before .before .before .before .before .before .before .pre in (pre .0, pre .1)
 
 mul-inputs : tie.Need-mul-inputs
-mul-inputs c = let m = plan-numbers
-    (c .before .before .before .before .before .before .before .before .before .before .before .before .before .before .before .before .pre .0) in omega
-    (arith, m .inputs, m .wires)
+mul-inputs c = let m = plan-fits (c .before .before .before .before .before .before .before .before .before .before .before .before .before
+    .before .before .before .pre .0) in omega (arith, m .inputs, m .wires)
 
 sub-put-sizes : tie.Need-sub-put-sizes
-sub-put-sizes c = plan-numbers
-    (c .before .before .before .before .before .before .before .before .before .before .before .before .before .before .before .before
-    .before .before .pre .0) .inputs
+sub-put-sizes c = plan-fits (c .before .before .before .before .before .before .before .before .before .before .before .before .before .before
+    .before .before .before .before .pre .0) .inputs
 
 mul-put-sizes : tie.Need-mul-put-sizes
-mul-put-sizes c = let m = plan-numbers
-    (c .before .before .before .before .before .before .before .before .before .before .before .before .before .before .before .before
-    .before .before .before .pre .0) in omega
-    (arith, m .outputs)
+mul-put-sizes c = omega (
+  arith,
+  plan-fits (c .before .before .before .before .before .before .before .before .before .before .before .before
+      .before .before .before .before .before .before .before .pre .0) .outputs,
+)
 
 put-sizes-requires : tie.Need-put-sizes-requires
-put-sizes-requires c κs = let m = plan-numbers
-    (c .before .before .before .before .before .before .before .before .before .before .before .before .before .before .before .before
-    .before .before .before .pre .0) in omega (
-      arith,
-      m .inputs,
-      m .wires,
-      m .outputs,
-      c .before .before .before .before .before .before .before .before .before .before .before
-          .before .before .before .before .before .before .before .before .pre .2,
-    )
+put-sizes-requires c κs =
+    let pre = c .before .before .before .before .before .before .before .before .before .before .before .before .before .before .before .before
+    .before .before .before .pre in
+    let m = plan-fits (pre .0) in
+    omega (arith, m .inputs, m .wires, m .outputs, pre .2)
 
 mask-gates-requires : tie.Need-mask-gates-requires
-mask-gates-requires c κs = let pre = c .before .before .before .before .before .before .before .before .before .before .before .before
-    .before .before .before .before .before .before .before .before .before .before .before .before .before .before .pre in (
+mask-gates-requires c κs =
+    let pre = c .before .before .before .before .before .before .before .before .before .before .before .before .before .before .before .before
+    .before .before .before .before .before .before .before .before .before .before .pre in (
       pre .0,
-      c .before .before .before .before .before .before .before .before .before .before .before .before .before .before .before .before .before .locate .ensures,
-      omega
-          (arith, pre .2, c .before .before .before .before .before .before .put-sizes .kept .0),
+      plan-located (pre .0) (pre .1) (c .before .before .before .before .before .before .before .before .before .before .before .before
+          .before .before .before .before .before .locate .ensures),
+      omega (
+        arith,
+        pre .2,
+        c .before .before .before .before .before .before .put-sizes
+            .kept .0,
+      ),
     )
 
 same-length : tie.Need-same-length
@@ -59,10 +60,9 @@ same-length-4 : tie.Need-same-length-4
 same-length-4 c = search needs
 
 returns : tie.Need-returns
-returns c = let pre = c .before .before .before .before .before .before .before .before .before .before .before .before .before .before
-    .before .before .before .before .before .before .before .before .before .before .before .before .before .before .before .pre in whole-back
-    (pre .0) _ (pre .2) (c .before .before .before .before .before .before .before .before .before .put-sizes .ensures)
-    (c .before .before .mask-gates .ensures)
+returns c = let pre = c .before .before .before .before .before .before .before .before .before .before .before .before .before .before .before
+    .before .before .before .before .before .before .before .before .before .before .before .before .before .before .pre in whole-back (pre .0) _
+    (pre .2) (c .before .before .before .before .before .before .before .before .before .put-sizes .ensures) (c .before .before .mask-gates .ensures)
 
 pub mask-with-spec : {M : Type 1} → statement M
 mask-with-spec =

@@ -1,7 +1,11 @@
 -- `assembling::put_sizes` meets its contract: three fields, one after the other.
 -- Assumes nothing.
+use mathlib.Core.Path.{refl}
+use mathlib.Core.List.{_++_}
+use native.Mathlib.Omega.{arith}
 use borrow.Author.Needs.{needs}
-use Rattle.assembling.proofs.Assembled.{sizes-put}
+use Rattle.tables.specs.Tables.{two}
+use Rattle.tables.proofs.Put.{put-then}
 use Rattle.assembling.proofs.put_sizes.Statement.{statement}
 use Rattle.assembling.proofs.put_sizes.Tie as tie
 
@@ -19,13 +23,20 @@ same-length c = search needs
 
 returns : tie.Need-returns
 returns c =
-    let a = c .before .before .before .before .before .before .before .before .before .before .before .before .before .args in
-    sizes-put (a .inputs) (a .gates) (a .outputs) (a .out .now)
-    (c .before .before .before .before .before .before .before .before .before .before .before .before .before .pre .0)
-    (c .before .before .before .before .before .before .before .before .before .before .put-field .ensures)
-    (c .before .before .before .before .before .before .put-field2 .ensures) (c .before .before .put-field3 .ensures)
+    let s = c .before .before .before .before .before .before .before .before .before .before .before .before .before in
+    let a = s .args in
+    let two-fields = put-then 0 (two (a .inputs)) (two (a .gates)) (a .out .now) (omega (arith, s .pre .0)) (c .before .before .before .before
+    .before .before .before .before .before .before .put-field .ensures) refl
+    (c .before .before .before .before .before .before .put-field2 .ensures) in
+    put-then 0 (two (a .inputs) ++ two (a .gates)) (two (a .outputs)) (a .out .now) (omega (arith, s .pre .0)) two-fields refl
+    (c .before .before .put-field3 .ensures)
 
 pub put-sizes-spec : {M : Type 1} → statement M
 put-sizes-spec =
     tie.close
-    (tie.spec put-field-requires put-field-requires-2 put-field-requires-3 same-length returns)
+    (tie.spec
+    put-field-requires
+    put-field-requires-2
+    put-field-requires-3
+    same-length
+    returns)

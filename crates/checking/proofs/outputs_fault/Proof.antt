@@ -3,46 +3,38 @@
 use Prim.Native.Nat.{_-_}
 use native.Mathlib.Numerals.{add-one}
 use native.Mathlib.Omega.{arith}
-use Rattle.tables.proofs.Answers.{refused-is}
-use Rattle.checking.proofs.Checks.{
-  OutputsGood,
-  outputs-good-start,
-  outputs-good-step,
-  outputs-good-found,
-  outputs-good-end,
-}
+use Rattle.tables.specs.Tables.{tableOf}
+use Rattle.tables.proofs.Accept.{outputs-are}
+use Rattle.tables.proofs.Answers.{refused-same}
+use Rattle.checking.proofs.Checks.{OutputsGood, outputs-good-start, outputs-good-step, outputs-good-found}
+use Rattle.checking.proofs.Checks.{outputs-good-end}
 use Rattle.checking.proofs.outputs_fault.Statement.{statement}
 use Rattle.checking.proofs.outputs_fault.Tie as tie
 
 abbrev Inv-loop : tie.InvT-loop
-Inv-loop table start outputs wires o₀ o = OutputsGood table start outputs wires o
+Inv-loop table gates outputs wires o₀ o = OutputsGood (tableOf table) wires o
 
 abbrev μ-loop : tie.MeasureT-loop
-μ-loop table start outputs wires o₀ o = outputs - o
+μ-loop table gates outputs wires o₀ o = outputs - o
 
 loop-holds : tie.Need-loop-holds Inv-loop μ-loop
-loop-holds c = outputs-good-start _ _ _ _
+loop-holds c = outputs-good-start _ _
 
-mul-field : tie.Need-mul-field Inv-loop μ-loop
-mul-field c = omega arith
+output-at-requires : tie.Need-output-at-requires Inv-loop μ-loop
+output-at-requires c κs = (c .before .before .before .pre .0, c .loop-test .taken)
 
-add-field : tie.Need-add-field Inv-loop μ-loop
-add-field c = omega arith
-
-field-requires : tie.Need-field-requires Inv-loop μ-loop
-field-requires c κs = omega arith
-
-cast-place : tie.Need-cast-place Inv-loop μ-loop
-cast-place c = omega arith
+refuse-requires : tie.Need-refuse-requires Inv-loop μ-loop
+refuse-requires c κs = omega arith
 
 returns : tie.Need-returns Inv-loop μ-loop
 returns c =
-    refused-is _ _
-    (outputs-good-found
-    (c .before .before .before .loop .inv)
-    (c .before .before .loop-test .taken)
-    (c .before .field .ensures .0)
-    (omega arith))
+    let p = c .before .before .before in
+    refused-same
+    (outputs-good-found (p .before .loop .inv)
+    (omega (arith, p .loop-test .taken, outputs-are (p .before .before .before .pre .0)))
+    (c .before .before .output-at .ensures .0)
+    (omega (arith, c .before .if1 .taken)))
+    (c .refuse .ensures)
 
 add-o : tie.Need-add-o Inv-loop μ-loop
 add-o c = omega arith
@@ -52,15 +44,22 @@ loop-less c = omega arith
 
 loop-again : tie.Need-loop-again Inv-loop μ-loop
 loop-again c =
+    let p = c .before .before in
     rw add-one
-    (outputs-good-step
-    (c .before .before .before .loop .inv)
-    (c .before .before .loop-test .taken)
-    (c .before .field .ensures .0)
-    (omega arith))
+    (outputs-good-step (p .before .loop .inv)
+    (omega (arith, p .loop-test .taken, outputs-are (p .before .before .before .pre .0)))
+    (c .before .output-at .ensures .0)
+    (omega (arith, c .if1 .left)))
+
+refuse-requires-2 : tie.Need-refuse-requires-2 Inv-loop μ-loop
+refuse-requires-2 c κs = omega arith
 
 returns-2 : tie.Need-returns-2 Inv-loop μ-loop
-returns-2 c = refused-is _ _ (outputs-good-end (c .before .loop .inv) (c .loop-test .left))
+returns-2 c =
+    let p = c .before in
+    refused-same
+    (outputs-good-end (p .before .loop .inv) (omega (arith, p .loop-test .left, outputs-are (p .before .before .before .pre .0))))
+    (c .refuse2 .ensures)
 
 pub outputs-fault-spec : {M : Type 1} → statement M
 outputs-fault-spec =
@@ -69,12 +68,11 @@ outputs-fault-spec =
     Inv-loop
     μ-loop
     loop-holds
-    mul-field
-    add-field
-    field-requires
-    cast-place
+    output-at-requires
+    refuse-requires
     returns
     add-o
     loop-less
     loop-again
+    refuse-requires-2
     returns-2)

@@ -2,93 +2,121 @@
 -- answers.
 -- Assumes nothing.
 use native.Mathlib.Omega.{arith}
-use Rattle.tables.proofs.Answers.{refused-is}
-use Rattle.checking.proofs.Checks.{table-sizes, table-gates, table-outputs}
 use borrow.Author.Needs.{needs}
+use Rattle.tables.proofs.Accept.{sizes-good}
+use Rattle.tables.proofs.Answers.{refused-same, first-of, second-of}
+use Rattle.checking.proofs.Checks.{table-short, table-sizes, table-long, table-rest}
 use Rattle.checking.proofs.table_fault.Statement.{statement}
 use Rattle.checking.proofs.table_fault.Tie as tie
 
-sizes-number-requires : tie.Need-sizes-number-requires
-sizes-number-requires c κs = tt
+refuse-requires : tie.Need-refuse-requires
+refuse-requires c κs = search needs
 
 returns : tie.Need-returns
-returns c = refused-is _ _ (table-sizes (c .before .sizes-number .ensures) (c .if1 .taken))
+returns c = refused-same (table-short _ (c .before .if1 .taken)) (c .refuse .ensures)
 
 field-requires : tie.Need-field-requires
-field-requires c κs = omega (arith, c .before .sizes-number .ensures .sized (c .if1 .left) .long)
+field-requires c κs = search needs
 
 field-requires-2 : tie.Need-field-requires-2
-field-requires-2 c κs = omega (arith, c .before .before .sizes-number .ensures .sized (c .before .if1 .left) .long)
+field-requires-2 c κs = search needs
 
 field-requires-3 : tie.Need-field-requires-3
-field-requires-3 c κs =
-    let sized = c .before .before .before .sizes-number .ensures .sized (c .before .before .if1 .left) in
-    omega (arith, sized .long)
+field-requires-3 c κs = search needs
 
-gates-fault-requires : tie.Need-gates-fault-requires
-gates-fault-requires c κs =
-    let passes = c .before .before .before .if1 .left in
-    let sized = c .before .before .before .before .sizes-number .ensures .sized passes in
-    let inputs = c .before .before .field .ensures .0 in
-    let gates = c .before .field2 .ensures .0 in
-    (omega (arith, sized .long), omega (arith, sized .few-wires))
+add-if2 : tie.Need-add-if2
+add-if2 c = search needs
+
+refuse-requires-2 : tie.Need-refuse-requires-2
+refuse-requires-2 c κs = search needs
 
 returns-2 : tie.Need-returns-2
 returns-2 c =
-    table-gates
-    (c .before .before .before .before .before .before .before .sizes-number .ensures)
-    (c .before .before .before .before .before .before .if1 .left)
-    (c .before .before .before .before .before .field .ensures .0)
-    (c .before .before .before .before .field2 .ensures .0)
-    (c .before .before .before .field3 .ensures .0)
-    (c .before .before .gates-fault .result)
-    (c .before .before .gates-fault .ensures)
-    (c .if2 .taken)
+    let p = c .before .before in
+    let f = p .before .before in
+    let s = f .before .before .before .args .table .now in
+    refused-same
+    (table-sizes s (f .before .if1 .left) (f .field .ensures .0) (p .before .field2 .ensures .0) (p .field3 .ensures .0)
+    (c .before .if2 .taken))
+    (c .refuse2 .ensures)
 
-mul-outputs-fault : tie.Need-mul-outputs-fault
-mul-outputs-fault c = search needs
+mul-if3 : tie.Need-mul-if3
+mul-if3 c = search needs
+
+add-if3 : tie.Need-add-if3
+add-if3 c = search needs
+
+mul-if3-2 : tie.Need-mul-if3-2
+mul-if3-2 c = search needs
+
+add-if3-2 : tie.Need-add-if3-2
+add-if3-2 c = search needs
+
+refuse-requires-3 : tie.Need-refuse-requires-3
+refuse-requires-3 c κs = search needs
+
+returns-3 : tie.Need-returns-3
+returns-3 c =
+    let p = c .before .before .before in
+    let f = p .before .before in
+    let s = f .before .before .before .args .table .now in
+    refused-same
+    (table-long s (f .before .if1 .left) (f .field .ensures .0) (p .before .field2 .ensures .0) (p .field3 .ensures .0)
+    (c .before .before .if2 .left) (c .before .if3 .taken))
+    (c .refuse3 .ensures)
+
+gates-fault-requires : tie.Need-gates-fault-requires
+gates-fault-requires c κs =
+    let p = c .before .before in
+    let sizes = sizes-good (p .before .before .field .result) (p .before .field2 .result) (p .field3 .result) (c .before .if2 .left) in
+    (record { stated = p .before .field2 .ensures .0; long = omega arith; few = omega arith }, sizes .1 .1)
+
+returns-4 : tie.Need-returns-4
+returns-4 c =
+    let p = c .before .before .before .before .before in
+    let f = p .before .before in
+    let s = f .before .before .before .args .table .now in
+    refused-same
+    (table-rest s (f .before .if1 .left) (f .field .ensures .0) (p .before .field2 .ensures .0) (p .field3 .ensures .0)
+    (c .before .before .before .before .if2 .left) (c .before .before .before .if3 .left))
+    (first-of _ (c .before .before .gates-fault .ensures) (c .if4 .taken))
 
 add-outputs-fault : tie.Need-add-outputs-fault
 add-outputs-fault c = search needs
 
-add-outputs-fault-2 : tie.Need-add-outputs-fault-2
-add-outputs-fault-2 c = search needs
-
 outputs-fault-requires : tie.Need-outputs-fault-requires
-outputs-fault-requires c κs =
-    let passes = c .before .before .before .before .before .before .if1 .left in
-    let sized = c .before .before .before .before .before .before .before .sizes-number .ensures .sized passes in
-    let gates = c .before .before .before .before .field2 .ensures .0 in
-    let outputs = c .before .before .before .field3 .ensures in
-    (omega (arith, sized .long), omega arith)
+outputs-fault-requires c κs = search needs
 
-returns-3 : tie.Need-returns-3
-returns-3 c =
-    table-outputs
-    (c .before .before .before .before .before .before .before .before .sizes-number .ensures)
-    (c .before .before .before .before .before .before .before .if1 .left)
-    (c .before .before .before .before .before .before .field .ensures .0)
-    (c .before .before .before .before .before .field2 .ensures .0)
-    (c .before .before .before .before .field3 .ensures .0)
-    (c .before .before .before .gates-fault .result)
-    (c .before .before .before .gates-fault .ensures)
-    (c .before .if2 .left)
-    (c .outputs-fault .result)
-    (c .outputs-fault .ensures)
+returns-5 : tie.Need-returns-5
+returns-5 c =
+    let p = c .before .before .before .before .before .before in
+    let f = p .before .before in
+    let s = f .before .before .before .args .table .now in
+    refused-same
+    (table-rest s (f .before .if1 .left) (f .field .ensures .0) (p .before .field2 .ensures .0) (p .field3 .ensures .0)
+    (c .before .before .before .before .before .if2 .left) (c .before .before .before .before .if3 .left))
+    (second-of (c .before .before .before .gates-fault .ensures) (c .before .if4 .left) (c .outputs-fault .ensures))
 
 pub table-fault-spec : {M : Type 1} → statement M
 table-fault-spec =
     tie.close
     (tie.spec
-    sizes-number-requires
+    refuse-requires
     returns
     field-requires
     field-requires-2
     field-requires-3
-    gates-fault-requires
+    add-if2
+    refuse-requires-2
     returns-2
-    mul-outputs-fault
+    mul-if3
+    add-if3
+    mul-if3-2
+    add-if3-2
+    refuse-requires-3
+    returns-3
+    gates-fault-requires
+    returns-4
     add-outputs-fault
-    add-outputs-fault-2
     outputs-fault-requires
-    returns-3)
+    returns-5)

@@ -1,9 +1,11 @@
 -- `encoding::encode_all` meets its contract. The loop's invariant: the encoding of the secrets from i on is left to write.
 -- Assumes nothing.
+use mathlib.Core.Path.{refl}
 use Prim.Native.Nat.{_+_, _-_, _*_, _≤_, _<_}
 use native.Mathlib.Omega.{arith}
 use lib.ListN.{length}
-use Rattle.encoding.proofs.Encoding.{Encoding, encoding-start, encoding-fits, encoding-turn, encoding-end}
+use Rattle.encoding.proofs.Encoding.{Encoding, encoding-start, encoding-long, encoding-fits, encoding-turn}
+use Rattle.encoding.proofs.Encoding.{encoding-end}
 use Rattle.encoding.proofs.encode_all.Statement.{statement}
 use Rattle.encoding.proofs.encode_all.Tie as tie
 
@@ -25,7 +27,7 @@ fits :
     → let a = c .before .before .before .before .before .args in
     (c .before .loop .from + 2 * a .order ≤ length (a .tape .now))
     × (c .before .loop .at + 2 * a .order < length (c .before .loop .out))
-fits c = encoding-fits (c .before .loop .inv) (c .loop-test .taken)
+fits c = encoding-fits (c .before .loop .inv) (c .loop-test .taken) refl
 
 tape-bit-requires : tie.Need-tape-bit-requires Inv-loop μ-loop
 tape-bit-requires c κs = omega arith
@@ -43,7 +45,10 @@ add-at : tie.Need-add-at Inv-loop μ-loop
 add-at c = omega arith
 
 add-at-2 : tie.Need-add-at-2 Inv-loop μ-loop
-add-at-2 c = omega (arith, fits (c .before .before .before .before .before))
+add-at-2 c =
+    let d = c .before .before .before .before .before in
+    let p = d .before .before .before .before .before .pre in
+    omega (arith, fits d, encoding-long (d .before .loop .inv) (p .1) (p .2))
 
 add-i : tie.Need-add-i Inv-loop μ-loop
 add-i c = omega arith
@@ -58,7 +63,9 @@ loop-again c =
     (c .before .before .encode-one .ensures)
 
 same-length : tie.Need-same-length Inv-loop μ-loop
-same-length c = omega arith
+same-length c =
+    let p = c .before .before .before .before .before .pre in
+    encoding-long (c .before .loop .inv) (p .1) (p .2)
 
 returns : tie.Need-returns Inv-loop μ-loop
 returns c = encoding-end (c .before .loop .inv) (c .loop-test .left)

@@ -17,7 +17,7 @@ mul-bits : tie.Need-mul-bits Inv-loop μ-loop
 mul-bits c = omega arith
 
 loop-holds : tie.Need-loop-holds Inv-loop μ-loop
-loop-holds c = copying-start _ _ _ _ _ _ (c .before .before .pre .3)
+loop-holds c = let p = c .before .before .pre in copying-start (p .0) (p .1) _ (p .3)
 
 add-tape-bit : tie.Need-add-tape-bit Inv-loop μ-loop
 add-tape-bit c = omega arith
@@ -41,7 +41,7 @@ loop-again : tie.Need-loop-again Inv-loop μ-loop
 loop-again c =
     let p = c .before .before .before .before .before .pre in
     let test = c .before .loop-test .taken in
-    copying-turn (c .before .before .loop .inv) (p .0) (p .1) test (p .4) (c .tape-bit .ensures)
+    copying-turn (p .0) (p .1) (c .before .before .loop .inv) test (p .4) (c .tape-bit .ensures)
 
 add-out-2 : tie.Need-add-out-2 Inv-loop μ-loop
 add-out-2 c = omega arith
@@ -55,7 +55,7 @@ same-length c = simp length-set (omega arith)
 returns : tie.Need-returns Inv-loop μ-loop
 returns c =
     let p = c .before .before .before .before .pre in
-    copying-end (c .before .loop .inv) (p .0) (p .1) (c .loop-test .left)
+    copying-end (p .0) (p .1) (c .before .loop .inv) (c .loop-test .left)
 
 pub encode-one-spec : {M : Type 1} → statement M
 encode-one-spec =

@@ -2,9 +2,11 @@
 -- Assumes nothing.
 use native.Mathlib.Omega.{arith}
 use lib.ListN.{length}
-use Rattle.tables.proofs.Answers.{refused-passed}
-use Rattle.encoding.proofs.CodeFaults.{EncodePassed, encode-passed}
-use Rattle.encoding.proofs.Encoding.{encode-refuses, encode-succeeds}
+use borrow.Author.Needs.{needs}
+use Rattle.tables.proofs.Answers.{refused-passed, writes-refused, writes-done}
+use Rattle.masks.specs.Codes.{encode}
+use Rattle.masks.proofs.Codes.{encode-length}
+use Rattle.masks.proofs.CodeFaults.{EncodePassed, encode-passed}
 use Rattle.encoding.proofs.encode_secrets.Statement.{statement}
 use Rattle.encoding.proofs.encode_secrets.Tie as tie
 
@@ -13,50 +15,48 @@ accepted :
     (c : tie.Else1)
     → let a = c .before .before .before .before .before .before .args in
     EncodePassed (a .order) (a .secrets .now) (a .tape .now) (length (a .out .now))
-accepted c =
-    let a = c .before .before .before .before .before .before .args in
-    encode-passed (a .order) (a .secrets .now) (a .tape .now) (length (a .out .now))
-    (refused-passed _ _ (c .before .before .encode-fault .ensures) (c .if1 .left))
+accepted c = encode-passed _ _ _ _ (refused-passed (c .before .before .encode-fault .ensures) (c .if1 .left))
 
 encode-fault-requires : tie.Need-encode-fault-requires
-encode-fault-requires c κs = tt
+encode-fault-requires c κs = search needs
 
 refused-requires : tie.Need-refused-requires
-refused-requires c κs = tt
+refused-requires c κs = search needs
 
 returns : tie.Need-returns
 returns c =
-    rw (c .refused .ensures)
-    (encode-refuses (c .before .before .before .encode-fault .ensures) (c .before .if1 .taken))
+    rw (c .refused .ensures) (writes-refused _ _ (c .before .before .before .encode-fault .ensures) (c .before .if1 .taken))
 
 encode-all-requires : tie.Need-encode-all-requires
 encode-all-requires c κs =
-    let P = accepted (c .before) in
-    (P .order .1, P .long, P .fits, P .secrets, P .tape)
+    let P = accepted (c .before) in (P .order .1, P .long, P .fits, P .secrets, P .tape)
 
-mul-t7 : tie.Need-mul-t7
-mul-t7 c = omega arith
+mul-done : tie.Need-mul-done
+mul-done c = search needs
 
-add-t12 : tie.Need-add-t12
-add-t12 c = omega arith
+add-done : tie.Need-add-done
+add-done c = search needs
 
-mul-t14 : tie.Need-mul-t14
-mul-t14 c =
-    let P = accepted (c .before .before .before .before) in
-    omega (arith, P .few)
+mul-done-2 : tie.Need-mul-done-2
+mul-done-2 c = omega (arith, accepted (c .before .before .before .before) .few)
 
-cast-t15 : tie.Need-cast-t15
-cast-t15 c =
-    let P = accepted (c .before .before .before .before) in
-    omega (arith, P .few)
+cast-done : tie.Need-cast-done
+cast-done c = omega (arith, accepted (c .before .before .before .before) .few)
+
+done-requires : tie.Need-done-requires
+done-requires c κs = search needs
 
 same-length : tie.Need-same-length
-same-length c = omega arith
+same-length c = search needs
 
 returns-2 : tie.Need-returns-2
 returns-2 c =
-    let P = accepted (c .before .before .before .before) in
-    encode-succeeds P (c .before .before .encode-all .ensures)
+    let p = c .before .before .before .before .before in
+    let a = p .before .before .before .before .before .before .args in
+    let long = encode-length (a .order) (a .secrets .now) (a .tape .now) (accepted p .long) in
+    rw (c .done .ensures)
+    (writes-done (encode (a .order) (a .secrets .now) (a .tape .now)) (a .out .now) (p .before .before .encode-fault .ensures)
+    (p .if1 .left) (omega (arith, long)) (c .before .before .before .encode-all .ensures))
 
 pub encode-secrets-spec : {M : Type 1} → statement M
 encode-secrets-spec =
@@ -66,9 +66,10 @@ encode-secrets-spec =
     refused-requires
     returns
     encode-all-requires
-    mul-t7
-    add-t12
-    mul-t14
-    cast-t15
+    mul-done
+    add-done
+    mul-done-2
+    cast-done
+    done-requires
     same-length
     returns-2)

@@ -3,6 +3,7 @@
 use borrow.Author.Needs.{needs}
 use mathlib.Core.Path.{sym}
 use lib.Seq.{length-take-le}
+use Rattle.text.proofs.Writing.{all-fits}
 use Rattle.forecast.proofs.main.Statement.{statement}
 use Rattle.forecast.proofs.main.Tie as tie
 
@@ -25,10 +26,12 @@ forecast-line-requires : tie.Need-forecast-line-requires
 forecast-line-requires c κs = search needs
 
 array-share-prefix-line : tie.Need-array-share-prefix-line
-array-share-prefix-line c = search needs
+array-share-prefix-line c = all-fits (c .before .forecast-line .ensures .line)
 
 slice-aggregate-write-all : tie.Need-slice-aggregate-write-all
-slice-aggregate-write-all c = sym (length-take-le _ _ (search needs))
+slice-aggregate-write-all c =
+    let put = c .before .before in
+    sym (length-take-le _ _ (all-fits (put .forecast-line .ensures .line)))
 
 write-all-requires : tie.Need-write-all-requires
 write-all-requires c κs = search needs

@@ -1,25 +1,52 @@
 -- `listing::put_gate` meets its contract: the wire, then the rest of the line.
 -- Assumes nothing.
-use Rattle.listing.proofs.Pieces.{puts-gate}
+use mathlib.Core.List.{_∷_}
+use native.Mathlib.Omega.{arith}
+use lib.ListN.{length-append}
+use Rattle.tables.specs.Tables.{kindOf}
+use Rattle.text.specs.Text.{decimal, lineOf}
+use Rattle.text.proofs.Writing.{next-room, puts-then}
+use Rattle.listing.specs.Listing.{equalsWord, kindWords}
 use borrow.Author.Needs.{needs}
 use Rattle.listing.proofs.put_gate.Statement.{statement}
 use Rattle.listing.proofs.put_gate.Tie as tie
 
-put-wire-requires : tie.Need-put-wire-requires
-put-wire-requires c κs = search needs
+slice-aggregate-put-number : tie.Need-slice-aggregate-put-number
+slice-aggregate-put-number c = search needs
+
+put-number-requires : tie.Need-put-number-requires
+unfolding lineOf
+put-number-requires c κs =
+    let start = c .before .before .before in
+    omega (
+      arith,
+      start .pre .1,
+      length-append (decimal (start .args .wire))
+          (32 ∷ lineOf equalsWord (kindWords (kindOf (start .args .kind)) (start .args .left) (start .args .right))),
+    )
 
 put-kind-requires : tie.Need-put-kind-requires
-put-kind-requires c κs = search needs
+unfolding lineOf
+put-kind-requires c κs =
+    let put = c .before .before .before in
+    let start = put .before .before .before .before in (
+      start .pre .0,
+      next-room (32 ∷ lineOf equalsWord (kindWords (kindOf (start .args .kind)) (start .args .left) (start .args .right)))
+          (start .pre .1) (put .put-number .ensures),
+    )
 
 same-length : tie.Need-same-length
 same-length c = search needs
 
 returns : tie.Need-returns
+unfolding lineOf
 returns c =
-    let start = c .before .before .before .before .before .before .before .before .before in
-    puts-gate (start .args .wire) (start .args .kind) (start .args .left) (start .args .right) (start .pre .0)
-    (c .before .before .before .before .before .before .put-wire .ensures)
-    (c .before .before .put-kind .ensures)
+    let put = c .before .before .before .before .before .before in
+    let start = put .before .before .before .before in
+    puts-then (32 ∷ lineOf equalsWord (kindWords (kindOf (start .args .kind)) (start .args .left) (start .args .right))) (start .pre .1)
+    (put .put-number .ensures) (c .before .before .put-kind .ensures)
 
 pub put-gate-spec : {M : Type 1} → statement M
-put-gate-spec = tie.close (tie.spec put-wire-requires put-kind-requires same-length returns)
+put-gate-spec =
+    tie.close
+    (tie.spec slice-aggregate-put-number put-number-requires put-kind-requires same-length returns)

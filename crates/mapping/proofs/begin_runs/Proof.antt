@@ -1,13 +1,7 @@
 -- `mapping::begin_runs` meets its contract: the second encoding takes the front of the mapped tape.
 -- Assumes nothing.
 use native.Mathlib.Omega.{arith}
-use Rattle.mapping.proofs.Working.{
-  encode-first,
-  flips-taken,
-  taken-long,
-  encode-second,
-  begun-says,
-}
+use Rattle.mapping.proofs.Working.{encode-first, flips-taken, taken-long, encode-second, begun-says}
 use Rattle.mapping.proofs.begin_runs.Statement.{statement}
 use Rattle.mapping.proofs.begin_runs.Tie as tie
 
@@ -28,16 +22,14 @@ slice-reshare-prefix-encode-all c =
 
 slice-aggregate-encode-all : tie.Need-slice-aggregate-encode-all
 slice-aggregate-encode-all c =
-    let b =
-    c .before .before .before .before .before .before .before .before .before .before .before .before .before .before .before in
-    taken-long (b .pre) (b .args .k) (c .before .before .before .flip-inputs .ensures)
+    let q = c .before .before .before .before .before .before .before .before .before .before .before .before in
+    taken-long (q .before .before .before .pre) _ (c .before .before .before .flip-inputs .ensures)
 
 encode-all-requires-2 : tie.Need-encode-all-requires-2
 encode-all-requires-2 c κs =
-    let b = c .before .before .before .before .before .before .before .before .before .before .before .before .before .before
-    .before .before in
-    encode-second (b .pre) (b .args .k) (flips-taken (b .pre) (b .args .k)
-    (c .before .before .before .before .flip-inputs .ensures))
+    let q = c .before .before .before .before .before .before .before .before .before .before .before .before in
+    let pre = q .before .before .before .before .pre in
+    encode-second pre _ (flips-taken pre _ (c .before .before .before .before .flip-inputs .ensures))
 
 same-length : tie.Need-same-length
 same-length c = c .before .before .before .before .before .before .mapped .given

@@ -9,12 +9,12 @@ use Rattle.mapping.proofs.map_large.Statement.{statement}
 use Rattle.mapping.proofs.map_large.Tie as tie
 
 slice-aggregate-map-with : tie.Need-slice-aggregate-map-with
-slice-aggregate-map-with c = sym (length-replicate {A = ℕ} 458751 0)
+slice-aggregate-map-with c = sym (length-replicate {A = ℕ} 458746 0)
 
 map-with-requires : tie.Need-map-with-requires
 map-with-requires c κs =
     let W = c .before .before .before .before .before .before .before .before .before .before .before .pre in
-    (W, room-at _ 458751 (bytes-few (W .plan)))
+    (W, room-at _ 458746 (bytes-few (W .plan)))
 
 same-length : tie.Need-same-length
 same-length c = search needs

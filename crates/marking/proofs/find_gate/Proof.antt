@@ -1,68 +1,74 @@
 -- `marking::find_gate` meets its contract. The invariant, `Seeking`, says that the wire is among the new wires of the gates left.
 -- Assumes nothing.
-use Prim.Native.Nat.{_+_, _-_, _/_}
+use Prim.Native.Nat.{_-_}
+use mathlib.Core.Path.{_∙_}
 use native.Mathlib.Omega.{arith}
-use lib.ListN.{getD}
-use Rattle.tables.specs.Tables.{word, kindOf}
+use lib.ListN.{length}
+use Rattle.tables.specs.Tables.{kindOf, tableOf}
+use Rattle.tables.proofs.Accept.{gates-of-length, has-gates}
 use Rattle.masks.proofs.Figures.{cost-small}
-use Rattle.marking.proofs.Ready.{ready-shares, ready-wires, ready-inputs, ready-kinds}
+use Rattle.sizing.proofs.Planning.{plan-passed, plan-fits}
 use Rattle.marking.proofs.Finding.{Seeking, seek-start, seek-some, seek-turn, seek-end}
 use Rattle.marking.proofs.find_gate.Statement.{statement}
 use Rattle.marking.proofs.find_gate.Tie as tie
 
 abbrev Inv-loop : tie.InvT-loop
-Inv-loop table wire n first₀ g₀ first g = Seeking table (n / 2) n (word table 2) wire g first
+Inv-loop table wire n gates start₀ g₀ start g = Seeking (tableOf table) n wire g start
 
 abbrev μ-loop : tie.MeasureT-loop
-μ-loop table wire n first₀ g₀ first g = word table 2 - g
+μ-loop table wire n gates start₀ g₀ start g = length (tableOf table .gates) - g
 
-mul-first : tie.Need-mul-first Inv-loop μ-loop
-mul-first c = omega (arith, ready-inputs _ _ _ (c .before .before .pre .0), ready-wires _ _ _ (c .before .before .pre .0))
+mul-start : tie.Need-mul-start Inv-loop μ-loop
+mul-start c = record { fits = omega (arith, plan-fits (c .before .before .pre .0) .inputs, plan-fits (c .before .before .pre .0) .wires) }
 
 loop-holds : tie.Need-loop-holds Inv-loop μ-loop
 loop-holds c = seek-start (c .before .before .pre .0) (c .before .before .pre .1) (c .before .before .pre .2)
 
-add-kind : tie.Need-add-kind Inv-loop μ-loop
-add-kind c = omega (arith, seek-some (c .loop .inv), ready-kinds _ _ _ (c .before .before .before .pre .0))
-
-shared-slice-read-kind : tie.Need-shared-slice-read-kind Inv-loop μ-loop
-shared-slice-read-kind c =
-    let b = c .before in omega (arith, seek-some (b .loop .inv), ready-kinds _ _ _ (b .before .before .before .pre .0))
+gate-at-requires : tie.Need-gate-at-requires Inv-loop μ-loop
+gate-at-requires c κs =
+    let R = c .before .before .before .pre .0 in
+    (has-gates _ (plan-passed R .table) (R .gates ∙ gates-of-length _), omega (arith, seek-some (c .loop .inv), R .gates))
 
 gate-cost-requires : tie.Need-gate-cost-requires Inv-loop μ-loop
-gate-cost-requires c κs = ready-shares _ _ _ (c .before .before .before .before .pre .0)
+gate-cost-requires c κs = plan-fits (c .before .before .before .before .pre .0) .shares
 
 add-next : tie.Need-add-next Inv-loop μ-loop
 add-next c =
-    let s = c .before .before .before .before .before .args .table .now in
-    let kind = kindOf (getD s (6 + c .before .before .loop .g) 0) in
-    omega (
-      arith,
-      c .gate-cost .ensures,
-      cost-small kind _ (ready-shares _ _ _ (c .before .before .before .before .before .pre .0)),
-      c .before .before .loop .inv .past,
-      c .before .before .before .before .before .pre .2,
-      ready-wires _ _ _ (c .before .before .before .before .before .pre .0),
-    )
+    let p = c .before .before .before .before .before in
+    let F = plan-fits (p .pre .0) in
+    let few = cost-small (kindOf (c .before .gate-at .result .kind)) (p .args .p .shares) (F .shares) in
+    record { fits = omega (arith, c .gate-cost .ensures, few, c .before .before .loop .inv .past, p .pre .2, F .wires) }
 
-sub-t13 : tie.Need-sub-t13 Inv-loop μ-loop
-sub-t13 c = c .before .before .before .loop .inv .past
+sub-t12 : tie.Need-sub-t12 Inv-loop μ-loop
+sub-t12 c = c .before .before .before .loop .inv .past
 
 returns : tie.Need-returns Inv-loop μ-loop
 returns c =
-    let b = c .before .before .before in
-    seek-end (b .loop .inv) (b .before .before .before .pre .0 .shares) _ (c .before .gate-cost .ensures) (c .if1 .taken)
+    seek-end (c .before .before .before .loop .inv) (c .before .before .before .before .before .before .pre .0 .shares)
+    (c .before .before .gate-at .ensures .kind)
+    (c .before .gate-cost .ensures)
+    (c .if1 .taken)
 
 add-g : tie.Need-add-g Inv-loop μ-loop
 add-g c =
-    let b = c .before .before .before in
-    omega (arith, seek-some (b .loop .inv), ready-kinds _ _ _ (b .before .before .before .pre .0))
+    record {
+      fits = omega (
+        arith,
+        seek-some (c .before .before .before .loop .inv),
+        c .before .before .before .before .before .before .pre .0 .gates,
+        gates-of-length (c .before .before .before .before .before .before .args .table .now),
+        plan-fits
+            (c .before .before .before .before .before .before .pre .0) .wires,
+      );
+    }
 
 loop-less : tie.Need-loop-less Inv-loop μ-loop
 loop-less c = omega (arith, seek-some (c .before .before .before .loop .inv))
 
 loop-again : tie.Need-loop-again Inv-loop μ-loop
-loop-again c = seek-turn (c .before .before .before .loop .inv) _ (c .before .gate-cost .ensures) (c .if1 .left)
+loop-again c =
+    seek-turn (c .before .before .before .loop .inv) (c .before .before .gate-at .result .kind) (c .before .before .gate-at .ensures .kind)
+    (c .before .gate-cost .ensures) (c .if1 .left)
 
 pub find-gate-spec : {M : Type 1} → statement M
 find-gate-spec =
@@ -70,13 +76,12 @@ find-gate-spec =
     (tie.spec
     Inv-loop
     μ-loop
-    mul-first
+    mul-start
     loop-holds
-    add-kind
-    shared-slice-read-kind
+    gate-at-requires
     gate-cost-requires
     add-next
-    sub-t13
+    sub-t12
     returns
     add-g
     loop-less

@@ -2,16 +2,8 @@
 -- Assumes nothing.
 use native.Mathlib.Omega.{arith}
 use borrow.Author.Needs.{needs}
-use Rattle.marking.proofs.Carrying.{
-  pair-among,
-  first-marks,
-  middle-marks,
-  last-marks,
-  own-among,
-  own-marks,
-  sum-among,
-  sum-marks,
-}
+use Rattle.marking.proofs.Carrying.{pair-among, first-marks, middle-marks, last-marks, own-among, own-marks}
+use Rattle.marking.proofs.Carrying.{sum-among, sum-marks}
 use Rattle.marking.proofs.part_marks.Statement.{statement}
 use Rattle.marking.proofs.part_marks.Tie as tie
 

@@ -4,7 +4,7 @@ use mathlib.Core.Path.{sym}
 use Prim.Native.Nat.{ℕ, _^_}
 use lib.ListN.{length-replicate}
 use lib.Seq.{length-take-le}
-use Rattle.masking.proofs.Input.{input-fits}
+use Rattle.tables.proofs.Answers.{writes-fits}
 use borrow.Author.Needs.{needs, fits-under}
 use Rattle.mask.proofs.main.Statement.{statement}
 use Rattle.mask.proofs.main.Tie as tie
@@ -41,13 +41,11 @@ cast-long c = fits-under _ _ (2 ^ 32) (c .struct-known3 .given .1 .1 .0 .fits) t
 
 array-share-prefix-masked : tie.Need-array-share-prefix-masked
 array-share-prefix-masked c =
-    let answer = c .before .before .before .before in
-    input-fits (answer .mask-input .ensures) (answer .mask-input .kept .1 .0)
+    writes-fits (c .before .before .before .before .mask-input .ensures)
 
 slice-aggregate-write-all : tie.Need-slice-aggregate-write-all
 slice-aggregate-write-all c =
-    let answer = c .before .before .before .before .before in
-    sym (length-take-le _ _ (input-fits (answer .mask-input .ensures) (answer .mask-input .kept .1 .0)))
+    sym (length-take-le _ _ (writes-fits (c .before .before .before .before .before .mask-input .ensures)))
 
 write-all-requires : tie.Need-write-all-requires
 write-all-requires c κs = search needs

@@ -12,7 +12,9 @@ slice-aggregate-put-refusal : tie.Need-slice-aggregate-put-refusal
 slice-aggregate-put-refusal c = search needs
 
 put-refusal-requires : tie.Need-put-refusal-requires
-put-refusal-requires c κs = search needs
+put-refusal-requires c κs =
+    let args = c .before .args in
+    omega (arith, refusal-long (args .number) (args .place))
 
 array-share-prefix-line : tie.Need-array-share-prefix-line
 array-share-prefix-line c =

@@ -1,13 +1,9 @@
 -- `masking::mask_table` meets its contract: the plan's refusal, 9, or the masked table.
 -- Assumes nothing.
-use mathlib.Core.Path.{subst}
 use native.Mathlib.Omega.{arith}
-use borrow.Author.Needs.{needs}
-use Rattle.sizing.specs.declared.Planned.{Planned}
-use Rattle.sizing.specs.Plans.{PlanSays}
-use Rattle.sizing.proofs.Planning.{plan-fits}
-use Rattle.assembling.proofs.Fitting.{plan-own}
+use Rattle.sizing.proofs.Planning.{planned-as, planned-ready, plan-fits}
 use Rattle.masking.proofs.Masked.{mask-refused, mask-short, mask-done}
+use borrow.Author.Needs.{needs}
 use Rattle.masking.proofs.mask_table.Statement.{statement}
 use Rattle.masking.proofs.mask_table.Tie as tie
 
@@ -21,68 +17,69 @@ refused-requires : tie.Need-refused-requires
 refused-requires c κs = tt
 
 returns : tie.Need-returns
-returns c =
-    let s = c .before .before .before .before .before .before .before in
-    rw (c .refused .ensures)
-    (mask-refused
-    (subst (λ (r : Planned). PlanSays (s .args .table .now) (s .args .order) r)
-    (c .before .before .planned .given .1)
-    (c .before .before .before .before .plan-table .ensures)))
+returns c = rw (c .refused .ensures)
+    (mask-refused _ (planned-as (c .before .before .before .before .plan-table .ensures) (c .before .before .planned .given .1)))
 
 enum-known-planned-2 : tie.Need-enum-known-planned-2
 enum-known-planned-2 c = search needs
 
 plan-bytes-requires : tie.Need-plan-bytes-requires
-plan-bytes-requires c κs =
-    plan-fits
-    (subst (λ (r : Planned). PlanSays (c .before .before .before .before .before .before .args .table .now)
-    (c .before .before .before .before .before .before .args .order) r)
-    (c .before .planned2 .given .1)
-    (c .before .before .before .plan-table .ensures))
+plan-bytes-requires c κs = plan-fits
+    (planned-ready (planned-as (c .before .before .before .plan-table .ensures) (c .before .planned2 .given .1)) .ready)
+
+refuse-requires : tie.Need-refuse-requires
+refuse-requires c κs = omega arith
+
+refused-requires-2 : tie.Need-refused-requires-2
+refused-requires-2 c κs = tt
 
 returns-2 : tie.Need-returns-2
 returns-2 c =
-    mask-short
-    (subst (λ (r : Planned). PlanSays (c .before .before .before .before .before .before .before .before .args .table .now)
-    (c .before .before .before .before .before .before .before .before .args .order) r)
-    (c .before .before .before .planned2 .given .1)
-    (c .before .before .before .before .before .plan-table .ensures))
-    (omega (arith, c .if1 .taken, c .before .plan-bytes .ensures))
+    rw (c .refused2 .ensures)
+    (mask-short
+    (planned-ready (planned-as (c .before .before .before .before .before .before .before .plan-table .ensures)
+    (c .before .before .before .before .before .planned2 .given .1)))
+    (omega (arith, c .before .before .if1 .taken, c .before .before .before .plan-bytes .ensures))
+    (c .before .refuse .ensures))
 
 mask-lean-requires : tie.Need-mask-lean-requires
 mask-lean-requires c κs = (
-  plan-own
-      (subst (λ (r : Planned). PlanSays (c .before .before .before .before .before .before .before .before .before .args .table .now)
-      (c .before .before .before .before .before .before .before .before .before .args .order) r)
-      (c .before .before .before .before .planned2 .given .1)
-      (c .before .before .before .before .before .before .plan-table .ensures)),
+  planned-ready (planned-as (c .before .before .before .before .before .before .plan-table .ensures)
+      (c .before .before .before .before .planned2 .given .1)) .ready,
   omega (arith, c .before .if1 .left, c .before .before .plan-bytes .ensures),
 )
 
-cast-t13 : tie.Need-cast-t13
-cast-t13 c =
-    let f = plan-fits
-    (subst (λ (r : Planned). PlanSays
-    (c .before .before .before .before .before .before .before .before .before .before .before .before .args .table .now)
-    (c .before .before .before .before .before .before .before .before .before .before .before .before .args .order) r)
-    (c .before .before .before .before .before .before .before .planned2 .given .1)
-    (c .before .before .before .before .before .before .before .before .before .plan-table .ensures)) in
-    omega (arith, f .wires, f .inputs, f .outputs, c .before .before .before .before .before .plan-bytes .ensures)
+refuse-requires-2 : tie.Need-refuse-requires-2
+refuse-requires-2 c κs = omega arith
+
+cast-done : tie.Need-cast-done
+cast-done c =
+    let f = plan-fits (planned-ready
+    (planned-as (c .before .before .before .before .before .before .before .before .before .before .plan-table .ensures)
+    (c .before .before .before .before .before .before .before .before .planned2 .given .1)) .ready) in
+    record { fits = omega (arith, f .wires, f .inputs, f .outputs, c .before .before .before .before .before .before .plan-bytes .ensures) }
+
+done-requires : tie.Need-done-requires
+done-requires c κs = tt
 
 same-length : tie.Need-same-length
 same-length c = search needs
 
 returns-3 : tie.Need-returns-3
 returns-3 c =
-    mask-done
-    (subst (λ (r : Planned). PlanSays
-    (c .before .before .before .before .before .before .before .before .before .before .before .before .args .table .now)
-    (c .before .before .before .before .before .before .before .before .before .before .before .before .args .order) r)
-    (c .before .before .before .before .before .before .before .planned2 .given .1)
-    (c .before .before .before .before .before .before .before .before .before .plan-table .ensures))
-    (c .before .before .before .before .before .plan-bytes .ensures)
-    (omega (arith, c .before .before .before .before .if1 .left, c .before .before .before .before .before .plan-bytes .ensures))
-    (c .before .before .mask-lean .ensures)
+    rw (c .done .ensures)
+    (mask-done
+    (planned-ready (planned-as
+    (c .before .before .before .before .before .before .before .before .before .before .before .plan-table .ensures)
+    (c .before .before .before .before .before .before .before .before .before .planned2 .given .1)))
+    (omega (
+      arith,
+      c .before .before .before .before .before .before .if1 .left,
+      c .before .before .before .before .before .before .before .plan-bytes .ensures,
+    ))
+    (c .before .refuse2 .ensures)
+    (c .before .before .before .before .before .before .before .plan-bytes .ensures)
+    (c .before .before .before .before .mask-lean .ensures))
 
 pub mask-table-spec : {M : Type 1} → statement M
 mask-table-spec =
@@ -94,8 +91,12 @@ mask-table-spec =
     returns
     enum-known-planned-2
     plan-bytes-requires
+    refuse-requires
+    refused-requires-2
     returns-2
     mask-lean-requires
-    cast-t13
+    refuse-requires-2
+    cast-done
+    done-requires
     same-length
     returns-3)

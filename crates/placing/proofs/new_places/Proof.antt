@@ -1,4 +1,4 @@
--- `placing::new_places` meets its contract: the places as the tests of the kind pick them.
+-- `placing::new_places` meets its contract: the places as the tests of the kind choose them.
 -- Assumes nothing.
 use borrow.Author.Needs.{needs}
 use native.Mathlib.Omega.{arith}
@@ -49,7 +49,7 @@ returns c =
     let count = step .before .before in
     let s = count .before in
     let p = s .pre in
-    new-places-are (s .args .kind) (s .args .n) (s .args .w) (count .pair-count .result) (s .args .a) (p .1) (p .3) (p .4) (p .0)
+    new-places-are (s .args .kind) (s .args .n) (s .args .w) (count .pair-count .result) (s .args .a) (p .1) (p .2) (p .3) (p .4) (p .0)
     (count .pair-count .ensures)
     (step .before .either .ensures)
     (step .either2 .ensures)

@@ -1,125 +1,116 @@
 -- `placing::place_gates` meets its contract: the gates before number g are noted, and gate g begins at wire w.
 -- Assumes nothing.
-use Prim.Native.Nat.{_-_}
+use Prim.Native.Nat.{_+_, _-_}
 use native.Mathlib.Omega.{arith}
-use Rattle.placing.proofs.Shareable.{Turn, inputs-fits}
-use Rattle.placing.proofs.Placing.{Placing, placing-start, placing-facts, placing-turn, placing-end, Same, same-start, same-put}
+use Rattle.placing.specs.Located.{Room}
+use Rattle.placing.proofs.Turns.{Turn, turn, plan-sized}
+use Rattle.placing.proofs.Placing.{Placing, placing-start, placing-turn, placing-end, noted-room}
+use Rattle.tables.specs.Tables.{tableOf}
 use Rattle.placing.proofs.place_gates.Statement.{statement}
 use Rattle.placing.proofs.place_gates.Tie as tie
 
 abbrev Inv-loop : tie.InvT-loop
-Inv-loop table inputs gates n first₀ base₀ step₀ w₀ g₀ first base step w g =
-    Placing table n inputs gates first base step g w × Same first₀ base₀ step₀ first base step
+Inv-loop table head₀ base₀ step₀ n inputs gates w₀ g₀ head base step w g =
+    Placing (tableOf table) n gates head₀ base₀ step₀ head base step g w
 
 abbrev μ-loop : tie.MeasureT-loop
-μ-loop table inputs gates n first₀ base₀ step₀ w₀ g₀ first base step w g = gates - g
+μ-loop table head₀ base₀ step₀ n inputs gates w₀ g₀ head base step w g = gates - g
 
 mul-w : tie.Need-mul-w Inv-loop μ-loop
-mul-w c = let p = c .before .before .before .before .pre in inputs-fits (p .0) (p .1)
+mul-w c = omega (arith, plan-sized (c .before .before .before .before .pre .0) .inputs)
 
 loop-holds : tie.Need-loop-holds Inv-loop μ-loop
-loop-holds c = let p = c .before .before .before .before .pre in (placing-start (p .0) (p .1) (p .2) (p .3) (p .4), same-start)
+loop-holds c = let p = c .before .before .before .before .pre in placing-start (p .0) (p .2)
 
--- what holds in a turn
-facts :
+gate-at-requires : tie.Need-gate-at-requires Inv-loop μ-loop
+gate-at-requires c κs = (plan-sized (c .before .before .before .before .before .before .pre .0) .gates, c .loop-test .taken)
+
+-- in a turn the arrays have room for the plain wires up to this gate's
+room :
     (c : tie.In-loop Inv-loop μ-loop)
-    → let a = c .before .before .before .before .before .before .args in Turn (a .table .now) (a .n) (a .inputs) (a .gates)
-    (c .before .loop .g) (c .before .loop .w)
-facts c = placing-facts (c .before .loop .inv .0) (c .loop-test .taken)
+    → Room (c .before .before .before .before .before .before .args .p .inputs + c .before .loop .g + 1) (c .before .loop .head) (c .before .loop
+    .base) (c .before .loop .step)
+room c = noted-room (c .before .before .before .before .before .before .pre .1) (c .before .loop .inv .noted) (omega (arith, c .loop-test .taken))
 
-add-kind : tie.Need-add-kind Inv-loop μ-loop
-add-kind c = let f = facts c in omega arith
-
-shared-slice-read-kind : tie.Need-shared-slice-read-kind Inv-loop μ-loop
-shared-slice-read-kind c = let f = facts (c .before) in omega arith
-
-add-field : tie.Need-add-field Inv-loop μ-loop
-add-field c = let f = facts (c .before) in omega arith
-
-mul-field : tie.Need-mul-field Inv-loop μ-loop
-mul-field c = let f = facts (c .before) in omega arith
-
-add-field-2 : tie.Need-add-field-2 Inv-loop μ-loop
-add-field-2 c = let f = facts (c .before) in omega arith
-
-field-requires : tie.Need-field-requires Inv-loop μ-loop
-field-requires c κs = let f = facts (c .before) in omega arith
+-- what the gate that was read is
+facts :
+    (c : tie.After-gate-at Inv-loop μ-loop)
+    → let a = c .before .before .before .before .before .before .before .args in Turn (a .p .inputs) (a .p .shares) (c .before .before .loop .g)
+    (c .before .before .loop .w) (c .gate-at .result)
+facts c = turn (c .before .before .before .before .before .before .before .pre .0) (c .before .loop-test .taken) (c .before .before .loop .inv
+    .wire) (c .gate-at .ensures)
 
 places-at-requires : tie.Need-places-at-requires Inv-loop μ-loop
 places-at-requires c κs =
-    let at = c .before .before .before .before .before in
-    let f = facts at in
-    let room = at .before .loop .inv .0 .room in
-    let left = c .before .before .before .field .ensures .0 in
-    record {
-      firsts = omega (arith, room .firsts);
-      bases = omega (arith, room .bases);
-      steps = omega (arith, room .steps);
-    }
+    let r = room (c .before .before .before .before) in
+    let f = facts (c .before .before .before) in
+    record { heads = omega (arith, r .heads, f .left); bases = omega (arith, r .bases, f .left); steps = omega (arith, r .steps, f .left) }
 
 new-places-requires : tie.Need-new-places-requires Inv-loop μ-loop
 new-places-requires c κs =
-    let f = facts (c .before .before .before .before .before .before) in
-    (f .kind, omega (arith, f .some-shares), f .few-shares, f .fits, c .places-at .ensures .1)
+    let f = facts (c .before .before .before .before) in
+    let z = plan-sized (c .before .before .before .before .before .before .before .before .before .before .before .pre .0) in
+    (f .kind, omega (arith, z .some), z .few, f .fits, c .places-at .ensures .1)
 
 add-put-places : tie.Need-add-put-places Inv-loop μ-loop
-add-put-places c = let f = facts (c .before .before .before .before .before .before .before .before .before .before) in omega arith
+add-put-places c = omega (arith, room (c .before .before .before .before .before .before .before .before .before) .heads)
 
 put-places-requires : tie.Need-put-places-requires Inv-loop μ-loop
-put-places-requires c κs =
-    let at = c .before .before .before .before .before .before .before .before .before .before in
-    let f = facts at in
-    let room = at .before .loop .inv .0 .room in (
-      record {
-        firsts = omega (arith, room .firsts);
-        bases = omega (arith, room .bases);
-        steps = omega (arith, room .steps);
-      },
-      c .before .before .before .new-places .ensures .1,
-    )
+put-places-requires c κs = (
+  room (c .before .before .before .before .before .before .before .before .before),
+  c .before .before .before
+      .new-places .ensures .1,
+)
 
 gate-cost-requires : tie.Need-gate-cost-requires Inv-loop μ-loop
-gate-cost-requires c κs = facts
-    (c .before .before .before .before .before .before .before .before .before .before .before .before .before .before .before .before .before) .few-shares
+gate-cost-requires c κs = plan-sized (c .before .before .before .before .before .before .before .before .before .before .before .before .before
+    .before .before .before .before .before .before .before .before .before .pre .0) .few
 
 add-w : tie.Need-add-w Inv-loop μ-loop
-add-w c = let f = facts
-    (c .before .before .before .before .before .before .before .before .before .before .before .before .before .before .before .before .before .before) in omega
-    (arith, c .gate-cost .ensures)
+add-w c = omega (
+  arith,
+  facts (c .before .before .before .before .before .before .before .before .before .before .before .before .before .before
+      .before .before) .fits,
+  c .gate-cost .ensures,
+)
 
 add-g : tie.Need-add-g Inv-loop μ-loop
-add-g c = let f = facts
-    (c .before .before .before .before .before .before .before .before .before .before .before .before .before .before .before .before
-    .before .before) in omega arith
+add-g c = let z = plan-sized (c .before .before .before .before .before .before .before .before .before .before .before .before .before .before
+    .before .before .before .before .before .before .before .before .before .pre .0) in omega (
+      arith,
+      z .plain,
+      c .before .before .before .before
+          .before .before .before .before .before .before .before .before .before .before .before .before .before .loop-test .taken,
+    )
 
 loop-less : tie.Need-loop-less Inv-loop μ-loop
-loop-less c = let f = facts
-    (c .before .before .before .before .before .before .before .before .before .before .before .before .before .before .before .before
-    .before .before) in omega arith
+loop-less c = omega (
+  arith,
+  c .before .before .before .before .before .before .before .before .before .before .before .before .before .before
+      .before .before .before .loop-test .taken,
+)
 
 loop-again : tie.Need-loop-again Inv-loop μ-loop
 loop-again c =
-    let put = c .before .before .before .before .before .before .before .put-places .ensures in
-    let new = c .before .before .before .before .before .before .before .before .before .before .before .new-places .ensures .0 in
-    let old = c .before .before .before .before .before .before .before .before .before .before .before .before .places-at .ensures .0 in
-    let left = c .before .before .before .before .before .before .before .before .before .before .before .before .before .before
-    .before .before .field .ensures .0 in
-    let at = c .before .before .before .before .before .before .before .before .before .before .before .before .before .before .before
-    .before .before .before in
-    let inv = at .before .loop .inv in
-    (placing-turn (inv .0) (at .loop-test .taken) left old new put (c .gate-cost .ensures), same-put (inv .1) put)
+    let new = c .before .before .before .before .before .before .before .before .before .before .before in
+    let old = new .before in
+    let read = old .before .before .before .before in
+    let at = read .before in
+    placing-turn (at .before .before .before .before .before .before .pre .0) (at .before .loop .inv) (at .loop-test .taken) (read .gate-at
+    .ensures) (old .places-at .ensures .0)
+    (new .new-places .ensures .0) (room at) (c .before .before .before .before .before .before .before .put-places .ensures) (c .gate-cost .ensures)
 
 same-length : tie.Need-same-length Inv-loop μ-loop
-same-length c = c .before .loop .inv .1 .firsts
+same-length c = c .before .loop .inv .noted .heads
 
 same-length-2 : tie.Need-same-length-2 Inv-loop μ-loop
-same-length-2 c = c .before .loop .inv .1 .bases
+same-length-2 c = c .before .loop .inv .noted .bases
 
 same-length-3 : tie.Need-same-length-3 Inv-loop μ-loop
-same-length-3 c = c .before .loop .inv .1 .steps
+same-length-3 c = c .before .loop .inv .noted .steps
 
 returns : tie.Need-returns Inv-loop μ-loop
-returns c = placing-end (c .before .loop .inv .0) (c .loop-test .left)
+returns c = placing-end (c .before .before .before .before .before .before .pre .0) (c .before .loop .inv) (c .loop-test .left)
 
 pub place-gates-spec : {M : Type 1} → statement M
 place-gates-spec =
@@ -129,12 +120,7 @@ place-gates-spec =
     μ-loop
     mul-w
     loop-holds
-    add-kind
-    shared-slice-read-kind
-    add-field
-    mul-field
-    add-field-2
-    field-requires
+    gate-at-requires
     places-at-requires
     new-places-requires
     add-put-places

@@ -2,81 +2,66 @@
 -- Assumes nothing.
 use Prim.Native.Nat.{_+_, _-_, _≤_}
 use native.Mathlib.Omega.{arith}
-use borrow.Author.Needs.{needs}
-use Rattle.placing.proofs.Placing.{
-  Inputs,
-  inputs-start,
-  inputs-fit,
-  inputs-room,
-  inputs-turn,
-  inputs-end,
-  Same,
-  same-start,
-  same-put,
-}
+use Rattle.placing.specs.Located.{Room}
+use Rattle.placing.proofs.Placing.{Inputs, inputs-start, inputs-fit, inputs-turn, inputs-end, noted-room}
 use Rattle.placing.proofs.place_inputs.Statement.{statement}
 use Rattle.placing.proofs.place_inputs.Tie as tie
 
 abbrev Inv-loop : tie.InvT-loop
-Inv-loop n inputs first₀ base₀ step₀ w₀ i₀ first base step w i =
-    Inputs n inputs first base step i w × Same first₀ base₀ step₀ first base step
+Inv-loop head₀ base₀ step₀ n inputs w₀ i₀ head base step w i = Inputs n inputs head₀ base₀ step₀ head base step i w
 
 abbrev μ-loop : tie.MeasureT-loop
-μ-loop n inputs first₀ base₀ step₀ w₀ i₀ first base step w i = inputs - i
+μ-loop head₀ base₀ step₀ n inputs w₀ i₀ head base step w i = inputs - i
 
 loop-holds : tie.Need-loop-holds Inv-loop μ-loop
-loop-holds c = (inputs-start (c .before .before .before .pre .2), same-start)
+loop-holds c = inputs-start
 
--- the next input's wires fit
-fit :
-    (c : tie.In-loop Inv-loop μ-loop)
-    → c .before .loop .w + c .before .before .before .before .before .args .n ≤ 65535
-fit c = inputs-fit (c .before .loop .inv .0) (c .loop-test .taken) (c .before .before .before .before .before .pre .1)
+-- the next input's wires fit, and the arrays have room for it
+module _ (c : tie.In-loop Inv-loop μ-loop) where
+  fit : c .before .loop .w + c .before .before .before .before .before .args .p .shares ≤ 65535
+  fit = inputs-fit (c .before .loop .inv) (c .loop-test .taken) (c .before .before .before .before .before .pre .1)
 
-add-t10 : tie.Need-add-t10 Inv-loop μ-loop
-add-t10 c = omega (arith, fit c)
+  room : Room (c .before .loop .i + 1) (c .before .loop .head) (c .before .loop .base) (c .before .loop .step)
+  room = noted-room (c .before .before .before .before .before .pre .2) (c .before .loop .inv .noted) (omega (arith, c .loop-test .taken))
+
+add-t11 : tie.Need-add-t11 Inv-loop μ-loop
+add-t11 c = omega (arith, fit c)
 
 put-places-requires : tie.Need-put-places-requires Inv-loop μ-loop
 put-places-requires c κs =
     let at = c .before .before .before in
-    let pre = at .before .before .before .before .before .pre in
-    let few = fit at in (
-      inputs-room (at .before .loop .inv .0) (at .loop-test .taken) (pre .1),
-      record { first = omega arith; base = omega (arith, pre .0); step = omega arith },
-    )
+    let some = at .before .before .before .before .before .pre .0 in
+    let few = fit at in
+    (room at, record { head = omega arith; base = omega (arith, some); step = omega arith })
 
 add-w : tie.Need-add-w Inv-loop μ-loop
-add-w c = let at = c .before .before .before .before .before .before .before .before .before .before in omega (arith, fit at)
+add-w c = omega (arith, fit (c .before .before .before .before .before .before .before .before .before .before))
 
 add-i : tie.Need-add-i Inv-loop μ-loop
 add-i c =
     let at = c .before .before .before .before .before .before .before .before .before .before in
-    omega (arith, at .loop-test .taken, at .before .before .before .before .before .fits .inputs)
+    omega (arith, room at .heads)
 
 loop-less : tie.Need-loop-less Inv-loop μ-loop
-loop-less c =
-    let at = c .before .before .before .before .before .before .before .before .before .before in
-    omega (arith, at .loop-test .taken)
+loop-less c = omega (arith, c .before .before .before .before .before .before .before .before .before .before .loop-test .taken)
 
 loop-again : tie.Need-loop-again Inv-loop μ-loop
 loop-again c =
     let put = c .before .before .before .before .before .before .put-places .ensures in
     let at = c .before .before .before .before .before .before .before .before .before .before in
-    let pre = at .before .before .before .before .before .pre in
-    let inv = at .before .loop .inv in
-    (inputs-turn (inv .0) (at .loop-test .taken) (pre .1) (pre .0) put, same-put (inv .1) put)
+    inputs-turn (at .before .loop .inv) (at .loop-test .taken) (at .before .before .before .before .before .pre .0) (room at) put
 
 same-length : tie.Need-same-length Inv-loop μ-loop
-same-length c = c .before .loop .inv .1 .firsts
+same-length c = c .before .loop .inv .noted .heads
 
 same-length-2 : tie.Need-same-length-2 Inv-loop μ-loop
-same-length-2 c = c .before .loop .inv .1 .bases
+same-length-2 c = c .before .loop .inv .noted .bases
 
 same-length-3 : tie.Need-same-length-3 Inv-loop μ-loop
-same-length-3 c = c .before .loop .inv .1 .steps
+same-length-3 c = c .before .loop .inv .noted .steps
 
 returns : tie.Need-returns Inv-loop μ-loop
-returns c = inputs-end (c .before .loop .inv .0) (c .loop-test .left)
+returns c = inputs-end (c .before .loop .inv) (c .loop-test .left)
 
 pub place-inputs-spec : {M : Type 1} → statement M
 place-inputs-spec =
@@ -85,7 +70,7 @@ place-inputs-spec =
     Inv-loop
     μ-loop
     loop-holds
-    add-t10
+    add-t11
     put-places-requires
     add-w
     add-i

@@ -38,7 +38,7 @@ returns c =
     let p = c .before .before .before .args .p in (
       refl,
       record {
-        first = omega (arith, c .before .before .shared-slice-known .given p);
+        head = omega (arith, c .before .before .shared-slice-known .given p);
         base = omega (arith, c .before .shared-slice-known2 .given p);
         step = omega (arith, c .shared-slice-known3 .given p);
       },

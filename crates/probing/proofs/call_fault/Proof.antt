@@ -1,7 +1,6 @@
 -- `probing::call_fault` meets its contract: of the three parts of the chain, the first that refuses.
 -- Assumes nothing.
 use borrow.Author.Needs.{needs}
-use Rattle.probing.proofs.Faults.{by-fault, call-chain}
 use Rattle.probing.proofs.call_fault.Statement.{statement}
 use Rattle.probing.proofs.call_fault.Tie as tie
 
@@ -25,8 +24,7 @@ returns c =
     let supplied = c .before .before .before .before .supply-fault .ensures in
     let probed = c .before .before .before .probes-fault .ensures in
     let room = c .before .before .room-fault .ensures in
-    by-fault (call-chain _ _ _ _ _ _ _ _ _)
-    (c .first-of2 .ensures _ _ supplied (c .before .first-of .ensures _ _ probed room))
+    c .first-of2 .ensures _ _ supplied (c .before .first-of .ensures _ _ probed room)
 
 pub call-fault-spec : {M : Type 1} → statement M
 call-fault-spec =

@@ -2,7 +2,6 @@
 -- Assumes nothing.
 use Prim.Native.Nat.{suc, _-_}
 use native.Mathlib.Numerals.{add-one}
-use native.Mathlib.Omega.{arith}
 use Rattle.probing.proofs.Seeing.{Looking, looking-start, looking-turn, looking-found, looking-end}
 use borrow.Author.Needs.{needs}
 use Rattle.probing.proofs.free_of.Statement.{statement}

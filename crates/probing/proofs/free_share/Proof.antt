@@ -1,6 +1,6 @@
 -- `probing::free_share` meets its contract: the smallest number that is not among those that the probes carry.
 -- Assumes nothing.
-use Rattle.marking.proofs.Ready.{ready-shares}
+use Rattle.sizing.proofs.Planning.{plan-fits}
 use Rattle.probing.proofs.Seeing.{mark-ready, free-share-is}
 use Rattle.probing.proofs.free_share.Statement.{statement}
 use Rattle.probing.proofs.free_share.Tie as tie
@@ -9,7 +9,7 @@ mark-probes-requires : tie.Need-mark-probes-requires
 mark-probes-requires c κs = (c .before .before .before .pre .0, mark-ready _ _ (c .before .before .before .pre .1))
 
 free-of-requires : tie.Need-free-of-requires
-free-of-requires c κs = ready-shares _ _ _ (c .before .before .before .before .before .pre .0)
+free-of-requires c κs = plan-fits (c .before .before .before .before .before .pre .0) .shares
 
 returns : tie.Need-returns
 returns c =

@@ -1,6 +1,7 @@
 -- `probing::map_fault` meets its contract: the plan's refusal, one that follows from its sizes, or the plan.
 -- Assumes nothing.
 use Rattle.probing.proofs.Faults.{plan-small, map-plan-refused, map-call-refused, map-call-ready}
+use Rattle.sizing.proofs.Planning.{planned-ready}
 use borrow.Author.Needs.{needs}
 use Rattle.probing.proofs.map_fault.Statement.{statement}
 use Rattle.probing.proofs.map_fault.Tie as tie
@@ -15,7 +16,7 @@ enum-known-planned-2 : tie.Need-enum-known-planned-2
 enum-known-planned-2 c = search needs
 
 call-fault-requires : tie.Need-call-fault-requires
-call-fault-requires c κs = plan-small (rw (c .before .planned2 .given .1) at (c .before .before .before .plan-table .ensures))
+call-fault-requires c κs = plan-small (planned-ready (rw (c .before .planned2 .given .1) at (c .before .before .before .plan-table .ensures)) .ready)
 
 returns : tie.Need-returns
 returns c =

@@ -7,15 +7,14 @@ use lib.ListN.{length}
 use Rattle.tables.specs.Tables.{tableOf}
 use Rattle.masks.specs.Gadgets.{isw}
 use Rattle.masks.specs.Wires.{origins}
-use Rattle.marking.specs.Origins.{orderOf}
-use Rattle.probing.proofs.Seeing.{Marking, marking-start, marking-turn, marking-end}
+use Rattle.probing.proofs.Seeing.{probe-below, Marking, marking-start, marking-turn, marking-end}
 use borrow.Author.Needs.{needs}
 use Rattle.probing.proofs.mark_probes.Statement.{statement}
 use Rattle.probing.proofs.mark_probes.Tie as tie
 
 abbrev Inv-loop : tie.InvT-loop
 Inv-loop table p probes seen₀ j₀ seen j =
-    Marking (origins isw (orderOf p) (tableOf table)) probes seen j
+    Marking (origins isw (p .order) (tableOf table)) probes seen j
 
 abbrev μ-loop : tie.MeasureT-loop
 μ-loop table p probes seen₀ j₀ seen j = length probes - j
@@ -37,7 +36,7 @@ cast-marks-at c = omega (arith, c .shared-slice-known3 .given (c .before .before
 marks-at-requires : tie.Need-marks-at-requires Inv-loop μ-loop
 marks-at-requires c κs =
     let start = c .before .before .before .before .before in
-    (start .pre .0, start .pre .1 .probes _ (c .before .loop-test .taken))
+    (start .pre .0, probe-below (start .pre .1) (c .before .loop-test .taken))
 
 cast-first : tie.Need-cast-first Inv-loop μ-loop
 cast-first c = search needs

@@ -5,16 +5,9 @@ use native.Mathlib.Numerals.{add-one}
 use native.Mathlib.Omega.{arith}
 use mathlib.Core.Path.{_∙_}
 use lib.ListN.{length}
-use Rattle.probing.proofs.Faults.{
-  by-fault,
-  probes-many,
-  probes-few,
-  Probing,
-  probing-start,
-  probing-turn,
-  probing-found,
-  probing-end,
-}
+use Rattle.tables.proofs.Answers.{refused-same}
+use Rattle.probing.proofs.Faults.{probes-many, probes-few, Probing, probing-start, probing-turn}
+use Rattle.probing.proofs.Faults.{probing-found, probing-end}
 use borrow.Author.Needs.{needs}
 use Rattle.probing.proofs.probes_fault.Statement.{statement}
 use Rattle.probing.proofs.probes_fault.Tie as tie
@@ -26,11 +19,11 @@ Inv-loop order wires probes j₀ j =
 abbrev μ-loop : tie.MeasureT-loop
 μ-loop order wires probes j₀ j = length probes - j
 
-refused-requires : tie.Need-refused-requires Inv-loop μ-loop
-refused-requires c κs = search needs
+refuse-requires : tie.Need-refuse-requires Inv-loop μ-loop
+refuse-requires c κs = search needs
 
 returns : tie.Need-returns Inv-loop μ-loop
-returns c = by-fault (probes-many _ _ _ (c .before .if1 .taken)) (c .refused .ensures)
+returns c = refused-same (probes-many _ _ _ (c .before .if1 .taken)) (c .refuse .ensures)
 
 loop-holds : tie.Need-loop-holds Inv-loop μ-loop
 loop-holds c = probing-start _ _
@@ -44,14 +37,14 @@ shared-slice-read-if2 c = search needs
 cast-if2 : tie.Need-cast-if2 Inv-loop μ-loop
 cast-if2 c = omega (arith, c .shared-slice-known2 .given (c .before .before .loop .j))
 
-refused-requires-2 : tie.Need-refused-requires-2 Inv-loop μ-loop
-refused-requires-2 c κs = search needs
+refuse-requires-2 : tie.Need-refuse-requires-2 Inv-loop μ-loop
+refuse-requires-2 c κs = search needs
 
 returns-2 : tie.Need-returns-2 Inv-loop μ-loop
 returns-2 c =
-    by-fault (probes-few _ _ _ (c .before .before .before .before .before .if1 .left) ∙ probing-found
+    refused-same (probes-few _ _ _ (c .before .before .before .before .before .if1 .left) ∙ probing-found
     (c .before .before .before .before .loop .inv) (c .before .before .before .loop-test .taken) (c .before .if2 .taken))
-    (c .refused2 .ensures)
+    (c .refuse2 .ensures)
 
 add-j : tie.Need-add-j Inv-loop μ-loop
 add-j c = search needs
@@ -63,13 +56,13 @@ loop-again : tie.Need-loop-again Inv-loop μ-loop
 loop-again c =
     rw add-one (probing-turn (c .before .before .before .loop .inv) (c .before .before .loop-test .taken) (c .if2 .left))
 
-refused-requires-3 : tie.Need-refused-requires-3 Inv-loop μ-loop
-refused-requires-3 c κs = search needs
+refuse-requires-3 : tie.Need-refuse-requires-3 Inv-loop μ-loop
+refuse-requires-3 c κs = search needs
 
 returns-3 : tie.Need-returns-3 Inv-loop μ-loop
 returns-3 c =
-    by-fault (probes-few _ _ _ (c .before .before .before .if1 .left) ∙ probing-end (c .before .before .loop .inv)
-    (c .before .loop-test .left)) (c .refused3 .ensures)
+    refused-same (probes-few _ _ _ (c .before .before .before .if1 .left) ∙ probing-end (c .before .before .loop .inv)
+    (c .before .loop-test .left)) (c .refuse3 .ensures)
 
 pub probes-fault-spec : {M : Type 1} → statement M
 probes-fault-spec =
@@ -77,16 +70,16 @@ probes-fault-spec =
     (tie.spec
     Inv-loop
     μ-loop
-    refused-requires
+    refuse-requires
     returns
     loop-holds
     mul-if2
     shared-slice-read-if2
     cast-if2
-    refused-requires-2
+    refuse-requires-2
     returns-2
     add-j
     loop-less
     loop-again
-    refused-requires-3
+    refuse-requires-3
     returns-3)

@@ -5,7 +5,7 @@ use mathlib.Core.Path.{sym}
 use Prim.Native.Nat.{ℕ}
 use lib.ListN.{length-replicate}
 use lib.Seq.{length-take-le}
-use Rattle.listing.proofs.Lines.{list-fits}
+use Rattle.text.proofs.Writing.{all-fits}
 use Rattle.show.proofs.main.Statement.{statement}
 use Rattle.show.proofs.main.Tie as tie
 
@@ -28,12 +28,12 @@ list-table-requires : tie.Need-list-table-requires
 list-table-requires c κs = search needs
 
 array-share-prefix-lines : tie.Need-array-share-prefix-lines
-array-share-prefix-lines c = list-fits (c .before .list-table .ensures) (c .before .list-table .kept .1 .0)
+array-share-prefix-lines c = all-fits (c .before .list-table .ensures)
 
 slice-aggregate-write-all : tie.Need-slice-aggregate-write-all
 slice-aggregate-write-all c =
     let listed = c .before .before in
-    sym (length-take-le _ _ (list-fits (listed .list-table .ensures) (listed .list-table .kept .1 .0)))
+    sym (length-take-le _ _ (all-fits (listed .list-table .ensures)))
 
 write-all-requires : tie.Need-write-all-requires
 write-all-requires c κs = search needs

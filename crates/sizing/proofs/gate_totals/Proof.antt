@@ -1,7 +1,6 @@
 -- `sizing::gate_totals` meets its contract: the totals by how many gates there are of each kind.
 -- Assumes nothing.
 use native.Mathlib.Omega.{arith}
-use borrow.Author.Needs.{needs}
 use Rattle.tables.specs.Tables.{NOT, XOR, AND}
 use Rattle.masks.proofs.Figures.{few-costs, few-draws}
 use Rattle.sizing.proofs.Planning.{totals-say}
@@ -10,18 +9,15 @@ use Rattle.sizing.proofs.gate_totals.Tie as tie
 
 count-kind-requires : tie.Need-count-kind-requires
 count-kind-requires c κs =
-    let p = c .before .pre .0 in
-    (p .long, p .few, omega arith)
+    (c .before .pre .0, omega arith)
 
 count-kind-requires-2 : tie.Need-count-kind-requires-2
 count-kind-requires-2 c κs =
-    let p = c .before .before .pre .0 in
-    (p .long, p .few, omega arith)
+    (c .before .before .pre .0, omega arith)
 
 count-kind-requires-3 : tie.Need-count-kind-requires-3
 count-kind-requires-3 c κs =
-    let p = c .before .before .before .pre .0 in
-    (p .long, p .few, omega arith)
+    (c .before .before .before .pre .0, omega arith)
 
 gate-cost-requires : tie.Need-gate-cost-requires
 gate-cost-requires c κs = c .before .before .before .before .pre .1
@@ -80,8 +76,7 @@ mul-t16 c =
 
 returns : tie.Need-returns
 returns c =
-    let p = c .before .before .before .before .before .before .before .before in
-    totals-say (p .pre .0) (p .args .n)
+    totals-say
     (c .before .before .before .before .before .before .count-kind .ensures .0)
     (c .before .before .before .before .before .count-kind2 .ensures .0)
     (c .before .before .before .before .count-kind3 .ensures .0)

@@ -1,117 +1,124 @@
 -- `sizing::plan_sizes` meets its contract: the laws of the plan, from the sizes that the table states and the gates' totals.
 -- Assumes nothing.
-use borrow.Author.Needs.{needs}
 use native.Mathlib.Omega.{arith}
 use Prim.Native.Nat.{_+_, _*_, _≤_}
-use Rattle.sizing.proofs.Planning.{
-  bytes-long,
-  has-gates,
-  few-shares,
-  few-products,
-  few-total-wires,
-  few-total-draws,
-  many-wires,
-  many-outputs,
-  plan-ready,
-}
+use Rattle.tables.proofs.Accept.{accepted-long, has-gates}
+use Rattle.sizing.proofs.Planning.{few-shares, few-products, few-total-wires, few-total-draws, many-wires, many-outputs, plan-ready}
+use borrow.Author.Needs.{needs}
 use Rattle.sizing.proofs.plan_sizes.Statement.{statement}
 use Rattle.sizing.proofs.plan_sizes.Tie as tie
 
 field-requires : tie.Need-field-requires
-field-requires c κs = omega (arith, bytes-long _ (c .before .pre .table))
+field-requires c κs = omega (arith, accepted-long _ (c .before .pre .table))
 
 field-requires-2 : tie.Need-field-requires-2
-field-requires-2 c κs = omega (arith, bytes-long _ (c .before .before .pre .table))
+field-requires-2 c κs = omega (arith, accepted-long _ (c .before .before .pre .table))
 
 field-requires-3 : tie.Need-field-requires-3
-field-requires-3 c κs = omega (arith, bytes-long _ (c .before .before .before .pre .table))
+field-requires-3 c κs = omega (arith, accepted-long _ (c .before .before .before .pre .table))
 
-mul-random : tie.Need-mul-random
-mul-random c = search needs
+mul-shares : tie.Need-mul-shares
+mul-shares c = search needs
 
 add-shares : tie.Need-add-shares
 add-shares c = search needs
 
 gate-totals-requires : tie.Need-gate-totals-requires
-gate-totals-requires c κs =
-    let p = c .before .before .before .before in
-    (has-gates _ (p .pre .table) _ (c .before .field2 .ensures .0), omega (arith, few-shares (p .pre)))
+gate-totals-requires c κs = (
+  has-gates _ (c .before .before .before .before .pre .table) (c .before .field2 .ensures .0),
+  omega
+      (arith, few-shares (c .before .before .before .before .pre)),
+)
 
 mul-wires : tie.Need-mul-wires
 mul-wires c =
-    let t = c in
-    let f = t .before .before .before in
-    let p = f .before .before in
-    let few : 2 * p .args .order + 1 ≤ 31 = omega (arith, few-shares (p .pre)) in
-    record { fits = omega (arith, few-products _ (f .field .result) few (omega (arith, f .field .ensures .1))) }
+    let few : 2 * c .before .before .before .before .before .args .order + 1 ≤ 31 = omega
+    (arith, few-shares (c .before .before .before .before .before .pre)) in
+    record {
+      fits = omega
+          (arith, few-products _ (c .before .before .before .field .result) few (omega (arith, c .before .before .before .field .ensures .1)));
+    }
 
 add-wires : tie.Need-add-wires
 add-wires c =
-    let t = c .before in
-    let f = t .before .before .before in
-    let p = f .before .before in
-    let few : 2 * p .args .order + 1 ≤ 31 = omega (arith, few-shares (p .pre)) in
-    let product = few-products (2 * p .args .order + 1) (f .field .result) few (omega (arith, f .field .ensures .1)) in
-    record { fits = omega (arith, product, few-total-wires (p .pre) few (t .gate-totals .ensures)) }
+    let few : 2 * c .before .before .before .before .before .before .args .order + 1 ≤ 31 = omega
+    (arith, few-shares (c .before .before .before .before .before .before .pre)) in
+    let product = few-products (2 * c .before .before .before .before .before .before .args .order + 1)
+    (c .before .before .before .before .field .result) few (omega (arith, c .before .before .before .before .field .ensures .1)) in
+    record {
+      fits = omega
+          (arith, product, few-total-wires _ (c .before .before .before .before .before .before .pre .table) few (c .before .gate-totals .ensures));
+    }
 
 refuse-requires : tie.Need-refuse-requires
-refuse-requires c κs = search needs
+refuse-requires c κs = omega arith
 
 returns : tie.Need-returns
 returns c =
-    let t = c .before .before .before in
-    let f = t .before .before .before in
-    let p = f .before .before in
-    rw (c .refuse .ensures)
-    (many-wires (p .pre) (omega arith) (f .field .ensures .0) (t .before .field3 .ensures .0) (t .gate-totals .ensures)
-    (c .before .if1 .taken))
+    many-wires (c .before .before .before .before .before .before .before .before .pre) (omega arith)
+    (c .before .before .before .before .before .before .field .ensures .0) (c .before .before .before .before .field3 .ensures .0)
+    (c .before .before .before .gate-totals .ensures)
+    (c .refuse .ensures)
+    (c .before .if1 .taken)
 
 mul-if2 : tie.Need-mul-if2
 mul-if2 c =
-    let t = c .before .before in
-    let f = t .before .before .before in
-    let p = f .before .before in
-    let few : 2 * p .args .order + 1 ≤ 31 = omega (arith, few-shares (p .pre)) in
-    record { fits = omega (arith, few-products _ (t .before .field3 .result) few (omega (arith, t .before .field3 .ensures .1))) }
+    let few : 2 * c .before .before .before .before .before .before .before .args .order + 1 ≤ 31 = omega
+    (arith, few-shares (c .before .before .before .before .before .before .before .pre)) in
+    record {
+      fits = omega
+          (arith, few-products _ (c .before .before .before .field3 .result) few (omega (arith, c .before .before .before .field3 .ensures .1)));
+    }
 
 refuse-requires-2 : tie.Need-refuse-requires-2
-refuse-requires-2 c κs = search needs
+refuse-requires-2 c κs = omega arith
 
 returns-2 : tie.Need-returns-2
 returns-2 c =
-    let t = c .before .before .before .before in
-    let f = t .before .before .before in
-    let p = f .before .before in
-    rw (c .refuse2 .ensures)
-    (many-outputs (p .pre) (omega arith) (f .field .ensures .0) (t .before .field3 .ensures .0) (t .gate-totals .ensures)
+    many-outputs (c .before .before .before .before .before .before .before .before .before .pre) (omega arith)
+    (c .before .before .before .before .before .before .before .field .ensures .0)
+    (c .before .before .before .before .before .field3 .ensures .0) (c .before .before .before .before .gate-totals .ensures)
+    (c .refuse2 .ensures)
     (c .before .before .if1 .left)
-    (c .before .if2 .taken))
+    (c .before .if2 .taken)
 
 mul-t10 : tie.Need-mul-t10
-mul-t10 c =
-    let t = c .before .before .before in
-    let f = t .before .before .before in
-    let p = f .before .before in
-    let few : 2 * p .args .order ≤ 31 = omega (arith, few-shares (p .pre)) in
-    record { fits = omega (arith, few-products _ (f .field .result) few (omega (arith, f .field .ensures .1))) }
+mul-t10 c = search needs
 
-add-t12 : tie.Need-add-t12
-add-t12 c =
-    let t = c .before .before .before .before in
-    let f = t .before .before .before in
-    let p = f .before .before in
-    let few : 2 * p .args .order + 1 ≤ 31 = omega (arith, few-shares (p .pre)) in
-    let product = few-products (2 * p .args .order) (f .field .result) (omega arith) (omega (arith, f .field .ensures .1)) in
-    record { fits = omega (arith, product, few-total-draws (p .pre) few (t .gate-totals .ensures)) }
+mul-t14 : tie.Need-mul-t14
+mul-t14 c =
+    let few : 2 * c .before .before .before .before .before .before .before .before .args .order ≤ 31 = omega
+    (arith, few-shares (c .before .before .before .before .before .before .before .before .pre)) in
+    record {
+      fits = omega (
+        arith,
+        few-products _ (c .before .before .before .before .before .before .field .result) few
+            (omega (arith, c .before .before .before .before .before .before .field .ensures .1)),
+      );
+    }
+
+add-t15 : tie.Need-add-t15
+add-t15 c =
+    let few : 2 * c .before .before .before .before .before .before .before .before .before .args .order + 1 ≤ 31 = omega
+    (arith, few-shares (c .before .before .before .before .before .before .before .before .before .pre)) in
+    let product = few-products (2 * c .before .before .before .before .before .before .before .before .before .args .order)
+    (c .before .before .before .before .before .before .before .field .result) (omega arith)
+    (omega (arith, c .before .before .before .before .before .before .before .field .ensures .1)) in
+    record {
+      fits = omega (
+        arith,
+        product,
+        few-total-draws _ (c .before .before .before .before .before .before .before .before .before .pre .table) few
+            (c .before .before .before .before .gate-totals .ensures),
+      );
+    }
 
 returns-3 : tie.Need-returns-3
 returns-3 c =
-    let t = c .before .before .before .before in
-    let f = t .before .before .before in
-    let p = f .before .before in
-    plan-ready (p .pre) (omega arith) (f .field .ensures .0) (t .before .field3 .ensures .0) (t .gate-totals .ensures)
-    (t .before .before .field2 .result)
-    (t .before .before .field2 .ensures .0)
+    plan-ready (c .before .before .before .before .before .before .before .before .before .pre) (omega arith)
+    (c .before .before .before .before .before .before .before .field .ensures .0)
+    (c .before .before .before .before .before .field3 .ensures .0) (c .before .before .before .before .gate-totals .ensures)
+    (c .before .before .before .before .before .before .field2 .ensures .0)
     (c .before .before .if1 .left)
     (c .before .if2 .left)
 
@@ -122,7 +129,7 @@ plan-sizes-spec =
     field-requires
     field-requires-2
     field-requires-3
-    mul-random
+    mul-shares
     add-shares
     gate-totals-requires
     mul-wires
@@ -133,5 +140,6 @@ plan-sizes-spec =
     refuse-requires-2
     returns-2
     mul-t10
-    add-t12
+    mul-t14
+    add-t15
     returns-3)

@@ -1,8 +1,11 @@
 -- `sizing::put_line` meets its contract: the number says which line.
 -- Assumes nothing.
+use mathlib.Core.Path.{ap}
+use native.Mathlib.Omega.{arith}
+use lib.ListN.{length}
+use Rattle.text.proofs.Writing.{puts-as}
+use Rattle.sizing.proofs.Line.{refused-line, figures-line}
 use borrow.Author.Needs.{needs}
-use borrow.Author.Tests.{eq-eqb, ne-eqb}
-use Rattle.masks.specs.Lines.{sizesLine}
 use Rattle.sizing.proofs.put_line.Statement.{statement}
 use Rattle.sizing.proofs.put_line.Tie as tie
 
@@ -10,24 +13,29 @@ cast-put-refusal : tie.Need-cast-put-refusal
 cast-put-refusal c = search needs
 
 put-refusal-requires : tie.Need-put-refusal-requires
-put-refusal-requires c κs = search needs
+put-refusal-requires c κs =
+    let start = c .before .before .before .before .before in
+    omega (arith, start .pre, ap length (refused-line (start .args .sizes) (c .before .before .if1 .taken)))
 
 same-length : tie.Need-same-length
 same-length c = search needs
 
 returns : tie.Need-returns
-unfolding sizesLine
-returns c = rw (ne-eqb _ 0 (c .before .before .before .before .before .if1 .taken), sizesLine) (c .before .before .put-refusal .ensures)
+returns c = puts-as (refused-line (c .before .before .before .before .before .before .before .before .args .sizes)
+    (c .before .before .before .before .before .if1 .taken)) (c .before .before .put-refusal .ensures)
 
 put-figures-requires : tie.Need-put-figures-requires
-put-figures-requires c κs = search needs
+put-figures-requires c κs =
+    let start = c .before .before .before .before in
+    omega (arith, start .pre, ap length (figures-line (start .args .sizes) (c .before .if1 .left)))
 
 same-length-2 : tie.Need-same-length-2
 same-length-2 c = search needs
 
 returns-2 : tie.Need-returns-2
-unfolding sizesLine
-returns-2 c = rw (eq-eqb _ 0 (c .before .before .before .before .if1 .left), sizesLine) (c .before .before .put-figures .ensures)
+returns-2 c = puts-as
+    (figures-line (c .before .before .before .before .before .before .before .args .sizes) (c .before .before .before .before .if1 .left))
+    (c .before .before .put-figures .ensures)
 
 pub put-line-spec : {M : Type 1} → statement M
 put-line-spec =

@@ -1,60 +1,85 @@
 -- `sizing::random_fault` meets its contract: no gate is random, or the loop searches what is left of the gates.
 -- Assumes nothing.
-use Prim.Native.Nat.{_-_}
+use Prim.Native.Nat.{_-_, _≤_}
+use mathlib.Core.Path.{sym, _∙_}
 use native.Mathlib.Omega.{arith}
-use Rattle.masks.proofs.Passed.{refused-as}
-use Rattle.masks.proofs.Figures.{Searching, search-start, search-found, search-turn, search-end}
+use Rattle.tables.specs.Tables.{tableOf}
+use Rattle.tables.proofs.Accept.{gates-of-length}
+use Rattle.tables.proofs.Answers.{refused-same}
+use Rattle.tables.proofs.Counts.{count-plain}
+use Rattle.sizing.proofs.Planning.{Searching, search-start, search-found, search-turn, search-end}
 use borrow.Author.Needs.{needs}
-use Rattle.sizing.proofs.Planning.{none-random}
 use Rattle.sizing.proofs.random_fault.Statement.{statement}
 use Rattle.sizing.proofs.random_fault.Tie as tie
 
 abbrev Inv-loop : tie.InvT-loop
-Inv-loop table gates i₀ i = Searching table gates i
+Inv-loop table gates g₀ g = (g ≤ gates) × Searching (tableOf table) g
 
 abbrev μ-loop : tie.MeasureT-loop
-μ-loop table gates i₀ i = gates - i
+μ-loop table gates g₀ g = gates - g
 
 count-kind-requires : tie.Need-count-kind-requires Inv-loop μ-loop
-count-kind-requires c κs = (c .before .pre .long, c .before .pre .few, omega arith)
+count-kind-requires c κs = (c .before .pre, omega arith)
+
+refuse-requires : tie.Need-refuse-requires Inv-loop μ-loop
+refuse-requires c κs = search needs
 
 returns : tie.Need-returns Inv-loop μ-loop
 returns c =
-    let p = c .before .before .before .pre in
-    refused-as _ _ (none-random p _ (c .before .count-kind .ensures .0) (c .if1 .taken))
+    refused-same (count-plain 0 _ (sym (c .before .before .count-kind .ensures .0) ∙ c .before .if1 .taken)) (c .refuse .ensures)
 
 loop-holds : tie.Need-loop-holds Inv-loop μ-loop
-loop-holds c =
-    let p = c .before .before .before in
-    search-start (p .args .table .now) (p .args .gates) (p .pre .stated)
+loop-holds c = (omega arith, search-start _)
 
-add-if2 : tie.Need-add-if2 Inv-loop μ-loop
-add-if2 c = search needs
+gate-at-requires : tie.Need-gate-at-requires Inv-loop μ-loop
+gate-at-requires c κs = (c .before .before .before .before .before .pre, c .loop-test .taken)
 
-shared-slice-read-if2 : tie.Need-shared-slice-read-if2 Inv-loop μ-loop
-shared-slice-read-if2 c = search needs
-
-cast-t10 : tie.Need-cast-t10 Inv-loop μ-loop
-cast-t10 c = search needs
+refuse-requires-2 : tie.Need-refuse-requires-2 Inv-loop μ-loop
+refuse-requires-2 c κs = omega
+    (arith, c .before .before .before .loop-test .taken, c .before .before .before .before .before .before .before .before .pre .few)
 
 returns-2 : tie.Need-returns-2 Inv-loop μ-loop
 returns-2 c =
-    let b = c .before .before .before in
-    refused-as _ _ (search-found (b .loop .inv) (c .before .before .loop-test .taken) (c .if2 .taken))
+    let long = gates-of-length (c .before .before .before .before .before .before .before .before .before .args .table .now) in
+    refused-same
+    (search-found (c .before .before .before .before .before .loop .inv .1)
+    (omega (
+      arith,
+      c .before .before .before .before .loop-test .taken,
+      c .before .before .before .before .before .before .before .before .before .pre .stated,
+      long,
+    )) (c .before .before .before .gate-at .ensures .kind)
+    (c .before .if2 .taken))
+    (c .refuse2 .ensures)
 
-add-i : tie.Need-add-i Inv-loop μ-loop
-add-i c = search needs
+add-g : tie.Need-add-g Inv-loop μ-loop
+add-g c = search needs
 
 loop-less : tie.Need-loop-less Inv-loop μ-loop
 loop-less c = search needs
 
 loop-again : tie.Need-loop-again Inv-loop μ-loop
 loop-again c =
-    let b = c .before .before .before in
-    search-turn (b .loop .inv) (c .before .before .loop-test .taken) (c .if2 .left)
+    let long = gates-of-length (c .before .before .before .before .before .before .before .before .args .table .now) in (
+      omega (arith, c .before .before .before .loop-test .taken),
+      search-turn (c .before .before .before .before .loop .inv .1)
+          (omega (
+            arith,
+            c .before .before .before .loop-test .taken,
+            c .before .before .before .before .before .before .before .before .pre .stated,
+            long,
+          )) (c .before .before .gate-at .ensures .kind)
+          (c .if2 .left),
+    )
+
+refuse-requires-3 : tie.Need-refuse-requires-3 Inv-loop μ-loop
+refuse-requires-3 c κs = search needs
 
 returns-3 : tie.Need-returns-3 Inv-loop μ-loop
-returns-3 c = refused-as _ _ (search-end (c .before .loop .inv) (c .loop-test .left))
+returns-3 c =
+    let long = gates-of-length (c .before .before .before .before .before .before .args .table .now) in
+    refused-same (search-end (c .before .before .loop .inv .1)
+    (omega (arith, c .before .loop-test .left, c .before .before .before .before .before .before .pre .stated, long))) (c .refuse3 .ensures)
 
 pub random-fault-spec : {M : Type 1} → statement M
 random-fault-spec =
@@ -63,13 +88,14 @@ random-fault-spec =
     Inv-loop
     μ-loop
     count-kind-requires
+    refuse-requires
     returns
     loop-holds
-    add-if2
-    shared-slice-read-if2
-    cast-t10
+    gate-at-requires
+    refuse-requires-2
     returns-2
-    add-i
+    add-g
     loop-less
     loop-again
+    refuse-requires-3
     returns-3)

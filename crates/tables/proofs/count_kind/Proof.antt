@@ -1,33 +1,42 @@
 -- `tables::count_kind` meets its contract. The loop's invariant: the count so far and that of the gates left make the table's.
 -- Assumes nothing.
-use Prim.Native.Nat.{_-_}
+use mathlib.Core.Path.{ap, _∙_}
+use Prim.Native.Nat.{_-_, _≤_}
 use native.Mathlib.Numerals.{add-one}
 use native.Mathlib.Omega.{arith}
 use borrow.Author.Needs.{needs}
+use Rattle.tables.specs.Tables.{tableOf, ofKind}
+use Rattle.tables.proofs.Accept.{gates-of-length}
 use Rattle.tables.proofs.Counts.{Counting, counting-start, counting-turn, counting-end}
 use Rattle.tables.proofs.count_kind.Statement.{statement}
 use Rattle.tables.proofs.count_kind.Tie as tie
 
 abbrev Inv-loop : tie.InvT-loop
-Inv-loop table gates kind count₀ g₀ count g = Counting table kind gates g count
+Inv-loop table gates kind count₀ g₀ count g = (g ≤ gates) × Counting kind (tableOf table) g count
 
 abbrev μ-loop : tie.MeasureT-loop
 μ-loop table gates kind count₀ g₀ count g = gates - g
 
 loop-holds : tie.Need-loop-holds Inv-loop μ-loop
-loop-holds c = counting-start _ _ _
+loop-holds c = (omega arith, counting-start _ _)
 
-add-is-kind : tie.Need-add-is-kind Inv-loop μ-loop
-add-is-kind c = search needs
-
-shared-slice-read-is-kind : tie.Need-shared-slice-read-is-kind Inv-loop μ-loop
-shared-slice-read-is-kind c = search needs
+gate-at-requires : tie.Need-gate-at-requires Inv-loop μ-loop
+gate-at-requires c κs = (c .before .before .before .pre .0, c .loop-test .taken)
 
 is-kind-requires : tie.Need-is-kind-requires Inv-loop μ-loop
-is-kind-requires c κs = search needs
+is-kind-requires c κs = c .before .before .before .before .pre .1
 
 add-count : tie.Need-add-count Inv-loop μ-loop
-add-count c = record { fits = omega (arith, c .before .before .before .loop .inv .few, c .is-kind .ensures .1) }
+add-count c =
+    record {
+      fits = omega (
+        arith,
+        c .before .before .before .loop .inv .1 .few,
+        c .is-kind .ensures .1,
+        c .before .before .before .before .before .pre .0 .few,
+        c .before .before .loop-test .taken,
+      );
+    }
 
 add-g : tie.Need-add-g Inv-loop μ-loop
 add-g c = search needs
@@ -36,16 +45,27 @@ loop-less : tie.Need-loop-less Inv-loop μ-loop
 loop-less c = search needs
 
 loop-again : tie.Need-loop-again Inv-loop μ-loop
-loop-again c = rw add-one
-    (counting-turn (c .before .before .before .loop .inv) _ (c .before .before .loop-test .taken)
-    (c .is-kind .ensures .0)
-    (c .is-kind .ensures .1))
+loop-again c =
+    let p = c .before .before .before in
+    let H = p .before .before .pre .0 in
+    let long = gates-of-length (p .before .before .args .table .now) in (
+      omega (arith, c .before .before .loop-test .taken),
+      rw add-one
+          (counting-turn (p .loop .inv .1) (omega (arith, c .before .before .loop-test .taken, H .stated, long))
+          (c .is-kind .ensures .0 ∙ ap (ofKind _) (c .before .gate-at .ensures .kind))
+          (c .is-kind .ensures .1)),
+    )
 
 cast-result : tie.Need-cast-result Inv-loop μ-loop
-cast-result c = record { fits = omega (arith, c .before .loop .inv .few) }
+cast-result c =
+    record { fits = omega (arith, c .before .loop .inv .1 .few, c .before .loop .inv .0, c .before .before .before .pre .0 .few) }
 
 returns : tie.Need-returns Inv-loop μ-loop
-returns c = counting-end (c .before .loop .inv) (c .loop-test .left)
+returns c =
+    let p = c .before in
+    let H = p .before .before .pre .0 in
+    let long = gates-of-length (p .before .before .args .table .now) in
+    (counting-end (p .loop .inv .1) (omega (arith, c .loop-test .left, H .stated, long)), omega (arith, p .loop .inv .1 .few, p .loop .inv .0))
 
 pub count-kind-spec : {M : Type 1} → statement M
 count-kind-spec =
@@ -54,8 +74,7 @@ count-kind-spec =
     Inv-loop
     μ-loop
     loop-holds
-    add-is-kind
-    shared-slice-read-is-kind
+    gate-at-requires
     is-kind-requires
     add-count
     add-g

@@ -1,42 +1,34 @@
 -- `text::put_refusal` meets its contract: the word and two numbers.
 -- Assumes nothing.
+use native.Mathlib.Omega.{arith}
+use Rattle.text.specs.Text.{lineOf}
 use borrow.Author.Needs.{needs}
-use Rattle.text.proofs.Writing.{puts-refusal}
 use Rattle.text.proofs.put_refusal.Statement.{statement}
 use Rattle.text.proofs.put_refusal.Tie as tie
 
-slice-aggregate-put-bytes : tie.Need-slice-aggregate-put-bytes
-slice-aggregate-put-bytes c = search needs
+slice-aggregate-put-two : tie.Need-slice-aggregate-put-two
+slice-aggregate-put-two c = search needs
 
-put-bytes-requires : tie.Need-put-bytes-requires
-put-bytes-requires c κs = search needs
+slice-aggregate-put-two-2 : tie.Need-slice-aggregate-put-two-2
+slice-aggregate-put-two-2 c = search needs
 
-put-number-requires : tie.Need-put-number-requires
-put-number-requires c κs = search needs
-
-put-number-requires-2 : tie.Need-put-number-requires-2
-put-number-requires-2 c κs = search needs
+put-two-requires : tie.Need-put-two-requires
+unfolding lineOf
+put-two-requires c κs = omega (arith, c .before .before .before .before .pre)
 
 same-length : tie.Need-same-length
 same-length c = search needs
 
 returns : tie.Need-returns
-returns c =
-    let second = c .before .before .before .before .before .before in
-    let first = second .before .before .before .before in
-    let start = first .before .before .before .before in
-    puts-refusal (start .args .number) (start .args .place) (start .pre)
-    (first .put-bytes .ensures)
-    (second .put-number .ensures)
-    (c .before .before .put-number2 .ensures)
+unfolding lineOf
+returns c = c .before .before .put-two .ensures
 
 pub put-refusal-spec : {M : Type 1} → statement M
 put-refusal-spec =
     tie.close
     (tie.spec
-    slice-aggregate-put-bytes
-    put-bytes-requires
-    put-number-requires
-    put-number-requires-2
+    slice-aggregate-put-two
+    slice-aggregate-put-two-2
+    put-two-requires
     same-length
     returns)

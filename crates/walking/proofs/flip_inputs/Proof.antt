@@ -1,15 +1,11 @@
 -- `walking::flip_inputs` meets its contract. The loop's invariant: the tape bits of the inputs from i on are left to write.
 -- Assumes nothing.
+use mathlib.Core.Path.{sym, _∙_}
 use Prim.Native.Nat.{_-_}
 use native.Mathlib.Omega.{arith}
 use lib.ListN.{length}
-use Rattle.walking.proofs.Flipping.{
-  Flipping,
-  flipping-start,
-  flipping-fits,
-  flipping-turn,
-  flipping-end,
-}
+use Rattle.tables.proofs.Put.{writing-long}
+use Rattle.walking.proofs.Flipping.{Flipping, flipping-start, flipping-fits, flipping-turn, flipping-end}
 use Rattle.walking.proofs.flip_inputs.Statement.{statement}
 use Rattle.walking.proofs.flip_inputs.Tie as tie
 
@@ -66,7 +62,9 @@ loop-again c =
     (c .before .before .flip-one .ensures)
 
 same-length : tie.Need-same-length Inv-loop μ-loop
-same-length c = c .before .loop .inv .long
+same-length c =
+    writing-long (c .before .loop .inv .writing)
+    ∙ sym (writing-long (flipping-start _ _ _ _ _ _ (c .before .before .before .before .before .before .pre) .writing))
 
 returns : tie.Need-returns Inv-loop μ-loop
 returns c = flipping-end (c .before .loop .inv) (c .loop-test .left)

@@ -1,8 +1,10 @@
 -- `walking::flip_one` meets its contract. The loop's invariant: the rest of the input's tape bits is left to write.
 -- Assumes nothing.
+use mathlib.Core.Path.{sym, _∙_}
 use Prim.Native.Nat.{_-_}
 use native.Mathlib.Omega.{arith}
-use Rattle.walking.proofs.Flipping.{FlippingOne, flipping-one-start, flipping-one-turn, flipping-one-end}
+use Rattle.tables.proofs.Put.{writing-long}
+use Rattle.walking.proofs.Flipping.{FlippingOne, flipping-one-start, flipping-one-there, flipping-one-turn, flipping-one-end}
 use Rattle.walking.proofs.flip_one.Statement.{statement}
 use Rattle.walking.proofs.flip_one.Tie as tie
 
@@ -14,7 +16,7 @@ abbrev μ-loop : tie.MeasureT-loop
 μ-loop bits k flip tape at mapped₀ s₀ mapped s = bits - s
 
 loop-holds : tie.Need-loop-holds Inv-loop μ-loop
-loop-holds c = flipping-one-start _ _ _ _ _ _
+loop-holds c = let p = c .before .before .pre in flipping-one-start _ _ _ _ _ _ (p .0) (p .1)
 
 add-tape-bit : tie.Need-add-tape-bit Inv-loop μ-loop
 add-tape-bit c = omega arith
@@ -34,7 +36,9 @@ add-mapped : tie.Need-add-mapped Inv-loop μ-loop
 add-mapped c = omega arith
 
 slice-write-mapped : tie.Need-slice-write-mapped Inv-loop μ-loop
-slice-write-mapped c = omega arith
+slice-write-mapped c =
+    let q = c .before .before .before in
+    flipping-one-there (q .loop .inv) (q .before .before .before .pre .0) (c .before .before .loop-test .taken)
 
 add-s : tie.Need-add-s Inv-loop μ-loop
 add-s c = omega arith
@@ -45,11 +49,14 @@ loop-less c = omega arith
 loop-again : tie.Need-loop-again Inv-loop μ-loop
 loop-again c =
     let p = c .before .before .before .before .before .before .pre in
-    flipping-one-turn (c .before .before .before .loop .inv) (p .0) (c .before .before .loop-test .taken) (p .1)
+    flipping-one-turn (c .before .before .before .loop .inv) (p .0) (c .before .before .loop-test .taken)
     (c .before .tape-bit .ensures) (c .flip-bit .ensures)
 
 same-length : tie.Need-same-length Inv-loop μ-loop
-same-length c = omega arith
+same-length c =
+    let p = c .before .before .before .before .pre in
+    writing-long (c .before .loop .inv .writing)
+    ∙ sym (writing-long (flipping-one-start _ _ _ _ _ _ (p .0) (p .1) .writing))
 
 returns : tie.Need-returns Inv-loop μ-loop
 returns c = flipping-one-end (c .before .loop .inv) (c .before .before .before .before .pre .0) (c .loop-test .left)

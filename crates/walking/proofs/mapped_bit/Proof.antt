@@ -3,7 +3,6 @@
 -- Assumes nothing.
 use native.Mathlib.Omega.{arith}
 use Rattle.walking.proofs.Walking.{bit-before, bit-past, bit-flipped}
-use borrow.Author.Needs.{needs}
 use Rattle.walking.proofs.mapped_bit.Statement.{statement}
 use Rattle.walking.proofs.mapped_bit.Tie as tie
 

@@ -2,87 +2,53 @@
 -- Assumes nothing.
 use native.Mathlib.Omega.{arith}
 use Rattle.walking.proofs.Walking.{valued-product}
-use borrow.Author.Needs.{needs}
 use Rattle.walking.proofs.product_differs.Statement.{statement}
 use Rattle.walking.proofs.product_differs.Tie as tie
 
-add-field : tie.Need-add-field
-add-field c = search needs
-
-mul-field : tie.Need-mul-field
-mul-field c = search needs
-
-add-field-2 : tie.Need-add-field-2
-add-field-2 c = search needs
-
-field-requires : tie.Need-field-requires
-field-requires c κs = search needs
-
-add-field-3 : tie.Need-add-field-3
-add-field-3 c = search needs
-
-mul-field-2 : tie.Need-mul-field-2
-mul-field-2 c = search needs
-
-add-field-4 : tie.Need-add-field-4
-add-field-4 c = search needs
-
-field-requires-2 : tie.Need-field-requires-2
-field-requires-2 c κs = search needs
+gate-at-requires : tie.Need-gate-at-requires
+gate-at-requires c κs = let p = c .before .before .before .pre in (p .table, p .within)
 
 shared-slice-read-result : tie.Need-shared-slice-read-result
-shared-slice-read-result c = search needs
+shared-slice-read-result c = let p = c .before .before .before .before .before .pre in omega (arith, p .one .left, c .before .gate-at .ensures .left)
 
 shared-slice-read-result-2 : tie.Need-shared-slice-read-result-2
-shared-slice-read-result-2 c = search needs
+shared-slice-read-result-2 c =
+    let p = c .before .before .before .before .before .before .pre in omega (arith, p .one .right, c .before .before .gate-at .ensures .right)
 
 mul-result : tie.Need-mul-result
 mul-result c =
-    omega (
-      arith,
-      valued-product (c .before .before .before .before .before .before .before .pre .one) _ _
-          (c .before .before .before .field .ensures .0) (c .before .before .field2 .ensures .0),
-    )
+    let g = c .before .before .gate-at .ensures in
+    omega (arith, valued-product (c .before .before .before .before .before .before .pre .one) _ _ (g .left) (g .right))
 
 shared-slice-read-result-3 : tie.Need-shared-slice-read-result-3
-shared-slice-read-result-3 c = search needs
+shared-slice-read-result-3 c =
+    let q = c .before .before .before in
+    let p = q .before .before .before .before .pre in omega (arith, p .other .left, q .gate-at .ensures .left)
 
 shared-slice-read-result-4 : tie.Need-shared-slice-read-result-4
-shared-slice-read-result-4 c = search needs
+shared-slice-read-result-4 c =
+    let q = c .before .before .before .before in
+    let p = q .before .before .before .before .pre in omega (arith, p .other .right, q .gate-at .ensures .right)
 
 mul-result-2 : tie.Need-mul-result-2
 mul-result-2 c =
-    omega (
-      arith,
-      valued-product (c .before .before .before .before .before .before .before .before .before .pre .other) _ _
-          (c .before .before .before .before .before .field .ensures .0) (c .before .before .before .before .field2 .ensures .0),
-    )
+    let g = c .before .before .before .before .gate-at .ensures in
+    omega (arith, valued-product (c .before .before .before .before .before .before .before .before .pre .other) _ _ (g .left) (g .right))
 
 add-result : tie.Need-add-result
 add-result c =
-    let start = c .before .before .before .before .before .before .before .before .before in
-    let left = c .before .before .before .before .before .field .ensures .0 in
-    let right = c .before .before .before .before .field2 .ensures .0 in
-    omega (arith, valued-product (start .pre .one) _ _ left right, valued-product (start .pre .other) _ _ left right)
+    let p = c .before .before .before .before .before .before .before .before .pre in
+    let g = c .before .before .before .before .gate-at .ensures in
+    omega (arith, valued-product (p .one) _ _ (g .left) (g .right), valued-product (p .other) _ _ (g .left) (g .right))
 
 returns : tie.Need-returns
-returns c = (
-  rw (c .before .before .before .before .before .field .ensures .0, c .before .before .before .before .field2 .ensures .0),
-  omega arith,
-)
+returns c = let g = c .before .before .before .before .gate-at .ensures in (rw (g .left, g .right), omega arith)
 
 pub product-differs-spec : {M : Type 1} → statement M
 product-differs-spec =
     tie.close
     (tie.spec
-    add-field
-    mul-field
-    add-field-2
-    field-requires
-    add-field-3
-    mul-field-2
-    add-field-4
-    field-requires-2
+    gate-at-requires
     shared-slice-read-result
     shared-slice-read-result-2
     mul-result

@@ -6,24 +6,18 @@ use borrow.Author.Needs.{needs}
 use Rattle.walking.proofs.put_mapped.Statement.{statement}
 use Rattle.walking.proofs.put_mapped.Tie as tie
 
-add-if1 : tie.Need-add-if1
-add-if1 c = search needs
-
-shared-slice-read-if1 : tie.Need-shared-slice-read-if1
-shared-slice-read-if1 c = search needs
-
 tape-bit-requires : tie.Need-tape-bit-requires
-tape-bit-requires c κs = c .before .before .before .before .before .before .before .pre .random (c .if1 .taken) .0
+tape-bit-requires c κs = c .before .before .before .before .before .before .pre .random (c .if1 .taken) .0
 
 mapped-bit-requires : tie.Need-mapped-bit-requires
 mapped-bit-requires c κs =
-    let ready = c .before .before .before .before .before .before .before .before .pre in
+    let ready = c .before .before .before .before .before .before .before .pre in
     let random = c .before .if1 .taken in
     (ready .cross random, omega (arith, ready .random random .1, c .tape-bit .ensures))
 
 slice-write-mapped : tie.Need-slice-write-mapped
 slice-write-mapped c =
-    c .before .before .before .before .before .before .before .before .before .pre .room (c .before .before .if1 .taken)
+    c .before .before .before .before .before .before .before .before .pre .room (c .before .before .if1 .taken)
 
 same-length : tie.Need-same-length
 same-length c = search needs
@@ -38,8 +32,6 @@ pub put-mapped-spec : {M : Type 1} → statement M
 put-mapped-spec =
     tie.close
     (tie.spec
-    add-if1
-    shared-slice-read-if1
     tape-bit-requires
     mapped-bit-requires
     slice-write-mapped

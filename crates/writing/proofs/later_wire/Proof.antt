@@ -1,18 +1,18 @@
--- `writing::later_wire` meets its contract: a later share stands where `listed` has it.
+-- `writing::later_wire` meets its contract: a later share stands where `shareWires` has it.
 -- Assumes nothing.
 use mathlib.Core.Path.{_≡_, sym}
 use Prim.Native.Nat.{suc, _+_, _-_, _*_}
 use native.Mathlib.Omega.{arith}
 use Rattle.masks.specs.Wires.{share}
-use Rattle.writing.specs.Layout.{listed}
-use Rattle.writing.proofs.Listed.{listed-later}
+use Rattle.writing.specs.Layout.{shareWires}
+use Rattle.writing.proofs.ShareWires.{shares-later}
 use Rattle.writing.proofs.later_wire.Statement.{statement}
 use Rattle.writing.proofs.later_wire.Tie as tie
 
 the-wire :
     (c : tie.Start)
-    → share (listed (suc (c .args .i)) (c .args .a)) (c .args .i) ≡ c .args .a .base + (c .args .i - 1) * c .args .a .step
-the-wire c = listed-later (suc (c .args .i)) (c .args .i) (c .args .a) (c .pre .0) (omega arith)
+    → share (shareWires (suc (c .args .i)) (c .args .a)) (c .args .i) ≡ c .args .a .base + (c .args .i - 1) * c .args .a .step
+the-wire c = shares-later (suc (c .args .i)) (c .args .i) (c .args .a) (c .pre .0) (omega arith)
 
 sub-result : tie.Need-sub-result
 sub-result c = omega arith
@@ -27,7 +27,7 @@ returns : tie.Need-returns
 returns c =
     let s = c .before .before in (
       omega (arith, s .pre .1, the-wire s),
-      λ n h. sym (listed-later n (s .args .i) (s .args .a) (s .pre .0) h),
+      λ n h. sym (shares-later n (s .args .i) (s .args .a) (s .pre .0) h),
     )
 
 pub later-wire-spec : {M : Type 1} → statement M

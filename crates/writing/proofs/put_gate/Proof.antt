@@ -4,7 +4,7 @@ use mathlib.Core.Path.{refl}
 use native.Mathlib.Omega.{arith}
 use borrow.Author.Needs.{needs}
 use Rattle.tables.specs.Tables.{two}
-use Rattle.writing.proofs.Bytes.{put-then}
+use Rattle.tables.proofs.Put.{put-then}
 use Rattle.writing.proofs.put_gate.Statement.{statement}
 use Rattle.writing.proofs.put_gate.Tie as tie
 

@@ -4,8 +4,7 @@ use mathlib.Core.Path.{refl}
 use mathlib.Core.List.{[], _∷_}
 use native.Mathlib.Omega.{arith}
 use lib.ListN.{length-set}
-use Rattle.tables.proofs.Put.{put-set}
-use Rattle.writing.proofs.Bytes.{put-byte}
+use Rattle.tables.proofs.Put.{put-set, put-then}
 use Rattle.writing.proofs.put_pair_kinds.Statement.{statement}
 use Rattle.writing.proofs.put_pair_kinds.Tie as tie
 
@@ -44,10 +43,10 @@ returns c =
     let at = c .args .at in
     let b = c .args .kinds .now in
     let to1 = put-set at 3 b (omega arith) in
-    let to2 = put-byte at (3 ∷ []) 2 b (omega arith) to1 refl in
-    let to3 = put-byte at (3 ∷ 2 ∷ []) 1 b (omega arith) to2 refl in
-    let to4 = put-byte at (3 ∷ 2 ∷ 1 ∷ []) 2 b (omega arith) to3 refl in
-    put-byte at (3 ∷ 2 ∷ 1 ∷ 2 ∷ []) 1 b (omega arith) to4 refl
+    let to2 = put-then at (3 ∷ []) (2 ∷ []) b (omega arith) to1 refl (put-set _ 2 _ (simp length-set (omega arith))) in
+    let to3 = put-then at (3 ∷ 2 ∷ []) (1 ∷ []) b (omega arith) to2 refl (put-set _ 1 _ (simp length-set (omega arith))) in
+    let to4 = put-then at (3 ∷ 2 ∷ 1 ∷ []) (2 ∷ []) b (omega arith) to3 refl (put-set _ 2 _ (simp length-set (omega arith))) in
+    put-then at (3 ∷ 2 ∷ 1 ∷ 2 ∷ []) (1 ∷ []) b (omega arith) to4 refl (put-set _ 1 _ (simp length-set (omega arith)))
 
 pub put-pair-kinds-spec : {M : Type 1} → statement M
 put-pair-kinds-spec =

@@ -3,7 +3,7 @@
 use mathlib.Core.Path.{sym}
 use Prim.Native.Nat.{suc}
 use native.Mathlib.Omega.{arith}
-use Rattle.writing.proofs.Listed.{listed-first}
+use Rattle.writing.proofs.ShareWires.{shares-first}
 use Rattle.writing.proofs.share_wire.Statement.{statement}
 use Rattle.writing.proofs.share_wire.Tie as tie
 
@@ -12,8 +12,8 @@ returns c =
     let s = c .before in
     let i = s .args .i in
     let zeroth = c .if1 .taken in (
-      omega (arith, s .pre, listed-first (suc i) i (s .args .a) zeroth),
-      λ n h. sym (listed-first n i (s .args .a) zeroth),
+      omega (arith, s .pre, shares-first (suc i) i (s .args .a) zeroth),
+      λ n h. sym (shares-first n i (s .args .a) zeroth),
     )
 
 later-wire-requires : tie.Need-later-wire-requires

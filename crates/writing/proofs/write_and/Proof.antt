@@ -1,18 +1,23 @@
 -- `writing::write_and` meets its contract: the pairs, then the rows.
 -- Assumes nothing.
-use mathlib.Core.Path.{_≡_}
-use Prim.Native.Nat.{_+_, _*_}
+use mathlib.Core.Path.{_≡_, ap, _∙_}
+use mathlib.Core.List.{List, _++_}
+use Prim.Native.Nat.{ℕ, _*_}
 use native.Mathlib.Omega.{arith}
 use borrow.Author.Needs.{needs}
+use lib.ListN.{length}
 use Rattle.masks.specs.Shares.{tri}
-use Rattle.writing.specs.Layout.{listed, allPairs, allRows}
-use Rattle.writing.proofs.Bytes.{put-then}
-use Rattle.writing.proofs.Pieces.{all-pairs-long, and-bytes}
+use Rattle.tables.specs.Inside.{putAt}
+use Rattle.masks.specs.Gadgets.{isw}
+use Rattle.writing.specs.Layout.{shareWires, joined, pairOperands, allRows}
+use Rattle.writing.proofs.Bytes.{joined-long}
+use Rattle.tables.proofs.Put.{put-then}
+use Rattle.writing.proofs.Pieces.{pair-long}
 use Rattle.writing.proofs.write_and.Statement.{statement}
 use Rattle.writing.proofs.write_and.Tie as tie
 
 write-pairs-requires : tie.Need-write-pairs-requires
-write-pairs-requires c κs = search needs
+write-pairs-requires c κs = let p = c .before .before .pre in (p .0, omega (arith, p .1), omega (arith, p .2))
 
 sub-write-rows : tie.Need-sub-write-rows
 sub-write-rows c = omega arith
@@ -24,7 +29,9 @@ add-write-rows : tie.Need-add-write-rows
 add-write-rows c = omega arith
 
 write-rows-requires : tie.Need-write-rows-requires
-write-rows-requires c κs = search needs
+write-rows-requires c κs =
+    let p = c .before .before .before .before .before .before .pre in
+    (p .0, omega arith, omega (arith, p .1), omega (arith, p .2))
 
 same-length : tie.Need-same-length
 same-length c = search needs
@@ -36,16 +43,16 @@ returns c =
     let s = pairs .before .before .before in
     let n = s .args .n in
     let w = s .args .w in
-    let A = listed n (s .args .a) in
-    let B = listed n (s .args .b) in
-    let next : pairs .write-pairs .result ≡ w + 5 * tri n = pairs .write-pairs .ensures .0 in
-    let long = all-pairs-long n w A B in
-    rw (and-bytes n w A B, ← next)
-    (put-then (s .args .at) (allPairs n w A B) (allRows n w _ A B) (s .args .ops .now)
-    (omega (arith, s .pre .3))
-    (pairs .write-pairs .ensures .1)
-    (omega arith)
-    (rows .write-rows .ensures))
+    let A = shareWires n (s .args .a) in
+    let B = shareWires n (s .args .b) in
+    let at = s .args .at in
+    let b = s .args .ops .now in
+    let all = joined (tri n) 0 (pairOperands isw n w A B) in
+    let long : length all ≡ 20 * tri n = joined-long 20 (tri n) 0 _ (λ i _. pair-long isw n w A B i) in
+    let next = pairs .write-pairs .ensures .0 in
+    put-then at all (allRows isw n w _ A B) b (omega (arith, s .pre .2)) (pairs .write-pairs .ensures .1) (omega (arith, long, next))
+    (rows .write-rows .ensures)
+    ∙ ap {A = ℕ} {B = List ℕ} (λ v. putAt at (all ++ allRows isw n w v A B) b) next
 
 pub write-and-spec : {M : Type 1} → statement M
 write-and-spec =

@@ -1,44 +1,46 @@
 -- `writing::write_and_kinds` meets its contract: the pairs, then the rows.
 -- Assumes nothing.
-use mathlib.Core.Path.{_≡_}
-use Prim.Native.Nat.{_-_, _*_, _/_}
+use mathlib.Core.Path.{_≡_, refl, ap, _∙_}
+use mathlib.Core.List.{List, _++_}
+use Prim.Native.Nat.{ℕ, _*_}
 use native.Mathlib.Omega.{arith}
 use lib.ListN.{length}
 use borrow.Author.Needs.{needs}
-use Rattle.masks.specs.Shares.{tri}
-use Rattle.writing.specs.Layout.{times, pairKinds, rowKinds}
-use Rattle.masks.proofs.Rows.{tri-closed}
-use Rattle.writing.proofs.Bytes.{times-long, put-then}
+use Rattle.tables.specs.Inside.{putAt}
+use Rattle.tables.proofs.Put.{put-then}
+use Rattle.writing.specs.Layout.{joined, pairKinds, rowKinds}
+use Rattle.writing.proofs.Bytes.{joined-long}
 use Rattle.writing.proofs.GateKinds.{xors-after}
 use Rattle.writing.proofs.write_and_kinds.Statement.{statement}
 use Rattle.writing.proofs.write_and_kinds.Tie as tie
 
-mul-m : tie.Need-mul-m
-mul-m c = omega arith
+-- the kinds of m pairs
+long : (m : ℕ) → length (joined m 0 (λ _. pairKinds)) ≡ 5 * m
+long m = joined-long 5 m 0 (λ _. pairKinds) (λ _ _. refl)
 
-sub-m : tie.Need-sub-m
-sub-m c = omega (arith, tri-closed (c .before .args .n))
+pair-count-requires : tie.Need-pair-count-requires
+pair-count-requires c κs = c .before .pre .0
 
 write-pair-kinds-requires : tie.Need-write-pair-kinds-requires
-write-pair-kinds-requires c κs = omega (arith, tri-closed (c .before .before .args .n))
+write-pair-kinds-requires c κs = omega (arith, c .before .pair-count .ensures, c .before .before .before .pre .1)
 
 mul-write-rows-kinds : tie.Need-mul-write-rows-kinds
-mul-write-rows-kinds c = omega (arith, tri-closed (c .before .before .before .before .before .before .args .n))
+mul-write-rows-kinds c = search needs
 
 add-write-rows-kinds : tie.Need-add-write-rows-kinds
-add-write-rows-kinds c = omega (arith, tri-closed (c .before .before .before .before .before .before .args .n))
+add-write-rows-kinds c = search needs
 
 write-rows-kinds-requires : tie.Need-write-rows-kinds-requires
 write-rows-kinds-requires c κs =
     let pairs = c .before .before .before in
-    let s = pairs .before .before .before in
-    let n = s .args .n in
-    let m = (n * n - n) / 2 in
-    let long : length (times m pairKinds) ≡ m * 5 = times-long m pairKinds in (
-      omega (arith, tri-closed n, s .pre .0),
-      xors-after (s .args .at) (times m pairKinds) (s .args .kinds .now) (s .pre .1) (omega (arith, tri-closed n, long, s .pre .0))
+    let count = pairs .before .before in
+    let s = count .before .before in
+    let m = count .pair-count .result in (
+      omega (arith, s .pre .1, count .pair-count .ensures),
+      xors-after (s .args .at) (joined m 0 (λ _. pairKinds)) (s .args .kinds .now) (s .pre .2)
+          (omega (arith, long m, s .pre .1, count .pair-count .ensures))
           (pairs .write-pair-kinds .ensures)
-          (omega (arith, long)),
+          (omega (arith, long m)),
     )
 
 same-length : tie.Need-same-length
@@ -48,23 +50,21 @@ returns : tie.Need-returns
 returns c =
     let rows = c .before .before in
     let pairs = rows .before .before .before .before in
-    let s = pairs .before .before .before in
-    let n = s .args .n in
-    let count : tri n ≡ (n * n - n) / 2 = omega (arith, tri-closed n) in
-    let long : length (times ((n * n - n) / 2) pairKinds) ≡ (n * n - n) / 2 * 5 = times-long ((n * n - n) / 2) pairKinds in
-    rw count
-    (put-then (s .args .at) (times ((n * n - n) / 2) pairKinds) (times n (rowKinds n)) (s .args .kinds .now)
-    (omega (arith, s .pre .0))
-    (pairs .write-pair-kinds .ensures)
-    (omega arith)
-    (rows .write-rows-kinds .ensures))
+    let count = pairs .before .before in
+    let s = count .before .before in
+    let m = count .pair-count .result in
+    let at = s .args .at in
+    let b = s .args .kinds .now in
+    let all = joined (s .args .n) 0 (λ _. rowKinds (s .args .n)) in
+    put-then at (joined m 0 (λ _. pairKinds)) all b (omega (arith, s .pre .1, long m, count .pair-count .ensures))
+    (pairs .write-pair-kinds .ensures) (omega (arith, long m)) (rows .write-rows-kinds .ensures)
+    ∙ ap {A = ℕ} {B = List ℕ} (λ k. putAt at (joined k 0 (λ _. pairKinds) ++ all) b) (count .pair-count .ensures)
 
 pub write-and-kinds-spec : {M : Type 1} → statement M
 write-and-kinds-spec =
     tie.close
     (tie.spec
-    mul-m
-    sub-m
+    pair-count-requires
     write-pair-kinds-requires
     mul-write-rows-kinds
     add-write-rows-kinds

@@ -8,23 +8,16 @@ use Rattle.tables.specs.Tables.{two}
 use Rattle.masks.specs.Shares.{pairAt}
 use Rattle.masks.specs.Gadgets.{isw}
 use Rattle.masks.specs.Wires.{pairWire}
-use Rattle.writing.proofs.Bytes.{Writing, writing-even, writing-turn, writing-end}
-use Rattle.writing.proofs.Pieces.{
-  sumPiece,
-  sums-joined,
-  Upright,
-  upright-start,
-  upright-turn,
-  upright-high,
-  upright-within,
-  upright-low,
-}
+use Rattle.writing.specs.Layout.{sumOperands}
+use Rattle.writing.proofs.Bytes.{Joining, joining-start, joining-turn, joining-end}
+use Rattle.writing.proofs.Pieces.{Upright, upright-start, upright-turn, upright-high, upright-within}
+use Rattle.writing.proofs.Pieces.{upright-low}
 use Rattle.writing.proofs.write_high_sums.Statement.{statement}
 use Rattle.writing.proofs.write_high_sums.Tie as tie
 
 abbrev Inv-loop : tie.InvT-loop
 Inv-loop ops₀ at last w n i z₀ j₀ ops z j =
-    Writing at i (sumPiece last (λ j. pairWire w (isw .high) (pairAt n j i))) ops₀ (at + 4 * j) j ops
+    Joining 4 at i (sumOperands last (λ j. pairWire w (isw .high) (pairAt n j i))) ops₀ (at + 4 * j) j ops
     × Upright n w i j z
 
 abbrev μ-loop : tie.MeasureT-loop
@@ -50,7 +43,7 @@ add-z c = omega arith
 loop-holds : tie.Need-loop-holds Inv-loop μ-loop
 loop-holds c =
     let s = c .before in (
-      writing-even 4 (s .args .at) _ _ _ _ (λ _. refl) (omega arith) (s .pre .3),
+      joining-start 4 (s .args .at) _ _ _ _ (λ _ _. refl) (omega arith) (s .pre .3),
       upright-start (s .args .n) (s .args .w) (s .args .i),
     )
 
@@ -100,7 +93,7 @@ loop-again c =
     let high = upright-high _ _ _ j _ (omega arith) (s .pre .0) up in
     let piece = ap (λ (v : ℕ). two (s .args .last + j) ++ two v)
     {x = head .loop .z - 5 + 4} {y = pairWire (s .args .w) (isw .high) (pairAt (s .args .n) j (s .args .i))} (omega (arith, high)) in (
-      writing-turn (head .loop .inv .0) _ _ (omega arith) piece (call .put-gate .ensures) (omega arith),
+      joining-turn (head .loop .inv .0) _ _ (omega arith) refl piece (call .put-gate .ensures) (omega arith),
       upright-turn _ _ _ j _ (omega arith) (s .pre .0) up,
     )
 
@@ -109,10 +102,9 @@ same-length c = c .before .loop .inv .0 .long
 
 returns : tie.Need-returns Inv-loop μ-loop
 returns c =
-    let s = c .before .before .before in
     let inv = c .before .loop .inv in (
       λ h. upright-low _ _ _ (c .before .loop .j) _ h (omega (arith, inv .0 .within)) (inv .1),
-      rw (sums-joined (s .args .last) (s .args .i) _) (writing-end (inv .0) (omega arith)),
+      joining-end (inv .0) (omega arith),
     )
 
 pub write-high-sums-spec : {M : Type 1} → statement M

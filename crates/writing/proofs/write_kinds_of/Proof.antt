@@ -1,30 +1,26 @@
 -- `writing::write_kinds_of` meets its contract: an AND's kinds, or one byte before the kinds that stand already.
 -- Assumes nothing.
-use mathlib.Core.List.{[]}
-use native.Mathlib.Omega.{arith}
 use borrow.Author.Needs.{needs}
-use Rattle.writing.proofs.GateKinds.{and-kinds, kinds-head, kinds-room}
+use Rattle.writing.proofs.GateKinds.{kinds-head}
 use Rattle.writing.proofs.write_kinds_of.Statement.{statement}
 use Rattle.writing.proofs.write_kinds_of.Tie as tie
 
 write-and-kinds-requires : tie.Need-write-and-kinds-requires
 write-and-kinds-requires c κs =
     let p = c .before .before .before .pre in
-    (rw (c .before .if1 .taken) at (p .2), p .3)
+    (p .2, rw (c .before .if1 .taken) at (p .3), p .4)
 
 same-length : tie.Need-same-length
 same-length c = search needs
 
 returns : tie.Need-returns
-returns c =
-    let call = c .before .before in
-    let s = call .before .before .before .before in
-    rw (call .before .before .if1 .taken, and-kinds (s .args .n) 0 0 [] []) (call .write-and-kinds .ensures)
+returns c = let call = c .before .before in rw (call .before .before .if1 .taken) (call .write-and-kinds .ensures)
 
 slice-write-kinds : tie.Need-slice-write-kinds
 slice-write-kinds c =
     let s = c .before .before in
-    kinds-room (s .args .kind) (s .args .n) (s .args .at) (s .args .kinds .now) (s .pre .0) (c .if1 .left) (s .pre .1) (s .pre .2)
+    let p = s .pre in
+    kinds-head (s .args .kind) (s .args .n) (s .args .at) (s .args .kinds .now) (p .0) (c .if1 .left) (p .1) (p .3) (p .4) .0
 
 same-length-2 : tie.Need-same-length-2
 same-length-2 c = search needs
@@ -33,7 +29,7 @@ returns-2 : tie.Need-returns-2
 returns-2 c =
     let s = c .before .before in
     let p = s .pre in
-    kinds-head (s .args .kind) (s .args .n) (s .args .at) (s .args .kinds .now) (p .0) (c .if1 .left) (p .1) (p .2) (p .3)
+    kinds-head (s .args .kind) (s .args .n) (s .args .at) (s .args .kinds .now) (p .0) (c .if1 .left) (p .1) (p .3) (p .4) .1
 
 pub write-kinds-of-spec : {M : Type 1} → statement M
 write-kinds-of-spec =

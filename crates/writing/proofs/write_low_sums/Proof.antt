@@ -5,14 +5,14 @@ use Prim.Native.Nat.{_+_, _-_, _*_, _<_}
 use native.Mathlib.Omega.{arith}
 use Rattle.masks.specs.Gadgets.{isw}
 use Rattle.masks.specs.Wires.{pairWire}
-use Rattle.writing.proofs.Bytes.{Writing, writing-even, writing-turn, writing-end}
-use Rattle.writing.proofs.Pieces.{sumPiece, sums-joined}
+use Rattle.writing.specs.Layout.{sumOperands}
+use Rattle.writing.proofs.Bytes.{Joining, joining-start, joining-turn, joining-end}
 use Rattle.writing.proofs.write_low_sums.Statement.{statement}
 use Rattle.writing.proofs.write_low_sums.Tie as tie
 
 abbrev Inv-loop : tie.InvT-loop
 Inv-loop ops₀ at last z m c₀ ops c =
-    Writing at m (sumPiece last (pairWire z (isw .low))) ops₀ (at + 4 * c) c ops
+    Joining 4 at m (sumOperands last (pairWire z (isw .low))) ops₀ (at + 4 * c) c ops
 
 abbrev μ-loop : tie.MeasureT-loop
 μ-loop ops₀ at last z m c₀ ops c = m - c
@@ -25,7 +25,7 @@ low-wire c = c .before .before .before .pre .1 (c .before .loop .c) (c .loop-tes
 loop-holds : tie.Need-loop-holds Inv-loop μ-loop
 loop-holds c =
     let s = c .before in
-    writing-even 4 (s .args .at) _ _ _ _ (λ _. refl) (omega arith) (s .pre .2)
+    joining-start 4 (s .args .at) _ _ _ _ (λ _ _. refl) (omega arith) (s .pre .2)
 
 mul-put-gate : tie.Need-mul-put-gate Inv-loop μ-loop
 mul-put-gate c = omega arith
@@ -58,16 +58,13 @@ loop-again : tie.Need-loop-again Inv-loop μ-loop
 loop-again c =
     let call = c .before .before in
     let head = call .before .before .before in
-    writing-turn (head .loop .inv) _ _ (omega arith) refl (call .put-gate .ensures) (omega arith)
+    joining-turn (head .loop .inv) _ _ (omega arith) refl refl (call .put-gate .ensures) (omega arith)
 
 same-length : tie.Need-same-length Inv-loop μ-loop
 same-length c = c .before .loop .inv .long
 
 returns : tie.Need-returns Inv-loop μ-loop
-returns c =
-    let s = c .before .before .before in
-    rw (sums-joined (s .args .last) (s .args .m) (pairWire (s .args .z) (isw .low)))
-    (writing-end (c .before .loop .inv) (omega arith))
+returns c = joining-end (c .before .loop .inv) (omega arith)
 
 pub write-low-sums-spec : {M : Type 1} → statement M
 write-low-sums-spec =

@@ -6,7 +6,8 @@ use borrow.Author.Needs.{needs}
 use Rattle.tables.specs.Tables.{pairBytes}
 use Rattle.tables.proofs.Put.{put-nil}
 use Rattle.masks.specs.Gadgets.{isw}
-use Rattle.writing.proofs.Pieces.{no-wires}
+use Rattle.writing.specs.Layout.{shareWires}
+use Rattle.writing.proofs.Pieces.{xor-operands, and-operands, no-wires}
 use Rattle.writing.proofs.write_operands_of.Statement.{statement}
 use Rattle.writing.proofs.write_operands_of.Tie as tie
 
@@ -14,17 +15,17 @@ write-and-requires : tie.Need-write-and-requires
 write-and-requires c κs =
     let s = c .before .before .before in
     let is = c .before .if1 .taken in
-    (s .pre .left, s .pre .right (omega arith), rw is at (s .pre .wires), rw is at (s .pre .room))
+    (s .pre .shares, rw is at (s .pre .wires), rw is at (s .pre .room))
 
 write-xor-requires : tie.Need-write-xor-requires
 write-xor-requires c κs =
     let s = c .before .before .before .before in
     let is = c .before .if2 .taken in
-    (s .pre .left, s .pre .right (omega arith), rw is at (s .pre .room))
+    (s .pre .shares, rw is at (s .pre .room))
 
 share-wire-requires : tie.Need-share-wire-requires
 share-wire-requires c κs =
-    let s = c .before .before .before .before in s .pre .left 0 (s .pre .some)
+    let s = c .before .before .before .before in s .pre .shares .left 0 (s .pre .some)
 
 put-gate-requires : tie.Need-put-gate-requires
 put-gate-requires c κs =
@@ -36,24 +37,28 @@ same-length : tie.Need-same-length
 same-length c = search needs
 
 returns : tie.Need-returns
-returns c =
-    let is = c .before .before .before .before .if1 .taken in
-    rw is (c .before .before .write-and .ensures)
+returns c g =
+    let call = c .before .before in
+    let s = call .before .before .before .before in
+    rw (call .before .before .if1 .taken, and-operands isw (s .args .n) g (s .args .w)) (call .write-and .ensures)
 
 same-length-2 : tie.Need-same-length-2
 same-length-2 c = search needs
 
 returns-2 : tie.Need-returns-2
-returns-2 c =
-    let is = c .before .before .before .before .if2 .taken in
-    rw is (c .before .before .write-xor .ensures)
+returns-2 c g =
+    let call = c .before .before in
+    let s = call .before .before .before .before .before in
+    let A = shareWires (s .args .n) (s .args .a) in
+    let B = shareWires (s .args .n) (s .args .b) in
+    rw (call .before .before .if2 .taken, xor-operands isw (s .args .n) g (s .args .w) A B) (call .write-xor .ensures)
 
 same-length-3 : tie.Need-same-length-3
 same-length-3 c = search needs
 
 returns-3 : tie.Need-returns-3
 unfolding pairBytes
-returns-3 c =
+returns-3 c g =
     let call = c .before .before in
     let share = call .before .before in
     let is = share .before .if3 .taken in
@@ -61,9 +66,9 @@ returns-3 c =
 
 returns-4 : tie.Need-returns-4
 unfolding pairBytes
-returns-4 c =
+returns-4 c g =
     let s = c .before .before .before .before in
-    rw (no-wires isw (s .args .kind) (s .args .n) 0 (s .args .w) _ _ (c .if3 .left) (c .before .if2 .left) (c .before .before .if1 .left))
+    rw (no-wires isw (s .args .kind) (s .args .n) g (s .args .w) _ _ (c .if3 .left) (c .before .if2 .left) (c .before .before .if1 .left))
     (sym (put-nil (s .args .at) (s .args .ops .now)))
 
 pub write-operands-of-spec : {M : Type 1} → statement M

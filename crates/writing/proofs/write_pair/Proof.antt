@@ -6,7 +6,7 @@ use Prim.Native.Nat.{_+_}
 use native.Mathlib.Omega.{arith}
 use borrow.Author.Needs.{needs}
 use Rattle.tables.specs.Tables.{two, pairBytes}
-use Rattle.writing.proofs.Bytes.{put-then}
+use Rattle.tables.proofs.Put.{put-then}
 use Rattle.writing.proofs.write_pair.Statement.{statement}
 use Rattle.writing.proofs.write_pair.Tie as tie
 

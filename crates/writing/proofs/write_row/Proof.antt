@@ -1,25 +1,26 @@
 -- `writing::write_row` meets its contract: the own product, the first sums, the last sums.
 -- Assumes nothing.
-use mathlib.Core.Path.{_≡_, refl, ap, _∙_}
+use mathlib.Core.Path.{_≡_, refl}
 use mathlib.Core.List.{_++_}
-use Prim.Native.Nat.{ℕ, suc, _+_, _-_, _*_}
+use Prim.Native.Nat.{_+_, _-_, _*_}
 use native.Mathlib.Omega.{arith}
 use lib.ListN.{length}
 use borrow.Author.Needs.{needs}
 use Rattle.tables.specs.Tables.{two}
-use Rattle.writing.specs.Layout.{sumBytes, highWires, lowWires}
-use Rattle.writing.proofs.Listed.{share-low}
-use Rattle.writing.proofs.Bytes.{sums-long, put-then}
-use Rattle.masks.proofs.Sum.{up-length}
-use Rattle.writing.proofs.Pieces.{low-within, row-bytes}
+use Rattle.tables.proofs.Put.{put-then}
+use Rattle.masks.specs.Gadgets.{isw}
+use Rattle.writing.specs.Layout.{highSums, lowSums}
+use Rattle.writing.proofs.ShareWires.{share-low}
+use Rattle.writing.proofs.Bytes.{joined-long}
+use Rattle.writing.proofs.Pieces.{low-within, low-same}
 use Rattle.writing.proofs.write_row.Statement.{statement}
 use Rattle.writing.proofs.write_row.Tie as tie
 
 share-wire-requires : tie.Need-share-wire-requires
-share-wire-requires c κs = share-low _ _ _ (c .before .pre .0 .left) (c .before .pre .0 .inside)
+share-wire-requires c κs = share-low _ _ _ (c .before .pre .0 .left) (c .before .pre .1)
 
 share-wire-requires-2 : tie.Need-share-wire-requires-2
-share-wire-requires-2 c κs = share-low _ _ _ (c .before .before .pre .0 .right) (c .before .before .pre .0 .inside)
+share-wire-requires-2 c κs = share-low _ _ _ (c .before .before .pre .0 .right) (c .before .before .pre .1)
 
 put-gate-requires : tie.Need-put-gate-requires
 put-gate-requires c κs = omega arith
@@ -55,7 +56,7 @@ write-low-sums-requires c κs =
     let z = high .write-high-sums .result in
     let low = high .write-high-sums .ensures .0 in (
       omega arith,
-      λ m h. omega (arith, low-within (s .args .n) (s .args .w) (s .args .i) z m (low (omega arith)) (omega arith), s .pre .2),
+      λ m h. omega (arith, low-within (s .args .n) (s .args .w) (s .args .i) z m (low (omega arith)) (omega arith), s .pre .3),
       omega arith,
     )
 
@@ -75,20 +76,18 @@ returns c =
     let v = s .args .v in
     let at = s .args .at in
     let b = s .args .ops .now in
-    let inside = s .pre .0 .inside in
+    let inside = s .pre .1 in
     let z = high .write-high-sums .result in
     let product = two (ai .share-wire .result) ++ two (bi .share-wire2 .result) in
-    let firsts = sumBytes v (highWires n (s .args .w) i) in
-    let long : length firsts ≡ 4 * i = sums-long v (highWires n (s .args .w) i) ∙ ap (λ (y : ℕ). 4 * y) (up-length i 0 _) in
-    let lasts = sumBytes (v + i) (lowWires (n - 1 - i) z) in
-    let to2 = put-then at product firsts b (omega (arith, s .pre .3)) (own .put-gate .ensures) refl (high .write-high-sums .ensures .1) in
-    let to3 = put-then at (product ++ firsts) lasts b (omega (arith, s .pre .3)) to2 (omega arith) (low .write-low-sums .ensures) in
-    let m : n - suc i ≡ n - 1 - i = omega arith in
+    let firsts = highSums isw n (s .args .w) v i in
+    let long : length firsts ≡ 4 * i = joined-long 4 i 0 _ (λ _ _. refl) in
+    let lasts = lowSums isw z (v + i) (n - 1 - i) in
+    let to2 = put-then at product firsts b (omega (arith, s .pre .4)) (own .put-gate .ensures) refl (high .write-high-sums .ensures .1) in
+    let to3 = put-then at (product ++ firsts) lasts b (omega (arith, s .pre .4)) to2 (omega arith) (low .write-low-sums .ensures) in
     rw (
-      row-bytes n (s .args .w) v _ _ i z inside (high .write-high-sums .ensures .0),
+      low-same n (s .args .w) i z (v + i) (n - 1 - i) (omega arith) (high .write-high-sums .ensures .0),
       ← ai .share-wire .ensures .1 n inside,
       ← bi .share-wire2 .ensures .1 n inside,
-      m,
     )
     to3
 

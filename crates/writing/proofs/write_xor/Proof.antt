@@ -4,17 +4,16 @@ use mathlib.Core.Path.{refl, ap₂}
 use mathlib.Core.List.{_++_}
 use Prim.Native.Nat.{ℕ, _+_, _-_, _*_}
 use native.Mathlib.Omega.{arith}
-use borrow.Author.Needs.{needs}
 use Rattle.tables.specs.Tables.{two}
-use Rattle.writing.specs.Layout.{listed}
-use Rattle.writing.proofs.Listed.{share-low}
-use Rattle.writing.proofs.Bytes.{Writing, writing-even, writing-turn, writing-end}
-use Rattle.writing.proofs.Pieces.{xorPiece, xors-joined}
+use Rattle.writing.specs.Layout.{shareWires, xorOperands}
+use Rattle.writing.proofs.ShareWires.{share-low}
+use Rattle.writing.proofs.Bytes.{Joining, joining-start, joining-turn, joining-end}
 use Rattle.writing.proofs.write_xor.Statement.{statement}
 use Rattle.writing.proofs.write_xor.Tie as tie
 
 abbrev Inv-loop : tie.InvT-loop
-Inv-loop ops₀ at n a b s₀ ops s = Writing at n (xorPiece (listed n a) (listed n b)) ops₀ (at + 4 * s) s ops
+Inv-loop ops₀ at n a b s₀ ops s =
+    Joining 4 at n (xorOperands (shareWires n a) (shareWires n b)) ops₀ (at + 4 * s) s ops
 
 abbrev μ-loop : tie.MeasureT-loop
 μ-loop ops₀ at n a b s₀ ops s = n - s
@@ -22,17 +21,17 @@ abbrev μ-loop : tie.MeasureT-loop
 loop-holds : tie.Need-loop-holds Inv-loop μ-loop
 loop-holds c =
     let s = c .before in
-    writing-even 4 (s .args .at) _ _ _ _ (λ _. refl) (omega arith) (s .pre .2)
+    joining-start 4 (s .args .at) _ _ _ _ (λ _ _. refl) (omega arith) (s .pre .1)
 
 share-wire-requires : tie.Need-share-wire-requires Inv-loop μ-loop
 share-wire-requires c κs =
     let s = c .before .before .before in
-    share-low (s .args .n) _ (s .args .a) (s .pre .0) (c .loop-test .taken)
+    share-low (s .args .n) _ (s .args .a) (s .pre .0 .left) (c .loop-test .taken)
 
 share-wire-requires-2 : tie.Need-share-wire-requires-2 Inv-loop μ-loop
 share-wire-requires-2 c κs =
     let s = c .before .before .before .before in
-    let inside = c .before .loop-test .taken in search (share-low (s .args .n), needs)
+    share-low (s .args .n) _ (s .args .b) (s .pre .0 .right) (c .before .loop-test .taken)
 
 mul-put-gate : tie.Need-mul-put-gate Inv-loop μ-loop
 mul-put-gate c = omega arith
@@ -60,15 +59,13 @@ loop-again c =
     let piece = ap₂ (λ (x y : ℕ). two x ++ two y)
     (left .share-wire .ensures .1 n (test .loop-test .taken))
     (right .share-wire2 .ensures .1 n (test .loop-test .taken)) in
-    writing-turn (head .loop .inv) _ _ (omega arith) piece (call .put-gate .ensures) (omega arith)
+    joining-turn (head .loop .inv) _ _ (omega arith) refl piece (call .put-gate .ensures) (omega arith)
 
 same-length : tie.Need-same-length Inv-loop μ-loop
 same-length c = c .before .loop .inv .long
 
 returns : tie.Need-returns Inv-loop μ-loop
-returns c =
-    let s = c .before .before .before in
-    rw (xors-joined (s .args .n) 0 0 _ _) (writing-end (c .before .loop .inv) (omega arith))
+returns c = joining-end (c .before .loop .inv) (omega arith)
 
 pub write-xor-spec : {M : Type 1} → statement M
 write-xor-spec =

@@ -1,0 +1,116 @@
+-- The M cases of document 01, "Table of examples", as one table of statements about the definitions, with the costs of an AND,
+-- the forecast line, the table without gates and a masked NOT.
+-- Assumes nothing.
+use mathlib.Core.Path.{_≡_}
+use mathlib.Core.List.{List, [], _∷_}
+use Prim.Native.Nat.{ℕ, _-_}
+use lib.ListN.{getD}
+use Rattle.tables.specs.Refusals.{Fault, none, fault}
+use Rattle.tables.specs.Tables.{gate, NOT, XOR, AND, RANDOM, Table, tableOf, tableFault}
+use Rattle.tables.specs.Runs.{outputsOf}
+use Rattle.masks.specs.Shares.{sharesOf, tri}
+use Rattle.masks.specs.Gadgets.{isw}
+use Rattle.masks.specs.Wires.{marks, cost, maskedTable}
+use Rattle.masks.specs.Codes.{decode, maskedRun}
+use Rattle.masks.specs.Says.{plainFault}
+use Rattle.sizing.specs.Lines.{forecastLine}
+use Rattle.maps.specs.Maps.{freeShare, mapped}
+use Rattle.maps.specs.Says.{mapFault}
+
+-- "02 00 01 00 01 00, 02, 00 00 01 00, 02 00": two inputs, one AND of them, output
+abbrev pub andBytes : List ℕ
+andBytes = 2 ∷ 0 ∷ 1 ∷ 0 ∷ 1 ∷ 0 ∷ 2 ∷ 0 ∷ 0 ∷ 1 ∷ 0 ∷ 2 ∷ 0 ∷ []
+
+abbrev pub theAnd : Table
+theAnd = tableOf andBytes
+
+-- "G = 0, output 0": one input, which is the output
+abbrev pub noGates : Table
+noGates = tableOf (1 ∷ 0 ∷ 0 ∷ 0 ∷ 1 ∷ 0 ∷ 0 ∷ 0 ∷ [])
+
+-- one input, one NOT of it, output
+abbrev pub theNot : Table
+theNot = tableOf (1 ∷ 0 ∷ 1 ∷ 0 ∷ 1 ∷ 0 ∷ 0 ∷ 0 ∷ 0 ∷ 0 ∷ 0 ∷ 1 ∷ 0 ∷ [])
+
+-- "secrets 1 1, tape 1 0 0 1 1 0 1" and "to secrets 0 1"
+abbrev pub secrets : List ℕ
+secrets = 1 ∷ 1 ∷ []
+
+abbrev pub toSecrets : List ℕ
+toSecrets = 0 ∷ 1 ∷ []
+
+abbrev pub tape : List ℕ
+tape = 1 ∷ 0 ∷ 0 ∷ 1 ∷ 1 ∷ 0 ∷ 1 ∷ []
+
+-- all wires, and the outputs, of the AND masked at 1
+abbrev pub valuesOf : List ℕ → List ℕ → List ℕ
+valuesOf xs ts = maskedRun isw 1 theAnd xs ts
+
+abbrev pub sharesOut : List ℕ → List ℕ → List ℕ
+sharesOut xs ts = outputsOf (maskedTable isw 1 theAnd) (valuesOf xs ts)
+
+abbrev pub tapeTo : List ℕ → List ℕ → List ℕ
+tapeTo ys ps = mapped isw (marks isw) 1 theAnd secrets ys tape ps
+
+-- mapping with the order 1 and the probes ps, into buffers of just the right length
+abbrev pub probed : List ℕ → Fault
+probed ps = mapFault isw andBytes 1 secrets toSecrets tape ps 7 30 30
+
+pub record MCases : Type 0 where
+  -- "An AND costs n² + 5n(n−1)/2 wires, of which n(n−1)/2 are random: 24 and 3 at t = 1; 75 and 10 at t = 2; 3,286 and
+  -- 465 at t = 15"
+  pub cost-at-1 : cost AND (sharesOf 1) ≡ 24
+  pub random-at-1 : tri (sharesOf 1) ≡ 3
+  pub cost-at-2 : cost AND (sharesOf 2) ≡ 75
+  pub random-at-2 : tri (sharesOf 2) ≡ 10
+  pub cost-at-15 : cost AND (sharesOf 15) ≡ 3286
+  pub random-at-15 : tri (sharesOf 15) ≡ 465
+  -- "For 01, 02 00 01 00 01 00, 02, 00 00 01 00, 02 00 the line is `3 30 7 132`"
+  pub line : forecastLine (1 ∷ andBytes) ≡ 51 ∷ 32 ∷ 51 ∷ 48 ∷ 32 ∷ 55 ∷ 32 ∷ 49 ∷ 51 ∷ 50 ∷ 10 ∷ []
+  -- M: "masked at 1, its outputs are wires 23, 26, 29"
+  pub outputs-at-1 : maskedTable isw 1 theAnd .outputs ≡ 23 ∷ 26 ∷ 29 ∷ []
+  -- M: "wire 10 is XOR(8,9)"
+  pub wire-10 :
+      getD (maskedTable isw 1 theAnd .gates) (10 - maskedTable isw 1 theAnd .inputs) (gate RANDOM 0 0) ≡ gate XOR 8 9
+  -- M: "secrets 1 1, tape 1 0 0 1 1 0 1: outputs 1 1 1"
+  pub run-outputs : sharesOut secrets tape ≡ 1 ∷ 1 ∷ 1 ∷ []
+  -- M: "decoded 1"
+  pub run-decoded : decode 1 (sharesOut secrets tape) ≡ 1 ∷ []
+  -- M: "probe 7, to secrets 0 1: k = 3"
+  pub free-7 : freeShare isw (marks isw) 1 theAnd (7 ∷ []) ≡ 3
+  -- M: "tape unchanged"
+  pub tape-7 : tapeTo toSecrets (7 ∷ []) ≡ tape
+  -- M: "outputs 1 1 0"
+  pub outputs-7 : sharesOut toSecrets (tapeTo toSecrets (7 ∷ [])) ≡ 1 ∷ 1 ∷ 0 ∷ []
+  -- M: "probe 29, to secrets 0 1: k = 1"
+  pub free-29 : freeShare isw (marks isw) 1 theAnd (29 ∷ []) ≡ 1
+  -- M: "tape 0 0 0 1 0 0 1"
+  pub tape-29 : tapeTo toSecrets (29 ∷ []) ≡ 0 ∷ 0 ∷ 0 ∷ 1 ∷ 0 ∷ 0 ∷ 1 ∷ []
+  -- M: "wire 29 stays 1"
+  pub wire-29 : getD (valuesOf secrets tape) 29 0 ≡ 1
+  pub wire-29-stays : getD (valuesOf toSecrets (tapeTo toSecrets (29 ∷ []))) 29 0 ≡ 1
+  -- M: "outputs 0 1 1"
+  pub outputs-29 : sharesOut toSecrets (tapeTo toSecrets (29 ∷ [])) ≡ 0 ∷ 1 ∷ 1 ∷ []
+  -- M: "equal secrets: the tape maps to itself"
+  pub equal-secrets : tapeTo secrets (29 ∷ []) ≡ tape
+  -- M: "probe list 6, 6 at t = 1: 12"
+  pub probes-6-6 : probed (6 ∷ 6 ∷ []) ≡ fault 12 0
+  -- M: "Probe 30: 13, place 0"
+  pub probe-30 : probed (30 ∷ []) ≡ fault 13 0
+  -- M: "Probe 29: accepted"
+  pub probe-29 : probed (29 ∷ []) ≡ none
+  -- M: "order 15 accepted"
+  pub order-15 : plainFault isw andBytes 15 ≡ none
+  -- M: "0 and 16: 6"
+  pub order-0 : plainFault isw andBytes 0 ≡ fault 6 0
+  pub order-16 : plainFault isw andBytes 16 ≡ fault 6 0
+  -- M: "five bytes: 1", whatever the bytes
+  pub five-bytes : (a b c d e : ℕ) → tableFault (a ∷ b ∷ c ∷ d ∷ e ∷ []) ≡ fault 1 0
+  -- M: "Sizes 0 0 1: 2, in six bytes or more", whatever follows
+  pub six-bytes : tableFault (0 ∷ 0 ∷ 0 ∷ 0 ∷ 1 ∷ 0 ∷ []) ≡ fault 2 0
+  pub or-more : (rest : List ℕ) → tableFault (0 ∷ 0 ∷ 0 ∷ 0 ∷ 1 ∷ 0 ∷ rest) ≡ fault 2 0
+  -- "G = 0, output 0: masked outputs 0, 1, 2 at t = 1"
+  pub outputs-no-gates : maskedTable isw 1 noGates .outputs ≡ 0 ∷ 1 ∷ 2 ∷ []
+  -- "NOT: one new wire, the NOT of share 1. Shares 2 to n are the operand's wires"
+  pub not-gates : maskedTable isw 1 theNot .gates ≡ gate NOT 0 0 ∷ []
+  pub not-outputs : maskedTable isw 1 theNot .outputs ≡ 3 ∷ 1 ∷ 2 ∷ []

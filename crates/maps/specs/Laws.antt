@@ -1,0 +1,87 @@
+-- Further laws that tie the definitions to document 01: closed sizes, the free share, the two complete runs, all tapes once.
+-- The statements only; proofs/ has the proofs. No promise of a call cites them.
+-- Assumes nothing.
+use mathlib.Core.Path.{_≡_}
+use mathlib.Core.Bool.{true, false, _&&_}
+use mathlib.Core.List.{List, [], _∷_, _++_}
+use Prim.Native.Nat.{ℕ, _+_, _*_, _≤_, _<_}
+use lib.Dec.{eqb}
+use lib.ListN.{length, getD}
+use Rattle.tables.specs.Tables.{Table, wires, tableOf, tableBytes, tableLong, total, Gate}
+use Rattle.masks.specs.Shares.{sharesOf}
+use Rattle.masks.specs.Gadgets.{isIn, Gadget, isw}
+use Rattle.masks.specs.Wires.{marks, cost, draws, maskedTable, origins, tapeLong, newShares, inputShares}
+use Rattle.masks.specs.Codes.{maskedRun}
+use Rattle.maps.specs.Maps.{carried, freeShare, flipped, inputFlips, gateFlips, mappedAt}
+use Rattle.maps.specs.Claims.{allBits, accepted, isTape, areSecrets, areProbes, allTapes, same, howMany}
+
+-- what document 01's rules flip, read off two complete runs v and u
+unfoldable pub gatesFlips : Gadget → ℕ → ℕ → ℕ → List (List ℕ) → List Gate → (ℕ → ℕ) → (ℕ → ℕ) → List ℕ
+gatesFlips G n k w S [] v u = []
+gatesFlips G n k w S (x ∷ xs) v u =
+    let a = getD S (x .left) [] in
+    let b = getD S (x .right) [] in
+    gateFlips G (x .kind) n k a b v u
+    ++ gatesFlips G n k (w + cost (x .kind) n) (S ++ (newShares (x .kind) n w a ∷ [])) xs v u
+
+-- the inputs' flips, then those of the ANDs in table order
+unfoldable pub tapeFlips : Gadget → ℕ → Table → ℕ → List ℕ → List ℕ → List ℕ → List ℕ → List ℕ
+tapeFlips G o t k xs ys vs us =
+    let n = sharesOf o in
+    inputFlips o k xs ys
+    ++ gatesFlips G n k (n * t .inputs)
+    (inputShares n (t .inputs))
+    (t .gates)
+    (λ p. getD vs p 0)
+    (λ p. getD us p 0)
+
+-- the closed sizes: "An AND costs n² + 5n(n−1)/2 wires, of which n(n−1)/2 are random"; "The length is 6 + 5G + 2O"
+pub record ClosedSizes (G : Gadget) (t : Table) (o : ℕ) : Type 0 where
+  pub wires-are :
+      wires (maskedTable G o t) ≡ sharesOf o * t .inputs + total (λ k. cost k (sharesOf o)) (t .gates)
+  pub tape-is : tapeLong G o t ≡ 2 * o * t .inputs + total (λ k. draws k (sharesOf o)) (t .gates)
+  pub outputs-are : length (maskedTable G o t .outputs) ≡ sharesOf o * length (t .outputs)
+  pub bytes-are :
+      length (tableBytes (maskedTable G o t))
+      ≡ tableLong (length (maskedTable G o t .gates)) (length (maskedTable G o t .outputs))
+  -- every wire of the masked table has an origin, and a run a value for every wire
+  pub origins-are : length (origins G o t) ≡ wires (maskedTable G o t)
+  pub values-are :
+      (xs ts : List ℕ) → areSecrets t xs ≡ true → isTape G o t ts ≡ true
+      → length (maskedRun G o t xs ts) ≡ wires (maskedTable G o t)
+
+-- k is the free share of n where the numbers cs are carried: one of 1 to n, not carried, and every smaller one is
+pub record Free (n : ℕ) (cs : List ℕ) (k : ℕ) : Type 0 where
+  pub from-1 : 1 ≤ k
+  pub to-n : k ≤ n
+  pub uncarried : isIn k cs ≡ false
+  pub smallest : (i : ℕ) → 1 ≤ i → i < k → isIn i cs ≡ true
+
+-- the map is document 01's: in the two complete runs the tapes differ exactly where its rules say, and no other tape does
+pub record TwoRuns (G : Gadget) (t : Table) (o k : ℕ) : Type 0 where
+  pub flips :
+      (xs ys ts : List ℕ) → areSecrets t xs ≡ true → areSecrets t ys ≡ true → isTape G o t ts ≡ true
+      → mappedAt G o t k xs ys ts
+      ≡ flipped ts (tapeFlips G o t k xs ys (maskedRun G o t xs ts) (maskedRun G o t ys (mappedAt G o t k xs ys ts)))
+  pub only :
+      (xs ys ts us : List ℕ) → areSecrets t xs ≡ true → areSecrets t ys ≡ true → isTape G o t ts ≡ true
+      → us ≡ flipped ts (tapeFlips G o t k xs ys (maskedRun G o t xs ts) (maskedRun G o t ys us))
+      → us ≡ mappedAt G o t k xs ys ts
+  -- equal secrets map a tape to itself
+  pub itself :
+      (xs ts : List ℕ) → areSecrets t xs ≡ true → isTape G o t ts ≡ true → mappedAt G o t k xs xs ts ≡ ts
+
+-- further laws of every accepted table
+pub record Laws : Type 0 where
+  pub sized : (s : List ℕ) (o : ℕ) → accepted s o ≡ true → ClosedSizes isw (tableOf s) o
+  pub free :
+      (s : List ℕ) (o : ℕ) (ps : List ℕ) → accepted s o ≡ true → areProbes isw o (tableOf s) ps ≡ true
+      → Free
+      (sharesOf o)
+      (carried (marks isw) (origins isw o (tableOf s)) ps)
+      (freeShare isw (marks isw) o (tableOf s) ps)
+  pub two-runs : (s : List ℕ) (o k : ℕ) → accepted s o ≡ true → TwoRuns isw (tableOf s) o k
+  -- "all those that neither 10 nor 11 refuses": `allTapes` has nothing but lists of n bits, and each of them exactly once
+  pub tapes : (n : ℕ) → howMany (λ ts. eqb (length ts) n && allBits ts) (allTapes n) ≡ length (allTapes n)
+  pub once :
+      (n : ℕ) (ts : List ℕ) → length ts ≡ n → allBits ts ≡ true → howMany (λ us. same ts us) (allTapes n) ≡ 1

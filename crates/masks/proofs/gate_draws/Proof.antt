@@ -1,0 +1,19 @@
+-- `masks::gate_draws` meets its contract: only an AND draws, a bit for each pair.
+-- Assumes nothing.
+use mathlib.Core.Path.{sym}
+use borrow.Author.Needs.{needs}
+use Rattle.masks.proofs.Figures.{other-draws}
+use Rattle.masks.proofs.gate_draws.Statement.{statement}
+use Rattle.masks.proofs.gate_draws.Tie as tie
+
+pair-count-requires : tie.Need-pair-count-requires
+pair-count-requires c κs = search needs
+
+returns : tie.Need-returns
+returns c = rw (c .before .if1 .taken) (c .pair-count .ensures)
+
+returns-2 : tie.Need-returns-2
+returns-2 c = sym (other-draws (c .before .args .kind) (c .before .args .n) (c .if1 .left))
+
+pub gate-draws-spec : {M : Type 1} → statement M
+gate-draws-spec = tie.close (tie.spec pair-count-requires returns returns-2)

@@ -1,0 +1,129 @@
+-- What a plan that is ready says of a plain gate: its kind, its operands and its wires.
+-- Assumes nothing.
+use mathlib.Core.Path.{_≡_, refl, sym, _∙_, subst}
+use mathlib.Core.Bool.{true, false}
+use mathlib.Core.List.{List, [], _∷_}
+use Prim.Native.Nat.{ℕ, zero, suc, _+_, _*_, _≤_, _<_}
+use native.Mathlib.Nat.{add-zero}
+use native.Mathlib.Omega.{arith}
+use lib.ListN.{length, getD}
+use Rattle.tables.specs.declared.GateFields as DG
+use Rattle.tables.specs.Refusals.{passed}
+use Rattle.tables.specs.Tables.{kindOf, Gate, noGate, gateOf, wires, tableOf, known, operandsOf, operandsOk, isRandom, randomFault, total}
+use Rattle.tables.specs.Inside.{HasGates, HasOutputs, GateIs}
+use Rattle.tables.proofs.Accept.{accepted, operands-below, cond-refused, has-gates, has-outputs, gates-of-length, outputs-of-length}
+use Rattle.tables.proofs.Format.{SoundGates, gates-passed}
+use Rattle.masks.specs.Shares.{upFrom}
+use Rattle.masks.specs.Gadgets.{isw}
+use Rattle.masks.specs.Wires.{cost}
+use Rattle.masks.proofs.Costs.{masked-wires}
+use Rattle.masks.proofs.Orders.{order-range}
+use Rattle.masks.proofs.Placed.{placed-at, placed-inputs, placed-after, share-below}
+use Rattle.masks.proofs.Sum.{up-length}
+use Rattle.sizing.specs.declared.Plan as DP
+use Rattle.sizing.specs.Plans.{PlanReady}
+use Rattle.sizing.proofs.Planning.{plan-passed, plan-fits}
+use Rattle.writing.specs.Layout.{LowShares}
+use Rattle.placing.specs.Located.{placesAt, Located, allShares, gateWire}
+use Rattle.placing.proofs.Located.{all-shares-length, gate-wire-left, gate-wire-next}
+
+sound-at :
+    (w : ℕ) (gs : List Gate) (g : ℕ) → SoundGates w gs → g < length gs
+    → let x = getD gs g noGate in
+    (known (x .kind) ≡ true) × (operandsOk (w + g) (operandsOf (x .kind)) (x .left) (x .right) ≡ true)
+unfolding SoundGates
+sound-at w [] g p h = absurd (omega arith)
+sound-at w (x ∷ xs) zero p h = rw add-zero (p .0)
+sound-at w (x ∷ xs) (suc g) p h =
+    let y = getD xs g noGate in
+    let z = sound-at (suc w) xs g (p .1) (omega arith) in (
+      z .0,
+      subst (λ (v : ℕ). operandsOk v (operandsOf (y .kind)) (y .left) (y .right) ≡ true) {x = suc w + g} {y = w + suc g} (omega arith)
+          (z .1),
+    )
+
+random-at :
+    (i : ℕ) (gs : List Gate) (g : ℕ) → passed (randomFault i gs) ≡ true → g < length gs → isRandom (getD gs g noGate .kind) ≡ false
+unfolding randomFault
+random-at i [] g p h = absurd (omega arith)
+random-at i (x ∷ xs) zero p h = cond-refused (isRandom (x .kind)) (randomFault (suc i) xs) 7 i refl p .0
+random-at i (x ∷ xs) (suc g) p h =
+    random-at (suc i) xs g (cond-refused (isRandom (x .kind)) (randomFault (suc i) xs) 7 i refl p .1) (omega arith)
+
+plain-byte : (k : ℕ) → known (kindOf k) ≡ true → isRandom (kindOf k) ≡ false → k < 3
+plain-byte zero p q = omega arith
+plain-byte (suc zero) p q = omega arith
+plain-byte (suc (suc zero)) p q = omega arith
+plain-byte (suc (suc (suc zero))) p q = let z : _≡_ {A = ℕ} 0 1 = cc in omega arith
+plain-byte (suc (suc (suc (suc k)))) p q = let z : _≡_ {A = ℕ} 0 1 = cc in omega arith
+
+-- at gate g, whose fields are r and whose first masked wire is w
+pub record Turn (I n g w : ℕ) (r : DG.GateFields) : Type 0 where
+  pub kind : r .kind < 3
+  pub left : r .left < I + g
+  pub right : r .right < I + g
+  pub fits : w + cost (kindOf (r .kind)) n ≤ 65535
+
+-- the numbers of a plan
+pub record Sized (s : List ℕ) (p : DP.Plan) : Type 0 where
+  pub some : 3 ≤ p .shares
+  pub few : p .shares ≤ 31
+  pub plain : p .inputs + p .gates ≤ 65535
+  pub inputs : p .shares * p .inputs ≤ 65535
+  pub gates : HasGates s (p .gates)
+  pub outputs : HasOutputs s (p .gates) (p .outputs)
+
+module _ {s : List ℕ} {p : DP.Plan} (R : PlanReady s p) where
+  pub plan-sized : Sized s p
+  plan-sized =
+      let q = plan-passed R in
+      let f = plan-fits R in
+      let gates = R .gates ∙ gates-of-length s in
+      record {
+        some = omega (arith, R .shares, order-range (p .order) (q .order) .0);
+        few = f .shares;
+        plain = omega (arith, accepted s (q .table) .few-wires, R .inputs, R .gates);
+        inputs = omega (arith, f .inputs, f .wires);
+        gates = has-gates s (q .table) gates;
+        outputs = has-outputs s (q .table) gates (R .outputs ∙ outputs-of-length s);
+      }
+
+  -- the masked wires, as the gates cost them
+  pub plan-wires : p .shares * tableOf s .inputs + total (λ k. cost k (p .shares)) (tableOf s .gates) ≡ p .wires
+  plan-wires = rw (R .shares) (sym (R .wires ∙ masked-wires isw (p .order) (tableOf s)))
+
+  pub turn :
+      {g w : ℕ} {r : DG.GateFields} → g < p .gates → w ≡ gateWire (p .shares) (tableOf s) g → GateIs (gateOf (tableOf s) g) r
+      → Turn (p .inputs) (p .shares) g w r
+  turn {g} {w} {r} h e is =
+      let t = tableOf s in
+      let x = gateOf t g in
+      let n = p .shares in
+      let q = plan-passed R in
+      let a = accepted s (q .table) in
+      let inside : g < length (t .gates) = omega (arith, R .gates) in
+      let sound = sound-at (t .inputs) (t .gates) g (gates-passed 0 _ _ (a .gates)) inside in
+      let below = operands-below (t .inputs + g) (operandsOf (x .kind)) (x .left) (x .right) (omega (arith, a .some-input)) (sound .1) in
+      record {
+        kind = plain-byte (r .kind) (rw (is .kind) (sound .0)) (rw (is .kind) (random-at 0 (t .gates) g (q .random) inside));
+        left = omega (arith, below .0, is .left, R .inputs);
+        right = omega (arith, below .1, is .right, R .inputs);
+        fits =
+            rw (is .kind)
+            (omega (arith, e, gate-wire-next n t g inside, gate-wire-left n t (suc g), plan-wires, plan-fits R .wires));
+      }
+
+  -- the wires of a plain wire's shares are 16-bit numbers
+  pub located-low :
+      {H B T : List ℕ} → Located (tableOf s) (p .shares) H B T → (q : ℕ) → q < p .inputs + p .gates
+      → LowShares (p .shares) (placesAt H B T q)
+  located-low {H} {B} {T} L q h i k =
+      let t = tableOf s in
+      let n = p .shares in
+      let inside : q < length (allShares n t) = omega (arith, all-shares-length n t, R .inputs, R .gates) in
+      let placed =
+      placed-after n (n * t .inputs) _ (t .gates) (omega arith)
+      (rw (up-length (t .inputs) 0 (λ i. upFrom n (n * i) (λ w. w))) (plan-passed R .plain .gates))
+      (placed-inputs n (t .inputs)) in
+      let below = share-below n _ _ (placed-at n _ (allShares n t) q placed inside) i k in
+      omega (arith, plan-wires, plan-fits R .wires, rw (← L .holds q inside) at below)

@@ -1,0 +1,59 @@
+-- The refusals of a run: what holds where none of them answers.
+-- Assumes nothing.
+use mathlib.Core.Path.{_≡_, refl}
+use mathlib.Core.Bool.{true, _&&_, _||_, not}
+use mathlib.Core.List.{List, _++_}
+use Prim.Native.Nat.{ℕ, _≤_}
+use lib.Dec.{eqb, ltb}
+use lib.ListN.{length}
+use borrow.Author.Tests.{ltb-false, eqb-true, not-false}
+use Rattle.tables.specs.Refusals.{passed, orElse, refusedIf, badBit}
+use Rattle.tables.specs.Tables.{Table, wires, tableOf, tableFault}
+use Rattle.tables.specs.Runs.{Bits, randoms}
+use Rattle.tables.specs.Says.{suppliedFault, lentFault, runFault}
+use Rattle.tables.proofs.Tests.{and-true, or-false, both-passed, not-refused}
+use Rattle.tables.proofs.Lists.{bits-front, bits-back}
+use Rattle.tables.proofs.Bad.{bad-bits}
+
+-- what holds of what is supplied to a run where neither 10 nor 11 answers
+pub record Supplied (t : Table) (xs rs : List ℕ) : Type 0 where
+  pub inputs : length xs ≡ t .inputs
+  pub random : length rs ≡ randoms (t .gates)
+  pub input-bits : Bits xs
+  pub random-bits : Bits rs
+
+supplied-good : (t : Table) (xs rs : List ℕ) → passed (suppliedFault t xs rs) ≡ true → Supplied t xs rs
+unfolding suppliedFault
+supplied-good t xs rs h =
+    let count = eqb (length xs) (t .inputs) && eqb (length rs) (randoms (t .gates)) in
+    let p = both-passed (refusedIf (not count) 10) (badBit 0 (xs ++ rs)) h in
+    let n = and-true _ _ (not-false count (not-refused (not count) 10 refl (p .0))) in
+    let good = bad-bits 0 (xs ++ rs) (p .1) in
+    record {
+      inputs = eqb-true _ _ (n .0);
+      random = eqb-true _ _ (n .1);
+      input-bits = bits-front xs rs good;
+      random-bits = bits-back xs rs good;
+    }
+
+-- what holds of a run that no check refuses
+pub record RunGood (s xs rs : List ℕ) (a b : ℕ) : Type 0 where
+  pub accepted : passed (tableFault s) ≡ true
+  pub supplied : Supplied (tableOf s) xs rs
+  pub values : wires (tableOf s) ≤ a
+  pub outputs : length (tableOf s .outputs) ≤ b
+
+pub run-good : (s xs rs : List ℕ) (a b : ℕ) → passed (runFault s xs rs a b) ≡ true → RunGood s xs rs a b
+unfolding runFault lentFault
+run-good s xs rs a b h =
+    let t = tableOf s in
+    let room = ltb a (wires t) || ltb b (length (t .outputs)) in
+    let p = both-passed (tableFault s) (orElse (suppliedFault t xs rs) (refusedIf room 9)) h in
+    let q = both-passed (suppliedFault t xs rs) (refusedIf room 9) (p .1) in
+    let m = or-false _ _ (not-refused room 9 refl (q .1)) in
+    record {
+      accepted = p .0;
+      supplied = supplied-good t xs rs (q .0);
+      values = ltb-false _ _ (m .0);
+      outputs = ltb-false _ _ (m .1);
+    }
