@@ -28,9 +28,11 @@ group='' watcher=''
 clean() {
     trap '' HUP INT PIPE TERM
     if [ -n "$group" ]; then
-        kill -s TERM -- "-$group" "$group" 2>/dev/null
+        # again until it ends: a process that has just been forked can lose a signal
+        while kill -s TERM -- "-$group" "$group"; do sleep 0.1; done 2>/dev/null &
+        set -- $!
         wait "$group" 2>/dev/null
-        kill -s KILL -- "-$group" 2>/dev/null
+        kill -s KILL -- "$1" "-$group" 2>/dev/null
     fi
     [ -z "$watcher" ] || kill "$watcher" 2>/dev/null
     [ -z "$beside" ] || rm -f -- "$beside"

@@ -18,13 +18,15 @@ use Rattle.masks.proofs.Placed.{masked-outputs}
 use Rattle.sizing.specs.declared.Plan as DP
 use Rattle.sizing.specs.Plans.{PlanReady, planBytes}
 use Rattle.sizing.proofs.Planning.{plan-passed, plan-inputs, plan-bytes}
-use Rattle.writing.specs.Layout.{operandBytes, gateKinds}
-use Rattle.writing.proofs.GateKinds.{masked-kinds}
+use Rattle.writing.specs.Layout.{operandBytes}
+use Rattle.kinds.specs.Kinds.{gateKinds}
+use Rattle.kinds.proofs.GateKinds.{masked-kinds}
 use Rattle.placing.specs.Located.{Room, Noted, Located, sharesTo, allShares, gateWire}
 use Rattle.placing.proofs.Placing.{noted-room}
 use Rattle.placing.proofs.Turns.{plan-wires}
-use Rattle.assembling.specs.Parts.{stretch, afterSizes}
-use Rattle.assembling.proofs.Stretches.{over-all}
+use Rattle.parts.specs.Parts.{stretch}
+use Rattle.parts.proofs.Stretches.{over-all}
+use Rattle.assembling.specs.Parts.{afterSizes}
 
 -- three cleared arrays have room
 pub room-of : (c k : ℕ) → c ≤ k → Room c (replicate k 0) (replicate k 0) (replicate k 0)

@@ -1,3 +1,2 @@
--- Laws of the masked table's bytes, by subject.
-pub mod Stretches
-pub mod Assembled
+-- Laws of the masked table's bytes.
+mod Assembled

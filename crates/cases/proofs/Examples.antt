@@ -18,7 +18,7 @@ use Rattle.masks.specs.Wires.{sharesAfter, outputShares, maskedTable, origins, 
 use Rattle.masks.specs.Codes.{xorAll, encode, decodeFrom, decode, maskedRun}
 use Rattle.masks.specs.Says.{plainFault}
 use Rattle.text.specs.Text.{digits, lineOf}
-use Rattle.sizing.specs.Lines.{lineFault, forecastLine}
+use Rattle.forecasting.specs.Lines.{lineFault, forecastLine}
 use Rattle.maps.specs.Maps.{ofEach, freeFrom, freeShare, flipped, inputFlips, mapGates, mappedAt}
 use Rattle.maps.specs.Says.{badProbe, supplyFault, probesFault, roomFault, mapFault}
 use Rattle.cases.specs.Cases.{MCases}

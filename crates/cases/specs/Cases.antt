@@ -13,7 +13,7 @@ use Rattle.masks.specs.Gadgets.{isw}
 use Rattle.masks.specs.Wires.{marks, cost, maskedTable}
 use Rattle.masks.specs.Codes.{decode, maskedRun}
 use Rattle.masks.specs.Says.{plainFault}
-use Rattle.sizing.specs.Lines.{forecastLine}
+use Rattle.forecasting.specs.Lines.{forecastLine}
 use Rattle.maps.specs.Maps.{freeShare, mapped}
 use Rattle.maps.specs.Says.{mapFault}
 

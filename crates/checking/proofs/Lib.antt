@@ -1,2 +1,2 @@
 -- Laws that the proofs of checking cite.
-pub mod Checks
+mod Checks

@@ -1,116 +1,8 @@
 // Checking a gate table: refusals 1 to 5 in document 01's order.
-ghost use mathlib.Core.Path.{_≡_};
-ghost use mathlib.Core.Bool.{true, cond};
-ghost use Prim.Native.Nat.{ℕ, _+_, _≤_, _<_};
-ghost use lib.Dec.{eqb};
-ghost use Rattle.tables.specs.Refusals.{fault, none};
-ghost use Rattle.tables.specs.Tables.{
-  kindOf,
-  gate,
-  tableOf,
-  operandsOf,
-  operandsOk,
-  gateFault,
-  gatesFault,
-  outputsFault,
-  tableFault,
-};
+ghost use Prim.Native.Nat.{_≤_};
+ghost use Rattle.tables.specs.Tables.{tableOf, outputsFault, tableFault};
 ghost use Rattle.tables.specs.Says.{Refused, CheckSays};
-ghost use Rattle.tables.specs.Inside.{HasGates, HasOutputs};
-
-// Whether the operands of a gate that drives wire w are earlier wires, and 0 where the kind does not read them.
-fn operands_good(kind: u8, left: usize, right: usize, w: usize) -> bool
-    requires { ⌜ kind ≤ 3 ⌝ }
-    ensures { λ r. ⌜ r ≡ operandsOk w (operandsOf (kindOf kind)) left right ⌝ }
-{
-    match kind {
-        0 => (left < w) & (right == 0),
-        3 => (left == 0) & (right == 0),
-        _ => (left < w) & (right < w),
-    }
-}
-
-// 3 or 4 where a gate that drives wire w is faulty, else 0.
-fn gate_number(kind: u8, left: usize, right: usize, w: usize) -> u8
-    ensures { λ r. ⌜ ((i : ℕ) → gateFault i w (gate (kindOf kind) left right) ≡ cond (eqb r 0) none (fault r i)) ⌝ }
-{
-    if kind > 3 {
-        return 3;
-    }
-    if operands_good(kind, left, right, w) {
-        return 0;
-    }
-    4
-}
-
-// Not 0 where wire v is not before wire w.
-fn late(v: u32, w: u32) -> u32
-    requires { ⌜ (v < 65536) × (w < 65536) ⌝ }
-    ensures { λ r. ⌜ (r ≡ 0 → v < w) ⌝ }
-{
-    (65536 + v - w) / 65536
-}
-
-// Not 0 where an operand that a kind does not read is not 0.
-fn unused(kind: u8, left: u32, right: u32) -> u32
-    ensures { λ r.
-        ⌜ (r ≡ 0 → kind ≤ 3 → (w : ℕ) → left < w → right < w → operandsOk w (operandsOf (kindOf kind)) left right ≡ true) ⌝ }
-{
-    match kind {
-        0 => right,
-        3 => left | right,
-        _ => 0,
-    }
-}
-
-// 0 only where a gate that drives wire w is not faulty. It does not branch, so that a loop over all gates is fast.
-fn gate_flaws(kind: u8, left: u32, right: u32, w: u32) -> u32
-    requires { ⌜ (left < 65536) × (right < 65536) × (w < 65536) ⌝ }
-    ensures { λ r. ⌜ (r ≡ 0 → (i : ℕ) → gateFault i w (gate (kindOf kind) left right) ≡ none) ⌝ }
-{
-    let operands = late(left, w) | late(right, w) | unused(kind, left, right);
-    operands | (kind / 4) as u32
-}
-
-// Whether no gate is faulty.
-fn gates_good(table: &[u8], inputs: usize, gates: usize) -> bool
-    requires { ⌜ HasGates (now table) gates × (inputs + gates ≤ 65535) ⌝ }
-    ensures { λ r. ⌜ (r ≡ true → gatesFault 0 inputs (tableOf (now (table .entry)) .gates) ≡ none) ⌝ }
-{
-    let mut flaws: u32 = 0;
-    let mut w = inputs as u32;
-    let mut g = 0;
-    while g < gates {
-        let x = tables::gate_at(table, gates, g);
-        flaws = flaws | gate_flaws(x.kind, x.left as u32, x.right as u32, w);
-        w += 1;
-        g += 1;
-    }
-    flaws == 0
-}
-
-// The first faulty gate: it is looked for only where there is one.
-fn gates_fault(table: &[u8], inputs: usize, gates: usize) -> tables::Refusal
-    requires { ⌜ HasGates (now table) gates × (inputs + gates ≤ 65535) ⌝ }
-    ensures { λ r. ⌜ Refused (gatesFault 0 inputs (tableOf (now (table .entry)) .gates)) r ⌝ }
-{
-    if gates_good(table, inputs, gates) {
-        return tables::refuse(0, 0);
-    }
-    let mut g = 0;
-    let found = 'gates: loop {
-        if g == gates {
-            break 'gates tables::refuse(0, 0);
-        }
-        let x = tables::gate_at(table, gates, g);
-        let number = gate_number(x.kind, x.left, x.right, inputs + g);
-        if number != 0 {
-            break 'gates tables::refuse(number, g);
-        }
-        g += 1;
-    };
-    found
-}
+ghost use Rattle.tables.specs.Inside.{HasOutputs};
 
 // The first output that is no wire.
 fn outputs_fault(table: &[u8], gates: usize, outputs: usize, wires: usize) -> tables::Refusal
@@ -143,7 +35,7 @@ pub fn table_fault(table: &[u8]) -> tables::Refusal
     if table.len() != 6 + 5 * gates + 2 * outputs {
         return tables::refuse(1, 0);
     }
-    let found = gates_fault(table, inputs, gates);
+    let found = gates::gates_fault(table, inputs, gates);
     if found.number != 0 {
         return found;
     }

@@ -3,7 +3,7 @@
 -- Assumes nothing.
 use mathlib.Core.Path.{_≡_, refl, ap, _∙_}
 use mathlib.Core.List.{List, [], _∷_, _++_}
-use Prim.Native.Nat.{ℕ, zero, suc, _+_, _*_, _≤_, _<_}
+use Prim.Native.Nat.{ℕ, suc, _+_, _*_, _≤_, _<_}
 use native.Mathlib.Nat.{add-zero, add-suc}
 use native.Mathlib.Numerals.{add-one}
 use native.Mathlib.Omega.{arith}
@@ -18,15 +18,7 @@ use Rattle.tables.proofs.Put.{Writing, writing-start, writing-front, writing-fi
 use Rattle.tables.proofs.Put.{writing-long, writing-end, over-length}
 use Rattle.masks.specs.Shares.{sharesOf}
 use Rattle.masks.specs.Codes.{xorAll, encode}
-use Rattle.masks.proofs.Codes.{group, group-length, encode-cons, encode-length}
-
--- of two bits
-pub bit-xor : (a b : ℕ) → a ≤ 1 → b ≤ 1 → bitXor a b ≡ xor a b
-bit-xor zero b h k = omega arith
-bit-xor (suc zero) zero h k = refl
-bit-xor (suc zero) (suc zero) h k = refl
-bit-xor (suc zero) (suc (suc b)) h k = absurd (omega arith)
-bit-xor (suc (suc a)) b h k = absurd (omega arith)
+use Rattle.masks.proofs.Codes.{bit-xor, group, group-length, encode-cons, encode-length}
 
 -- the shares of one secret, and of the first of several
 one-length : (o x : ℕ) (ts : List ℕ) → 2 * o ≤ length ts → length (encode o (x ∷ []) ts) ≡ sharesOf o

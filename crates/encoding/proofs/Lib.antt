@@ -1,4 +1,3 @@
--- Laws that the proofs of encoding and decoding cite.
-pub mod CodeFaults
-pub mod Encoding
-pub mod Decoding
+-- Laws that the proofs of encoding cite.
+mod Faults
+mod Encoding

@@ -1,3 +1,2 @@
--- Laws of mapping's parts, by subject.
-pub mod Working
-pub mod Mapping
+-- Laws of mapping's answer.
+mod Mapping

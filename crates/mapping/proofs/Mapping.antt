@@ -3,16 +3,14 @@
 use mathlib.Core.Path.{_≡_, sym, ap, _∙_}
 use mathlib.Core.Bool.{true}
 use mathlib.Core.List.{List}
-use Prim.Native.Nat.{ℕ, _*_, _≤_, _<_}
+use Prim.Native.Nat.{ℕ, _≤_, _<_}
 use native.Mathlib.Omega.{arith}
 use lib.Dec.{leb}
 use borrow.Author.Tests.{leb-true}
-use lib.ListN.{length, replicate, take, drop, length-replicate}
-use lib.Seq.{take-at}
+use lib.ListN.{length}
 use Rattle.tables.specs.declared.Answer as DA
 use Rattle.tables.specs.declared.Refusal as DR
-use Rattle.tables.specs.Tables.{wires, tableOf, tableBytes}
-use Rattle.tables.specs.Says.{over}
+use Rattle.tables.specs.Tables.{wires, tableOf}
 use Rattle.tables.proofs.Tests.{and-true}
 use Rattle.tables.proofs.Answers.{refused-fails, answered-refused, answered-none}
 use Rattle.masks.specs.Shares.{sharesOf}
@@ -22,8 +20,8 @@ use Rattle.masks.proofs.Lawful.{isw-lawful}
 use Rattle.sizing.specs.declared.Plan as DP
 use Rattle.sizing.specs.declared.Planned as DN
 use Rattle.sizing.specs.declared.Planned.the-variants as Planned
-use Rattle.sizing.specs.Plans.{PlanReady, PlanSays, planBytes}
-use Rattle.sizing.proofs.Planning.{Planned-Ready, planned-as, planned-refused, planned-ready, plan-passed, plan-fits, plan-bytes}
+use Rattle.sizing.specs.Plans.{PlanReady, PlanSays}
+use Rattle.sizing.proofs.Planning.{Planned-Ready, planned-as, planned-refused, planned-ready, plan-fits}
 use Rattle.maps.specs.Maps.{carried, freeShare}
 use Rattle.maps.specs.Claims.{allBelow}
 use Rattle.maps.specs.Laws.{Free}
@@ -31,27 +29,7 @@ use Rattle.maps.specs.Says.{mapFault, MapDone}
 use Rattle.maps.proofs.Faults.{MapGood, map-good}
 use Rattle.maps.proofs.Begun.{secrets-are, tape-is}
 use Rattle.maps.proofs.Free.{marks-two, few-carried, free-laws}
-use Rattle.mapping.specs.Working.{WorkReady, WorkSays}
-
--- the masked table stands at the front of the buffer that it is written into
-pub table-front :
-    (b : List ℕ) {s : List ℕ} {p : DP.Plan} {l : ℕ} {b′ : List ℕ} → PlanReady s p → l ≡ planBytes p
-    → b′ ≡ over (tableBytes (maskedTable isw (p .order) (tableOf s))) b
-    → take l b′ ≡ tableBytes (maskedTable isw (p .order) (tableOf s))
-table-front b {s} {p} {l} R e w =
-    let M = tableBytes (maskedTable isw (p .order) (tableOf s)) in
-    rw w (take-at M (drop (length M) b) l (plan-bytes R ∙ sym e))
-
--- a cleared buffer of l bytes has room for as many
-pub room-at : (b l : ℕ) → b ≤ l → b ≤ length {A = ℕ} (replicate l 0)
-room-at b l h = omega (arith, length-replicate {A = ℕ} l 0)
-
--- every masked table has at most as many bytes as the largest buffer
-pub bytes-few : {s : List ℕ} {p : DP.Plan} → PlanReady s p → planBytes p ≤ 458746
-bytes-few {s} {p} R =
-    let f = plan-fits R in
-    let shares : p .shares * p .inputs ≡ sharesOf (p .order) * tableOf s .inputs = rw (R .shares, R .inputs) in
-    omega (arith, f .wires, f .outputs, plan-passed R .plain .some-input)
+use Rattle.rerunning.specs.Working.{WorkReady, WorkSays}
 
 -- a call that is refused; a, b and c are the lengths lent
 pub map-refused :

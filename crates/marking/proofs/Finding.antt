@@ -7,7 +7,7 @@ use native.Mathlib.Numerals.{add-one}
 use native.Mathlib.Omega.{arith}
 use lib.ListN.{length, getD, drop, List·getD-append}
 use lib.Seq.{getD-append-add, drop-cons}
-use Rattle.tables.specs.Tables.{kindOf, noGate, Table, gateOf, wires, tableOf, total}
+use Rattle.tables.specs.Tables.{kindOf, noGate, Table, gateOf, tableOf, total}
 use Rattle.tables.proofs.Counts.{total-next, total-none}
 use Rattle.sizing.specs.declared.Plan as DP
 use Rattle.masks.specs.Shares.{sharesOf, upFrom, pairOf, pairsFrom, pairs, tri}

@@ -16,7 +16,7 @@ pub extern "C" fn masks_check(table: &[u8]) -> tables::Answer
 pub extern "C" fn masks_forecast(table: &[u8], order: u8) -> masks::Sizes
     ensures { λ r. ⌜ ForecastSays isw (now (table .entry)) order r ⌝ }
 {
-    sizing::forecast_sizes(table, order)
+    forecasting::forecast_sizes(table, order)
 }
 
 #[no_mangle]
@@ -42,7 +42,7 @@ pub extern "C" fn masks_encode(
 pub extern "C" fn masks_decode(order: u8, shares: &[u8], out: &mut [u8]) -> tables::Answer
     ensures { λ r. ⌜ DecodeSays order (now (shares .entry)) (now (out .entry)) (now (out .exit)) r ⌝ }
 {
-    encoding::decode_shares(order, shares, out)
+    decoding::decode_shares(order, shares, out)
 }
 
 #[no_mangle]

@@ -9,7 +9,7 @@ use native.Mathlib.Omega.{arith}
 use lib.ListN.{length, getD}
 use Rattle.tables.specs.declared.GateFields as DG
 use Rattle.tables.specs.Refusals.{passed}
-use Rattle.tables.specs.Tables.{kindOf, Gate, noGate, gateOf, wires, tableOf, known, operandsOf, operandsOk, isRandom, randomFault, total}
+use Rattle.tables.specs.Tables.{kindOf, Gate, noGate, gateOf, tableOf, known, operandsOf, operandsOk, isRandom, randomFault, total}
 use Rattle.tables.specs.Inside.{HasGates, HasOutputs, GateIs}
 use Rattle.tables.proofs.Accept.{accepted, operands-below, cond-refused, has-gates, has-outputs, gates-of-length, outputs-of-length}
 use Rattle.tables.proofs.Format.{SoundGates, gates-passed}

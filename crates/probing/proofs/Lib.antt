@@ -1,3 +1,2 @@
--- Laws of the refusals of mapping and of the free share.
-pub mod Faults
-pub mod Seeing
+-- Laws of the free share.
+mod Seeing

@@ -24,7 +24,7 @@ pub fn gate_value(kind: u8, a: u8, b: u8, random: &[u8], at: usize) -> Drawn
 {
     if kind == 3 {
         return Drawn {
-            value: tables::tape_bit(random, at),
+            value: bits::tape_bit(random, at),
             next: at + 1,
         };
     }
@@ -82,8 +82,8 @@ fn supplied_fault(table: &[u8], inputs: &[u8], random: &[u8]) -> tables::Refusal
         return tables::refuse(10, 0);
     }
     tables::first_of(
-        tables::bits_fault(inputs, 0),
-        tables::bits_fault(random, inputs.len()),
+        bits::bits_fault(inputs, 0),
+        bits::bits_fault(random, inputs.len()),
     )
 }
 

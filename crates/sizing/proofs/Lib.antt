@@ -1,3 +1,2 @@
 -- Laws that the proofs of sizing cite.
 pub mod Planning
-pub mod Line

@@ -25,12 +25,11 @@ use Rattle.sizing.specs.declared.Totals as DT
 use Rattle.sizing.specs.declared.Plan as DP
 use Rattle.sizing.specs.declared.Planned as DN
 use Rattle.sizing.specs.declared.Planned.the-variants as Planned
-use Rattle.masks.specs.declared.Sizes as DS
 use Rattle.masks.specs.Shares.{sharesOf}
 use Rattle.masks.specs.Gadgets.{isw}
 use Rattle.masks.specs.Wires.{cost, draws, maskedTable, tapeLong}
-use Rattle.masks.specs.Says.{orderOk, orderFault, tooMany, plainFault, ForecastSays}
-use Rattle.sizing.specs.Plans.{Maskable, TotalsSay, PlanReady, PlanSays, PlanFits, planBytes, FiguresSay}
+use Rattle.masks.specs.Says.{orderOk, orderFault, tooMany, plainFault}
+use Rattle.sizing.specs.Plans.{Maskable, TotalsSay, PlanReady, PlanSays, PlanFits, planBytes}
 use Rattle.masks.proofs.Passed.{PlainPassed, plain-passed}
 use Rattle.masks.proofs.Orders.{order-range}
 use Rattle.masks.proofs.Lawful.{isw-lawful}
@@ -264,34 +263,3 @@ module _ {s : List ℕ} {p : DP.Plan} (R : PlanReady s p) where
       let m = maskedTable isw (p .order) (tableOf s) in
       let outputs = masked-outputs isw (p .order) (tableOf s) (plan-passed .plain) .0 in
       omega (arith, table-long m, outputs, few-outputs, plan-inputs, R .wires)
-
-pub forecast-ready :
-    {s : List ℕ} {o : ℕ} {p : DP.Plan} {r : DS.Sizes} → Planned-Ready (plainFault isw s o) s o p → FiguresSay p r
-    → ForecastSays isw s o r
-forecast-ready {s} {o} {p} P F =
-    let R = P .ready in
-    let same : p .order ≡ o = P .order in
-    rw (P .none, ← same)
-    (record {
-      number = F .number;
-      place = F .place;
-      shares = F .shares ∙ R .shares;
-      wires = F .wires ∙ R .wires;
-      tape = F .tape ∙ R .tape;
-      bytes = F .bytes ∙ sym (plan-bytes R);
-    })
-
-pub forecast-refused :
-    {s : List ℕ} {o : ℕ} {r : DR.Refusal} → PlanSays (plainFault isw s o) s o (Planned.Refused r)
-    → ForecastSays isw s o (record { number = r .number; place = r .place; shares = 0; wires = 0; tape = 0; bytes = 0 })
-forecast-refused P =
-    let R = planned-refused P in
-    let fails = refused-fails (R .0) (R .1) in
-    record {
-      number = R .0 .number;
-      place = R .0 .place;
-      shares = rw fails;
-      wires = rw fails;
-      tape = rw fails;
-      bytes = rw fails;
-    }

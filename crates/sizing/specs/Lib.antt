@@ -1,3 +1,2 @@
--- What planning and the forecast's line promise.
+-- What planning promises.
 pub mod Plans
-pub mod Lines

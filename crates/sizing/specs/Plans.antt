@@ -6,7 +6,6 @@ use mathlib.Core.Bool.{true, cond}
 use mathlib.Core.List.{List}
 use Prim.Native.Nat.{ℕ, _-_, _*_, _≤_}
 use lib.ListN.{length}
-use Rattle.masks.specs.declared.Sizes as DS
 use Rattle.sizing.specs.declared.Plan as DP
 use Rattle.sizing.specs.declared.Totals as DT
 use Rattle.sizing.specs.declared.Planned as DN
@@ -67,12 +66,3 @@ pub record PlanFits (p : DP.Plan) : Type 0 where
   pub wires : p .wires ≤ 65535
   pub outputs : p .shares * p .outputs ≤ 65535
   pub tape : p .tape ≤ p .wires
-
--- the four figures of a plan
-pub record FiguresSay (p : DP.Plan) (r : DS.Sizes) : Type 0 where
-  pub number : r .number ≡ 0
-  pub place : r .place ≡ 0
-  pub shares : r .shares ≡ p .shares
-  pub wires : r .wires ≡ p .wires
-  pub tape : r .tape ≡ p .tape
-  pub bytes : r .bytes ≡ planBytes p

@@ -1,23 +1,15 @@
 -- For contracts inside the library only: no promise of a call cites this.
 -- Assumes nothing.
 use mathlib.Core.Path.{_≡_}
-use mathlib.Core.Bool.{cond}
 use mathlib.Core.List.{List, _++_}
 use Prim.Native.Nat.{ℕ, _+_, _*_, _≤_, _<_}
-use lib.Dec.{ltb}
 use lib.ListN.{length, take, drop}
 use Rattle.tables.specs.declared.GateFields as DG
-use Rattle.tables.specs.Refusals.{fault, none, badBit}
 use Rattle.tables.specs.Tables.{kindOf, Gate, word}
 
 -- xs at a place of ys
 unfoldable pub putAt : ℕ → List ℕ → List ℕ → List ℕ
 putAt at xs ys = take at ys ++ (xs ++ drop (at + length xs) ys)
-
--- the first byte above 1 is at r, or r is the length where there is none; i is where the bits begin in the call's bits joined
-pub record FirstBad (bits : List ℕ) (r : ℕ) : Type 0 where
-  pub within : r ≤ length bits
-  pub bad : (i : ℕ) → badBit i bits ≡ cond (ltb r (length bits)) (fault 11 (i + r)) none
 
 -- g is the number of gates that the bytes s state, and the bytes have them all
 pub record HasGates (s : List ℕ) (g : ℕ) : Type 0 where

@@ -1,12 +1,11 @@
-// The gate-table format: what the calls answer, two-byte fields, gates, bits and bytes.
+// The gate-table format: what the calls answer, two-byte fields, gates and bytes.
 ghost use mathlib.Core.Path.{_≡_};
-ghost use mathlib.Core.Bool.{true};
 ghost use Prim.Native.Nat.{_+_, _≤_, _<_};
 ghost use lib.ListN.{length, getD};
-ghost use Rattle.tables.specs.Refusals.{Fault, fault, orElse, refusedIf, badBit};
+ghost use Rattle.tables.specs.Refusals.{Fault, fault, orElse, refusedIf};
 ghost use Rattle.tables.specs.Tables.{kindOf, gateOf, word, two, tableOf, total, ofKind};
 ghost use Rattle.tables.specs.Says.{Refused};
-ghost use Rattle.tables.specs.Inside.{putAt, FirstBad, HasGates, HasOutputs, GateIs};
+ghost use Rattle.tables.specs.Inside.{putAt, HasGates, HasOutputs, GateIs};
 
 // The bytes of the longest table: 65,534 gates and 65,535 outputs.
 pub const LONGEST: usize = 458746;
@@ -160,54 +159,4 @@ pub fn count_kind(table: &[u8], gates: usize, kind: u8) -> usize
         g += 1;
     }
     count as usize
-}
-
-// A bit of a tape, of a secret or of the inputs of a run.
-pub fn tape_bit(bits: &[u8], at: usize) -> u8
-    requires { ⌜ at < length (now bits) ⌝ }
-    ensures { λ r. ⌜ r ≡ getD (now (bits .entry)) at 0 ⌝ }
-{
-    bits[at]
-}
-
-// Whether no byte is above 1: one pass that does not branch on the bytes.
-fn all_bits(bits: &[u8]) -> bool
-    ensures { λ r. ⌜ (r ≡ true → FirstBad (now (bits .entry)) (length (now (bits .entry)))) ⌝ }
-{
-    let mut all: u8 = 0;
-    let mut i = 0;
-    while i < bits.len() {
-        all = all | bits[i];
-        i += 1;
-    }
-    all < 2
-}
-
-// The position of the first byte above 1, or the length where there is none: it is looked for only where there is one.
-pub fn first_bad(bits: &[u8]) -> usize
-    ensures { λ r. ⌜ FirstBad (now (bits .entry)) r ⌝ }
-{
-    if all_bits(bits) {
-        return bits.len();
-    }
-    let mut i = 0;
-    while i < bits.len() {
-        if bits[i] > 1 {
-            return i;
-        }
-        i += 1;
-    }
-    i
-}
-
-// The first byte above 1, where the bits begin at a place of the call's bits joined.
-pub fn bits_fault(bits: &[u8], start: usize) -> Refusal
-    requires { ⌜ start + length (now bits) < 4294967296 ⌝ }
-    ensures { λ r. ⌜ Refused (badBit start (now (bits .entry))) r ⌝ }
-{
-    let at = first_bad(bits);
-    if at < bits.len() {
-        return refuse(11, start + at);
-    }
-    refuse(0, 0)
 }

@@ -1,4 +1,3 @@
--- Laws of the inputs' flips and of the walk.
+-- Laws of the walk.
 pub mod Driving
-pub mod Flipping
 pub mod Walking

@@ -4,14 +4,13 @@
 use mathlib.Core.Path.{_≡_, refl, sym, ap, ap₂, subst, _∙_}
 use mathlib.Core.Bool.{Bool, true, false, cond}
 use mathlib.Core.List.{List, [], _∷_}
-use Prim.Native.Nat.{ℕ, zero, suc, _+_, _*_, _%_, _≤_, _<_}
-use native.Mathlib.Nat.{add-zero, add-suc}
+use Prim.Native.Nat.{ℕ, zero, suc, _+_, _*_, _≤_, _<_}
+use native.Mathlib.Nat.{add-zero, add-suc, mul-le-mul}
 use native.Mathlib.Numerals.{add-one}
 use native.Mathlib.Omega.{arith}
 use lib.Dec.{eqb}
 use lib.ListN.{length, getD, take, drop, set, length-set, length-drop, drop-of-length-le}
 use lib.Seq.{length-take-le, drop-drop, drop-cons, getD-drop, getD-set-same}
-use borrow.Author.Tests.{eq-eqb, ne-eqb}
 use Rattle.running.specs.declared.Drawn as DD
 use Rattle.tables.specs.declared.GateFields as DG
 use Rattle.tables.specs.Tables.{Kind, NOT, XOR, AND, RANDOM, UNKNOWN, kindOf, Gate, gate, noGate, Table, gateOf, tableOf, total}
@@ -20,47 +19,16 @@ use Rattle.tables.specs.Says.{over}
 use Rattle.tables.specs.Inside.{HasGates, GateIs}
 use Rattle.running.specs.Running.{GateReady, GateSays, RunReady}
 use Rattle.tables.proofs.Put.{Writing, writing-front, writing-byte, writing-end}
-use Rattle.tables.proofs.Run.{bit-mul}
 use Rattle.tables.proofs.Accept.{gates-are}
 use Rattle.running.proofs.Running.{ranFrom, Running, ready-gates, running-start, gates-left, value-same, value-bit}
 use Rattle.running.proofs.Running.{value-there, gate-ready, gate-turn, running-end}
 use Rattle.maps.specs.Maps.{flipped}
 use Rattle.maps.specs.Walk.{inRow, afterGate, gateDiffers, flatFlip, Crosses, CrossOf, Crossing}
 use Rattle.maps.proofs.Inputs.{flipped-bits, flipped-drop}
-use Rattle.maps.proofs.Flat.{flatFlips, outside, inside}
+use Rattle.maps.proofs.Flat.{flatFlips}
 use Rattle.maps.proofs.Walked.{differs-same, Walked, walked-law}
-use Rattle.walking.specs.Walking.{Valued, ProductReady, crossFlip, BitReady, bitPut, WalkReady, walkedBits, WalkSays}
-
--- the product of two wires that have values
-pub valued-product :
-    {vs : List ℕ} {l r : ℕ} → Valued vs l r → (l′ r′ : ℕ) → l′ ≡ l → r′ ≡ r → getD vs l′ 0 * getD vs r′ 0 ≤ 1
-valued-product v l′ r′ el er = rw (el, er) (bit-mul _ _ (v .left-bit) (v .right-bit))
-
--- the bit that a random gate takes in the second run: kept where its pair is not of the free share, else flipped or not
-pub bit-before : (from to q x bit : ℕ) → q < from → bit ≤ 1 → bit ≡ xor bit (cond (inRow from to q) x 0)
-bit-before from to q x bit h k = rw (outside from to q (λ e. absurd (omega arith))) (omega arith)
-
-pub bit-past : (from to q x bit : ℕ) → to ≤ q → bit ≤ 1 → bit ≡ xor bit (cond (inRow from to q) x 0)
-bit-past from to q x bit h k = rw (outside from to q (λ e. h)) (omega arith)
-
-pub bit-flipped :
-    (from to q x y bit a b : ℕ) → from ≤ q → q < to → a ≡ x → b ≡ y
-    → (bit + (a + b) % 2) % 2 ≡ xor bit (cond (inRow from to q) (xor x y) 0)
-bit-flipped from to q x y bit a b h k ea eb = rw (inside from to q h k, ea, eb)
-
--- the pair counter, by the kind's byte
-pub after-other : (k m q : ℕ) → (k ≡ 3 → ⊥) → q ≡ afterGate (kindOf k) m q
-after-other zero m q h = refl
-after-other (suc zero) m q h = refl
-after-other (suc (suc zero)) m q h = refl
-after-other (suc (suc (suc zero))) m q h = absurd (h refl)
-after-other (suc (suc (suc (suc k)))) m q h = refl
-
-pub after-last : (k m q : ℕ) → k ≡ 3 → q + 1 ≡ m → 0 ≡ afterGate (kindOf k) m q
-after-last k m q e h = rw (e, eq-eqb (suc q) m (omega arith))
-
-pub after-random : (k m q : ℕ) → k ≡ 3 → (q + 1 ≡ m → ⊥) → q + 1 ≡ afterGate (kindOf k) m q
-after-random k m q e h = rw (e, ne-eqb (suc q) m (λ x. h (omega arith))) (add-one q)
+use Rattle.crossing.specs.Crossing.{Valued, ProductReady, crossFlip, BitReady, bitPut}
+use Rattle.walking.specs.Walking.{WalkReady, walkedBits, WalkSays}
 
 after-few : (k : Kind) (m q : ℕ) → afterGate k m q ≤ suc q
 after-few NOT m q = omega arith
@@ -72,19 +40,6 @@ after-few RANDOM m q = go (eqb (suc q) m)
     go true = omega arith
     go false = omega arith
 after-few (UNKNOWN k) m q = omega arith
-
--- a bit that a random gate puts, and what a gate of another kind leaves
-pub put-random :
-    (k : ℕ) (m : List ℕ) (c x bit r y : ℕ) → k ≡ 3 → x ≡ xor bit y → bit ≡ r
-    → set m c x ≡ bitPut (kindOf k) m c (xor r y)
-put-random k m c x bit r y e ex eb = rw (e, ex, eb)
-
-pub put-other : (k : ℕ) (m : List ℕ) (c b : ℕ) → (k ≡ 3 → ⊥) → m ≡ bitPut (kindOf k) m c b
-put-other zero m c b h = refl
-put-other (suc zero) m c b h = refl
-put-other (suc (suc zero)) m c b h = refl
-put-other (suc (suc (suc zero))) m c b h = absurd (h refl)
-put-other (suc (suc (suc (suc k)))) m c b h = refl
 
 put-got : (k : ℕ) (m : List ℕ) (c b : ℕ) → k ≡ 3 → c < length m → getD (bitPut (kindOf k) m c b) c 0 ≡ b
 put-got k m c b e h = rw e (getD-set-same m c b 0 h)
@@ -361,3 +316,16 @@ walking-end {s} {rs} {m₀} {a₀} {b₀} {n} {g} {from} {to} {pairs} {m} {a} {b
       one = running-end (w .one) last;
       other = running-end (w .other) last;
     }
+
+-- products of small numbers
+pub small-products : (n d : ℕ) → d ≤ n → n ≤ 31 → (n * d ≤ 961) × (d * d ≤ 961)
+small-products n d h k = (
+  mul-le-mul {n₂ = 31} {m₂ = 31} k (omega arith),
+  mul-le-mul {n₂ = 31} {m₂ = 31} (omega arith) (omega arith),
+)
+
+-- the walk, by equal numbers of pairs
+pub walk-as :
+    {s rs : List ℕ} {n from to pairs from′ to′ pairs′ : ℕ} {m m′ a a′ b b′ : List ℕ} → from ≡ from′ → to ≡ to′
+    → pairs ≡ pairs′ → WalkSays s rs n from to pairs m m′ a a′ b b′ → WalkSays s rs n from′ to′ pairs′ m m′ a a′ b b′
+walk-as ef et ep w = rw (← ef, ← et, ← ep) w

@@ -1,3 +1,2 @@
--- What the mapped tape's parts take and give.
-pub mod Flipping
+-- What the walk's parts take and give.
 pub mod Walking

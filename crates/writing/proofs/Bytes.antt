@@ -1,4 +1,4 @@
--- Bytes of wires one after another: operands and kinds of appended lists, and pieces of one size that a loop writes.
+-- Bytes of wires one after another: operands of appended lists, and pieces of one size that a loop writes.
 -- Assumes nothing.
 use mathlib.Core.Path.{_≡_, refl, ap, ap₂, _∙_}
 use mathlib.Core.List.{List, [], _∷_, _++_, map, map-append}
@@ -6,17 +6,12 @@ use Prim.Native.Nat.{ℕ, zero, suc, _+_, _-_, _*_, _≤_, _<_}
 use native.Mathlib.Numerals.{add-one}
 use native.Mathlib.Omega.{arith}
 use lib.ListN.{length, length-append, length-map}
-use Rattle.tables.specs.Tables.{Gate, kindBytes, pairBytes}
+use Rattle.tables.specs.Tables.{Gate, pairBytes}
 use Rattle.tables.specs.Inside.{putAt}
-use Rattle.tables.proofs.Format.{kinds-long, pairs-long}
+use Rattle.tables.proofs.Format.{pairs-long}
 use Rattle.tables.proofs.Put.{Writing, writing-start, writing-fits, writing-piece, writing-end, put-length}
 use Rattle.masks.specs.Wires.{Wire, driverOf}
-use Rattle.writing.specs.Layout.{operandBytes, wireKinds, joined}
-
-kinds-append : (gs hs : List Gate) → kindBytes (gs ++ hs) ≡ kindBytes gs ++ kindBytes hs
-unfolding kindBytes
-kinds-append [] hs = refl
-kinds-append (g ∷ gs) hs = rw (kinds-append gs hs)
+use Rattle.writing.specs.Layout.{operandBytes, joined}
 
 pairs-append : (gs hs : List Gate) → pairBytes (gs ++ hs) ≡ pairBytes gs ++ pairBytes hs
 unfolding pairBytes
@@ -28,12 +23,6 @@ operands-append xs ys = rw map-append (pairs-append (map driverOf xs) (map drive
 
 pub operands-long : (xs : List Wire) → length (operandBytes xs) ≡ 4 * length xs
 operands-long xs = pairs-long (map driverOf xs) ∙ rw length-map
-
-pub wire-kinds-append : (xs ys : List Wire) → wireKinds (xs ++ ys) ≡ wireKinds xs ++ wireKinds ys
-wire-kinds-append xs ys = rw map-append (kinds-append (map driverOf xs) (map driverOf ys))
-
-pub wire-kinds-long : (xs : List Wire) → length (wireKinds xs) ≡ length xs
-wire-kinds-long xs = kinds-long (map driverOf xs) ∙ rw length-map
 
 joined-none : (m c : ℕ) (f : ℕ → List ℕ) → m ≤ c → joined (m - c) c f ≡ []
 unfolding joined

@@ -1,11 +1,11 @@
 -- For contracts inside the library only: no promise of a call cites this. How the code keeps the wires of a plain wire's
--- shares, and what is written for the new wires of a plain gate: their operands' bytes and their kinds' bytes.
+-- shares, and what is written for the new wires of a plain gate: their operands' bytes.
 -- Assumes nothing.
 use mathlib.Core.Path.{_≡_}
 use mathlib.Core.List.{List, [], _∷_, _++_, map}
 use Prim.Native.Nat.{ℕ, zero, suc, _+_, _-_, _*_, _≤_, _<_}
-use lib.ListN.{length, getD, drop, replicate}
-use Rattle.tables.specs.Tables.{Kind, NOT, XOR, AND, RANDOM, UNKNOWN, kindOf, Gate, kindBytes, pairBytes, two}
+use lib.ListN.{length, getD}
+use Rattle.tables.specs.Tables.{kindOf, pairBytes, two}
 use Rattle.writing.specs.declared.Places as DP
 use Rattle.writing.specs.declared.Pair as DQ
 use Rattle.masks.specs.Shares.{upFrom, pairOf, pairs, tri, pairAt}
@@ -23,10 +23,6 @@ LowShares n a = (i : ℕ) → i < n → share (shareWires n a) i < 65536
 -- the operands of wires, as bytes
 abbrev pub operandBytes : List Wire → List ℕ
 operandBytes xs = pairBytes (map driverOf xs)
-
--- the kinds of wires, as bytes
-abbrev pub wireKinds : List Wire → List ℕ
-wireKinds xs = kindBytes (map driverOf xs)
 
 -- c pieces one after another, the first being the piece s
 unfoldable pub joined : ℕ → ℕ → (ℕ → List ℕ) → List ℕ
@@ -71,31 +67,6 @@ andOperands G n w a b = joined (tri n) 0 (pairOperands G n w a b) ++ allRows G n
 -- the operands of one share of an XOR
 abbrev pub xorOperands : List ℕ → List ℕ → ℕ → List ℕ
 xorOperands a b s = two (share a s) ++ two (share b s)
-
--- the kinds of a pair's five wires
-abbrev pub pairKinds : List ℕ
-pairKinds = 3 ∷ 2 ∷ 1 ∷ 2 ∷ 1 ∷ []
-
--- the kinds of a row: its own product, then the sums
-abbrev pub rowKinds : ℕ → List ℕ
-rowKinds n = 2 ∷ replicate (n - 1) 1
-
--- the kinds of a plain gate's new wires
-abbrev pub newKinds : Kind → ℕ → List ℕ
-newKinds NOT n = 0 ∷ []
-newKinds XOR n = replicate n 1
-newKinds AND n = joined (tri n) 0 (λ _. pairKinds) ++ joined n 0 (λ _. rowKinds n)
-newKinds RANDOM n = []
-newKinds (UNKNOWN k) n = []
-
--- the kinds of the new wires of plain gates
-unfoldable pub gateKinds : ℕ → List Gate → List ℕ
-gateKinds n [] = []
-gateKinds n (x ∷ xs) = newKinds (x .kind) n ++ gateKinds n xs
-
--- from a place on, every byte is the kind of an XOR gate
-abbrev pub XorsFrom : ℕ → List ℕ → Type 0
-XorsFrom at b = drop at b ≡ replicate (length b - at) 1
 
 -- the wires of both operands' n shares are below 65,536
 pub record ReadsShares (n : ℕ) (a b : DP.Places) : Type 0 where

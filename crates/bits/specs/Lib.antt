@@ -1,0 +1,2 @@
+-- What a scan of bits gives.
+pub mod Scan

@@ -1,0 +1,2 @@
+-- Laws of a pair's random bit in the second run.
+mod Crossing

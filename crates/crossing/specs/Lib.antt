@@ -1,0 +1,2 @@
+-- What a pair's random bit in the second run takes and gives.
+pub mod Crossing

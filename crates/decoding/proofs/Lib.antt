@@ -1,0 +1,3 @@
+-- Laws that the proofs of decoding cite.
+mod Faults
+mod Decoding

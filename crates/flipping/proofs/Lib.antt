@@ -1,0 +1,3 @@
+-- Laws of the inputs' flips, and of both runs begun.
+pub mod Flipping
+pub mod Beginning

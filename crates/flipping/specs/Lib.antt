@@ -1,0 +1,2 @@
+-- What the inputs' part of mapping takes and gives.
+pub mod Flipping

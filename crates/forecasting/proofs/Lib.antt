@@ -1,0 +1,3 @@
+-- Laws that the proofs of forecasting cite.
+mod Forecast
+mod Line

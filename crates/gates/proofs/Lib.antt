@@ -1,0 +1,2 @@
+-- Laws that the proofs of checking gates cite.
+mod Gates

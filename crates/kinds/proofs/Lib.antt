@@ -1,0 +1,2 @@
+-- Laws of the kinds' bytes of a masked gate.
+pub mod GateKinds

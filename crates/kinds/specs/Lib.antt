@@ -1,0 +1,2 @@
+-- The kinds' bytes of a masked gate.
+pub mod Kinds

@@ -1,2 +1,0 @@
--- What the parts of mapping take and give.
-pub mod Working

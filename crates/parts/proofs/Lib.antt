@@ -1,0 +1,2 @@
+-- Laws of the parts of a masked table's bytes.
+pub mod Stretches

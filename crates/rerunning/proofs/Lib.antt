@@ -1,0 +1,3 @@
+-- Laws of the mapped tape with both runs.
+mod Working
+mod Room

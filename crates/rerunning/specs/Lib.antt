@@ -1,0 +1,2 @@
+-- What the work of mapping takes and leaves.
+pub mod Working
