@@ -5,10 +5,10 @@ use mathlib.Core.Path.{_≡_}
 use mathlib.Core.List.{List, [], _∷_, _++_, map}
 use Prim.Native.Nat.{ℕ, zero, suc, _+_, _-_, _*_, _≤_, _<_}
 use lib.ListN.{length, getD}
-use Rattle.tables.specs.Tables.{kindOf, pairBytes, two}
+use Rattle.tables.specs.Tables.{XOR, AND, kindOf, Gate, gate, pairBytes, two}
 use Rattle.writing.specs.declared.Places as DP
 use Rattle.writing.specs.declared.Pair as DQ
-use Rattle.masks.specs.Shares.{upFrom, pairOf, pairs, tri, pairAt}
+use Rattle.masks.specs.Shares.{upFrom, Pair, pairOf, pairs, tri, pairAt}
 use Rattle.masks.specs.Gadgets.{allFive, Gadget}
 use Rattle.masks.specs.Wires.{Wire, driverOf, share, pairWire, cost}
 
@@ -25,9 +25,43 @@ abbrev pub operandBytes : List Wire → List ℕ
 operandBytes xs = pairBytes (map driverOf xs)
 
 -- c pieces one after another, the first being the piece s
-unfoldable pub joined : ℕ → ℕ → (ℕ → List ℕ) → List ℕ
+unfoldable pub joined : {A : Type 0} → ℕ → ℕ → (ℕ → List A) → List A
 joined zero s f = []
 joined (suc c) s f = f s ++ joined c (suc s) f
+
+-- the five gates of a pair, from wire w on
+abbrev pub pairGates : Gadget → List ℕ → List ℕ → ℕ → Pair → List Gate
+pairGates G a b w p =
+    let i = p .lower in
+    let j = p .upper in
+    map (G .gates w (share a i) (share b j) (share a j) (share b i)) allFive
+
+-- sum number c of a running sum: it adds a wire to the wire before it
+abbrev pub sumGates : ℕ → (ℕ → ℕ) → ℕ → List Gate
+sumGates last z c = gate XOR (last + c) (z c) ∷ []
+
+-- row i's first sums, which add one wire each of the pairs (j, i), j rising
+abbrev pub highGates : Gadget → ℕ → ℕ → ℕ → ℕ → List Gate
+highGates G n w last i = joined i 0 (sumGates last (λ j. pairWire w (G .high) (pairAt n j i)))
+
+-- m sums that add one wire each of pairs that follow one another, from wire z on
+abbrev pub lowGates : Gadget → ℕ → ℕ → ℕ → List Gate
+lowGates G z last m = joined m 0 (sumGates last (pairWire z (G .low)))
+
+-- row i from wire v on: its own product, the sums of the pairs (j, i), those of the pairs (i, j)
+abbrev pub rowGates : Gadget → ℕ → ℕ → ℕ → List ℕ → List ℕ → ℕ → List Gate
+rowGates G n w v a b i =
+    gate AND (share a i) (share b i)
+    ∷ (highGates G n w v i
+    ++ joined (n - suc i) 0 (sumGates (v + i) (λ j. pairWire w (G .low) (pairAt n i (suc i + j)))))
+
+-- all rows, from wire v on
+abbrev pub rowsGates : Gadget → ℕ → ℕ → ℕ → List ℕ → List ℕ → List Gate
+rowsGates G n w v a b = joined n 0 (λ i. rowGates G n w (v + n * i) a b i)
+
+-- one share of an XOR
+abbrev pub xorGates : List ℕ → List ℕ → ℕ → List Gate
+xorGates a b s = gate XOR (share a s) (share b s) ∷ []
 
 -- the operands of the five wires of pair number c, where the AND's first wire is w
 abbrev pub pairOperands : Gadget → ℕ → ℕ → List ℕ → List ℕ → ℕ → List ℕ
