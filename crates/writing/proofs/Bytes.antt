@@ -1,4 +1,4 @@
--- Bytes of wires one after another: operands of appended lists, and pieces of one size that a loop writes.
+-- Pieces one after another, the operands of gates in pieces, and pieces of one size that a loop writes.
 -- Assumes nothing.
 use mathlib.Core.Path.{_≡_, refl, ap, ap₂, _∙_}
 use mathlib.Core.List.{List, [], _∷_, _++_, map, map-append}
@@ -13,7 +13,7 @@ use Rattle.tables.proofs.Put.{Writing, writing-start, writing-fits, writing-pie
 use Rattle.masks.specs.Wires.{Wire, driverOf}
 use Rattle.writing.specs.Layout.{operandBytes, joined}
 
-pairs-append : (gs hs : List Gate) → pairBytes (gs ++ hs) ≡ pairBytes gs ++ pairBytes hs
+pub pairs-append : (gs hs : List Gate) → pairBytes (gs ++ hs) ≡ pairBytes gs ++ pairBytes hs
 unfolding pairBytes
 pairs-append [] hs = refl
 pairs-append (g ∷ gs) hs = rw (pairs-append gs hs)
@@ -24,16 +24,18 @@ operands-append xs ys = rw map-append (pairs-append (map driverOf xs) (map drive
 pub operands-long : (xs : List Wire) → length (operandBytes xs) ≡ 4 * length xs
 operands-long xs = pairs-long (map driverOf xs) ∙ rw length-map
 
-joined-none : (m c : ℕ) (f : ℕ → List ℕ) → m ≤ c → joined (m - c) c f ≡ []
+pub joined-none : {A : Type 0} (m c : ℕ) (f : ℕ → List A) → m ≤ c → joined (m - c) c f ≡ []
 unfolding joined
 joined-none m c f h = let e : m - c ≡ 0 = omega arith in rw e refl
 
-joined-some : (m c : ℕ) (f : ℕ → List ℕ) → c < m → joined (m - c) c f ≡ f c ++ joined (m - suc c) (suc c) f
+pub joined-some :
+    {A : Type 0} (m c : ℕ) (f : ℕ → List A) → c < m → joined (m - c) c f ≡ f c ++ joined (m - suc c) (suc c) f
 unfolding joined
 joined-some m c f h = let e : m - c ≡ suc (m - suc c) = omega arith in rw e refl
 
 pub joined-long :
-    (size c s : ℕ) (f : ℕ → List ℕ) → ((i : ℕ) → i < s + c → length (f i) ≡ size) → length (joined c s f) ≡ size * c
+    {A : Type 0} (size c s : ℕ) (f : ℕ → List A) → ((i : ℕ) → i < s + c → length (f i) ≡ size)
+    → length (joined c s f) ≡ size * c
 unfolding joined
 joined-long size zero s f h = omega arith
 joined-long size (suc c) s f h =
@@ -41,12 +43,18 @@ joined-long size (suc c) s f h =
     ∙ omega (arith, h s (omega arith), joined-long size c (suc s) f (λ i k. h i (omega arith)))
 
 pub joined-same :
-    (c s : ℕ) (f g : ℕ → List ℕ) → ((i : ℕ) → i < s + c → f i ≡ g i) → joined c s f ≡ joined c s g
+    {A : Type 0} (c s : ℕ) (f g : ℕ → List A) → ((i : ℕ) → i < s + c → f i ≡ g i) → joined c s f ≡ joined c s g
 unfolding joined
 joined-same zero s f g h = refl
-joined-same (suc c) s f g h =
-    ap₂ {A = List ℕ} {B = List ℕ} {C = List ℕ} (λ x y. x ++ y) (h s (omega arith))
+joined-same {A} (suc c) s f g h =
+    ap₂ {A = List A} {B = List A} {C = List A} (λ x y. x ++ y) (h s (omega arith))
     (joined-same c (suc s) f g (λ i k. h i (omega arith)))
+
+pub pairs-joined :
+    (c s : ℕ) (f : ℕ → List Gate) → pairBytes (joined c s f) ≡ joined c s (λ i. pairBytes (f i))
+unfolding joined pairBytes
+pairs-joined zero s f = refl
+pairs-joined (suc c) s f = pairs-append (f s) (joined c (suc s) f) ∙ rw (pairs-joined c (suc s) f) refl
 
 -- m pieces of a size go to a place of b₀; c of them are put, the buffer is now b, and the next one goes to another place
 pub record Joining (size at m : ℕ) (f : ℕ → List ℕ) (b₀ : List ℕ) (to c : ℕ) (b : List ℕ) : Type 0 where

@@ -1,14 +1,14 @@
 -- For contracts inside the library only: no promise of a call cites this. How the code keeps the wires of a plain wire's
--- shares, and what is written for the new wires of a plain gate: their operands' bytes.
+-- shares, the new wires of a plain gate as gates in pieces one after another, as the loops go over them, and their operands' bytes.
 -- Assumes nothing.
 use mathlib.Core.Path.{_≡_}
 use mathlib.Core.List.{List, [], _∷_, _++_, map}
 use Prim.Native.Nat.{ℕ, zero, suc, _+_, _-_, _*_, _≤_, _<_}
-use lib.ListN.{length, getD}
-use Rattle.tables.specs.Tables.{XOR, AND, kindOf, Gate, gate, pairBytes, two}
+use lib.ListN.{length}
+use Rattle.tables.specs.Tables.{XOR, AND, kindOf, Gate, gate, pairBytes}
 use Rattle.writing.specs.declared.Places as DP
 use Rattle.writing.specs.declared.Pair as DQ
-use Rattle.masks.specs.Shares.{upFrom, Pair, pairOf, pairs, tri, pairAt}
+use Rattle.masks.specs.Shares.{upFrom, Pair, pairAt}
 use Rattle.masks.specs.Gadgets.{allFive, Gadget}
 use Rattle.masks.specs.Wires.{Wire, driverOf, share, pairWire, cost}
 
@@ -62,45 +62,6 @@ rowsGates G n w v a b = joined n 0 (λ i. rowGates G n w (v + n * i) a b i)
 -- one share of an XOR
 abbrev pub xorGates : List ℕ → List ℕ → ℕ → List Gate
 xorGates a b s = gate XOR (share a s) (share b s) ∷ []
-
--- the operands of the five wires of pair number c, where the AND's first wire is w
-abbrev pub pairOperands : Gadget → ℕ → ℕ → List ℕ → List ℕ → ℕ → List ℕ
-pairOperands G n w a b c =
-    let p = getD (pairs n) c (pairOf 0 0) in
-    let i = p .lower in
-    let j = p .upper in
-    pairBytes (map (G .gates (w + 5 * c) (share a i) (share b j) (share a j) (share b i)) allFive)
-
--- the operands of sum number c of a running sum: the wire before it, and the wire that it adds
-abbrev pub sumOperands : ℕ → (ℕ → ℕ) → ℕ → List ℕ
-sumOperands last z c = two (last + c) ++ two (z c)
-
--- the operands of row i's first sums, which add one wire each of the pairs (j, i), j rising
-abbrev pub highSums : Gadget → ℕ → ℕ → ℕ → ℕ → List ℕ
-highSums G n w last i = joined i 0 (sumOperands last (λ j. pairWire w (G .high) (pairAt n j i)))
-
--- the operands of m sums that add one wire each of pairs that follow one another, from wire z on
-abbrev pub lowSums : Gadget → ℕ → ℕ → ℕ → List ℕ
-lowSums G z last m = joined m 0 (sumOperands last (pairWire z (G .low)))
-
--- the operands of row i from wire v on: its own product, the sums of the pairs (j, i), those of the pairs (i, j)
-abbrev pub rowOperands : Gadget → ℕ → ℕ → ℕ → List ℕ → List ℕ → ℕ → List ℕ
-rowOperands G n w v a b i =
-    (two (share a i) ++ two (share b i))
-    ++ (highSums G n w v i
-    ++ joined (n - suc i) 0 (sumOperands (v + i) (λ j. pairWire w (G .low) (pairAt n i (suc i + j)))))
-
--- the operands of all rows, from wire v on
-abbrev pub allRows : Gadget → ℕ → ℕ → ℕ → List ℕ → List ℕ → List ℕ
-allRows G n w v a b = joined n 0 (λ i. rowOperands G n w (v + n * i) a b i)
-
--- the operands of an AND's wires: the pairs, then the rows
-abbrev pub andOperands : Gadget → ℕ → ℕ → List ℕ → List ℕ → List ℕ
-andOperands G n w a b = joined (tri n) 0 (pairOperands G n w a b) ++ allRows G n w (w + 5 * tri n) a b
-
--- the operands of one share of an XOR
-abbrev pub xorOperands : List ℕ → List ℕ → ℕ → List ℕ
-xorOperands a b s = two (share a s) ++ two (share b s)
 
 -- the wires of both operands' n shares are below 65,536
 pub record ReadsShares (n : ℕ) (a b : DP.Places) : Type 0 where

@@ -5,11 +5,11 @@ ghost use Prim.Native.Nat.{_+_, _*_, _≤_, _<_, ℕ, suc};
 ghost use lib.ListN.{length};
 ghost use Rattle.tables.specs.Inside.{putAt};
 ghost use Rattle.tables.specs.Tables.{kindOf, two, pairBytes, AND};
-ghost use Rattle.masks.specs.Shares.{tri, pairAt};
+ghost use Rattle.masks.specs.Shares.{inTurn, pairs, tri, pairAt};
 ghost use Rattle.masks.specs.Gadgets.{first, allFive, isw};
 ghost use Rattle.masks.specs.Wires.{cost, share, pairWire, newWires};
-ghost use Rattle.writing.specs.Layout.{shareWires, ReadsShares, OperandRoom, PairRoom, PairNo, operandBytes, joined, pairOperands};
-ghost use Rattle.writing.specs.Layout.{highSums, lowSums, rowOperands, allRows, andOperands, xorOperands};
+ghost use Rattle.writing.specs.Layout.{shareWires, ReadsShares, OperandRoom, PairRoom, PairNo, operandBytes, joined};
+ghost use Rattle.writing.specs.Layout.{pairGates, highGates, lowGates, rowGates, rowsGates, xorGates};
 
 // Which of the five wires of a pair (i, j) the rows add: row i the first, row j the fifth.
 const LOW: usize = 0;
@@ -88,7 +88,8 @@ fn next_pair(p: Pair, n: usize) -> Pair
 fn write_pairs(ops: &mut [u8], at: usize, w: usize, n: usize, a: Places, b: Places) -> usize
     requires { ⌜ ReadsShares n a b × (w + 5 * tri n ≤ 65536) × (at + 20 * tri n ≤ length (now ops)) ⌝ }
     ensures { λ r. ⌜ (r ≡ w + 5 * tri n)
-        × (now (ops .exit) ≡ putAt at (joined (tri n) 0 (pairOperands isw n w (shareWires n a) (shareWires n b))) (now (ops .entry))) ⌝ }
+        × (now (ops .exit)
+        ≡ putAt at (pairBytes (inTurn 5 w (pairs n) (pairGates isw (shareWires n a) (shareWires n b)))) (now (ops .entry))) ⌝ }
 {
     let m = masks::pair_count(n);
     let mut p = Pair { i: 0, j: 1 };
@@ -109,7 +110,7 @@ fn write_pairs(ops: &mut [u8], at: usize, w: usize, n: usize, a: Places, b: Plac
 // wire z on.
 fn write_low_sums(ops: &mut [u8], at: usize, last: usize, z: usize, m: usize)
     requires { ⌜ (last + m ≤ 65536) × ((c : ℕ) → c < m → pairWire z (isw .low) c < 65536) × (at + 4 * m ≤ length (now ops)) ⌝ }
-    ensures { λ _. ⌜ now (ops .exit) ≡ putAt at (lowSums isw z last m) (now (ops .entry)) ⌝ }
+    ensures { λ _. ⌜ now (ops .exit) ≡ putAt at (pairBytes (lowGates isw z last m)) (now (ops .entry)) ⌝ }
 {
     let mut c = 0;
     while c < m {
@@ -123,7 +124,7 @@ fn write_low_sums(ops: &mut [u8], at: usize, last: usize, z: usize, m: usize)
 fn write_high_sums(ops: &mut [u8], at: usize, last: usize, w: usize, n: usize, i: usize) -> usize
     requires { ⌜ (i < n) × (last + n ≤ 65536) × (w + 5 * tri n ≤ 65536) × (at + 4 * i ≤ length (now ops)) ⌝ }
     ensures { λ r. ⌜ (suc i < n → r ≡ pairWire w first (pairAt n i (suc i)))
-        × (now (ops .exit) ≡ putAt at (highSums isw n w last i) (now (ops .entry))) ⌝ }
+        × (now (ops .exit) ≡ putAt at (pairBytes (highGates isw n w last i)) (now (ops .entry))) ⌝ }
 {
     let mut z = w + 5 * i;
     let mut j = 0;
@@ -147,7 +148,7 @@ fn write_row(
     b: Places,
 )
     requires { ⌜ ReadsShares n a b × (i < n) × (v + n ≤ 65536) × (w + 5 * tri n ≤ 65536) × (at + 4 * n ≤ length (now ops)) ⌝ }
-    ensures { λ _. ⌜ now (ops .exit) ≡ putAt at (rowOperands isw n w v (shareWires n a) (shareWires n b) i) (now (ops .entry)) ⌝ }
+    ensures { λ _. ⌜ now (ops .exit) ≡ putAt at (pairBytes (rowGates isw n w v (shareWires n a) (shareWires n b) i)) (now (ops .entry)) ⌝ }
 {
     let ai = share_wire(a, i);
     let bi = share_wire(b, i);
@@ -162,7 +163,7 @@ fn write_rows(ops: &mut [u8], at: usize, v: usize, w: usize, n: usize, a: Places
         × (v + n * n ≤ 65536)
         × (w + 5 * tri n ≤ 65536)
         × (at + 4 * (n * n) ≤ length (now ops)) ⌝ }
-    ensures { λ _. ⌜ now (ops .exit) ≡ putAt at (allRows isw n w v (shareWires n a) (shareWires n b)) (now (ops .entry)) ⌝ }
+    ensures { λ _. ⌜ now (ops .exit) ≡ putAt at (pairBytes (rowsGates isw n w v (shareWires n a) (shareWires n b))) (now (ops .entry)) ⌝ }
 {
     let mut to = at;
     let mut from = v;
@@ -178,7 +179,7 @@ fn write_rows(ops: &mut [u8], at: usize, v: usize, w: usize, n: usize, a: Places
 // Writes the operands of an XOR's wires, share by share.
 fn write_xor(ops: &mut [u8], at: usize, n: usize, a: Places, b: Places)
     requires { ⌜ ReadsShares n a b × (at + 4 * n ≤ length (now ops)) ⌝ }
-    ensures { λ _. ⌜ now (ops .exit) ≡ putAt at (joined n 0 (xorOperands (shareWires n a) (shareWires n b))) (now (ops .entry)) ⌝ }
+    ensures { λ _. ⌜ now (ops .exit) ≡ putAt at (pairBytes (joined n 0 (xorGates (shareWires n a) (shareWires n b)))) (now (ops .entry)) ⌝ }
 {
     let mut s = 0;
     while s < n {
@@ -192,7 +193,11 @@ fn write_xor(ops: &mut [u8], at: usize, n: usize, a: Places, b: Places)
 // Writes the operands of an AND's wires, from wire w on: the pairs, then the rows.
 fn write_and(ops: &mut [u8], at: usize, w: usize, n: usize, a: Places, b: Places)
     requires { ⌜ ReadsShares n a b × (w + cost AND n ≤ 65536) × (at + 4 * cost AND n ≤ length (now ops)) ⌝ }
-    ensures { λ _. ⌜ now (ops .exit) ≡ putAt at (andOperands isw n w (shareWires n a) (shareWires n b)) (now (ops .entry)) ⌝ }
+    ensures { λ _. ⌜ now (ops .exit)
+        ≡ putAt at
+        (pairBytes (inTurn 5 w (pairs n) (pairGates isw (shareWires n a) (shareWires n b))
+        ++ rowsGates isw n w (w + 5 * tri n) (shareWires n a) (shareWires n b)))
+        (now (ops .entry)) ⌝ }
 {
     let v = write_pairs(ops, at, w, n, a, b);
     write_rows(ops, at + 4 * (v - w), v, w, n, a, b);

@@ -1,18 +1,22 @@
 -- `writing::write_and` meets its contract: the pairs, then the rows.
 -- Assumes nothing.
-use mathlib.Core.Path.{_≡_, ap, _∙_}
+use mathlib.Core.Path.{_≡_, refl, ap, _∙_}
 use mathlib.Core.List.{List, _++_}
 use Prim.Native.Nat.{ℕ, _*_}
 use native.Mathlib.Omega.{arith}
 use borrow.Author.Needs.{needs}
 use lib.ListN.{length}
-use Rattle.masks.specs.Shares.{tri}
+use Rattle.tables.specs.Tables.{pairBytes}
+use Rattle.tables.proofs.Format.{pairs-long}
+use Rattle.masks.specs.Shares.{inTurn, pairs, tri}
 use Rattle.tables.specs.Inside.{putAt}
 use Rattle.masks.specs.Gadgets.{isw}
-use Rattle.writing.specs.Layout.{shareWires, joined, pairOperands, allRows}
-use Rattle.writing.proofs.Bytes.{joined-long}
+use Rattle.writing.specs.Layout.{shareWires, pairGates, rowsGates}
+use Rattle.writing.proofs.Bytes.{pairs-append}
 use Rattle.tables.proofs.Put.{put-then}
-use Rattle.writing.proofs.Pieces.{pair-long}
+use Rattle.masks.proofs.Each.{in-turn-length}
+use Rattle.masks.proofs.Costs.{all-of}
+use Rattle.masks.proofs.Rows.{pairs-length}
 use Rattle.writing.proofs.write_and.Statement.{statement}
 use Rattle.writing.proofs.write_and.Tie as tie
 
@@ -39,20 +43,23 @@ same-length c = search needs
 returns : tie.Need-returns
 returns c =
     let rows = c .before .before in
-    let pairs = rows .before .before .before .before in
-    let s = pairs .before .before .before in
+    let crosses = rows .before .before .before .before in
+    let s = crosses .before .before .before in
     let n = s .args .n in
     let w = s .args .w in
     let A = shareWires n (s .args .a) in
     let B = shareWires n (s .args .b) in
     let at = s .args .at in
     let b = s .args .ops .now in
-    let all = joined (tri n) 0 (pairOperands isw n w A B) in
-    let long : length all ≡ 20 * tri n = joined-long 20 (tri n) 0 _ (λ i _. pair-long isw n w A B i) in
-    let next = pairs .write-pairs .ensures .0 in
-    put-then at all (allRows isw n w _ A B) b (omega (arith, s .pre .2)) (pairs .write-pairs .ensures .1) (omega (arith, long, next))
+    let all = inTurn 5 w (pairs n) (pairGates isw A B) in
+    let each = in-turn-length 5 w (pairs n) (pairGates isw A B) (all-of _ (λ _ _. refl) (pairs n)) in
+    let long : length (pairBytes all) ≡ 20 * tri n = omega (arith, pairs-long all, each, pairs-length n 0) in
+    let next = crosses .write-pairs .ensures .0 in
+    rw pairs-append
+    (put-then at (pairBytes all) (pairBytes (rowsGates isw n w _ A B)) b (omega (arith, s .pre .2)) (crosses .write-pairs .ensures .1)
+    (omega (arith, long, next))
     (rows .write-rows .ensures)
-    ∙ ap {A = ℕ} {B = List ℕ} (λ v. putAt at (all ++ allRows isw n w v A B) b) next
+    ∙ ap {A = ℕ} {B = List ℕ} (λ v. putAt at (pairBytes all ++ pairBytes (rowsGates isw n w v A B)) b) next)
 
 pub write-and-spec : {M : Type 1} → statement M
 write-and-spec =

@@ -4,12 +4,12 @@ use mathlib.Core.Path.{refl, ap}
 use Prim.Native.Nat.{ℕ, _+_, _-_, _*_, _≤_}
 use native.Mathlib.Omega.{arith}
 use mathlib.Core.List.{_++_}
-use Rattle.tables.specs.Tables.{two}
+use Rattle.tables.specs.Tables.{two, pairBytes}
 use Rattle.masks.specs.Shares.{pairAt}
 use Rattle.masks.specs.Gadgets.{isw}
 use Rattle.masks.specs.Wires.{pairWire}
-use Rattle.writing.specs.Layout.{sumOperands}
-use Rattle.writing.proofs.Bytes.{Joining, joining-start, joining-turn, joining-end}
+use Rattle.writing.specs.Layout.{sumGates}
+use Rattle.writing.proofs.Bytes.{pairs-joined, Joining, joining-start, joining-turn, joining-end}
 use Rattle.writing.proofs.Pieces.{Upright, upright-start, upright-turn, upright-high, upright-within}
 use Rattle.writing.proofs.Pieces.{upright-low}
 use Rattle.writing.proofs.write_high_sums.Statement.{statement}
@@ -17,7 +17,7 @@ use Rattle.writing.proofs.write_high_sums.Tie as tie
 
 abbrev Inv-loop : tie.InvT-loop
 Inv-loop ops₀ at last w n i z₀ j₀ ops z j =
-    Joining 4 at i (sumOperands last (λ j. pairWire w (isw .high) (pairAt n j i))) ops₀ (at + 4 * j) j ops
+    Joining 4 at i (λ j. pairBytes (sumGates last (λ j. pairWire w (isw .high) (pairAt n j i)) j)) ops₀ (at + 4 * j) j ops
     × Upright n w i j z
 
 abbrev μ-loop : tie.MeasureT-loop
@@ -41,6 +41,7 @@ add-z : tie.Need-add-z Inv-loop μ-loop
 add-z c = omega arith
 
 loop-holds : tie.Need-loop-holds Inv-loop μ-loop
+unfolding pairBytes
 loop-holds c =
     let s = c .before in (
       joining-start 4 (s .args .at) _ _ _ _ (λ _ _. refl) (omega arith) (s .pre .3),
@@ -84,6 +85,7 @@ loop-less : tie.Need-loop-less Inv-loop μ-loop
 loop-less c = omega arith
 
 loop-again : tie.Need-loop-again Inv-loop μ-loop
+unfolding pairBytes
 loop-again c =
     let call = c .before .before in
     let head = call .before .before .before in
@@ -104,7 +106,7 @@ returns : tie.Need-returns Inv-loop μ-loop
 returns c =
     let inv = c .before .loop .inv in (
       λ h. upright-low _ _ _ (c .before .loop .j) _ h (omega (arith, inv .0 .within)) (inv .1),
-      joining-end (inv .0) (omega arith),
+      rw pairs-joined (joining-end (inv .0) (omega arith)),
     )
 
 pub write-high-sums-spec : {M : Type 1} → statement M

@@ -3,16 +3,17 @@
 use mathlib.Core.Path.{refl}
 use Prim.Native.Nat.{_+_, _-_, _*_, _<_}
 use native.Mathlib.Omega.{arith}
+use Rattle.tables.specs.Tables.{pairBytes}
 use Rattle.masks.specs.Gadgets.{isw}
 use Rattle.masks.specs.Wires.{pairWire}
-use Rattle.writing.specs.Layout.{sumOperands}
-use Rattle.writing.proofs.Bytes.{Joining, joining-start, joining-turn, joining-end}
+use Rattle.writing.specs.Layout.{sumGates}
+use Rattle.writing.proofs.Bytes.{pairs-joined, Joining, joining-start, joining-turn, joining-end}
 use Rattle.writing.proofs.write_low_sums.Statement.{statement}
 use Rattle.writing.proofs.write_low_sums.Tie as tie
 
 abbrev Inv-loop : tie.InvT-loop
 Inv-loop ops₀ at last z m c₀ ops c =
-    Joining 4 at m (sumOperands last (pairWire z (isw .low))) ops₀ (at + 4 * c) c ops
+    Joining 4 at m (λ c. pairBytes (sumGates last (pairWire z (isw .low)) c)) ops₀ (at + 4 * c) c ops
 
 abbrev μ-loop : tie.MeasureT-loop
 μ-loop ops₀ at last z m c₀ ops c = m - c
@@ -23,6 +24,7 @@ low-wire :
 low-wire c = c .before .before .before .pre .1 (c .before .loop .c) (c .loop-test .taken)
 
 loop-holds : tie.Need-loop-holds Inv-loop μ-loop
+unfolding pairBytes
 loop-holds c =
     let s = c .before in
     joining-start 4 (s .args .at) _ _ _ _ (λ _ _. refl) (omega arith) (s .pre .2)
@@ -55,6 +57,7 @@ loop-less : tie.Need-loop-less Inv-loop μ-loop
 loop-less c = omega arith
 
 loop-again : tie.Need-loop-again Inv-loop μ-loop
+unfolding pairBytes
 loop-again c =
     let call = c .before .before in
     let head = call .before .before .before in
@@ -64,7 +67,7 @@ same-length : tie.Need-same-length Inv-loop μ-loop
 same-length c = c .before .loop .inv .long
 
 returns : tie.Need-returns Inv-loop μ-loop
-returns c = joining-end (c .before .loop .inv) (omega arith)
+returns c = rw pairs-joined (joining-end (c .before .loop .inv) (omega arith))
 
 pub write-low-sums-spec : {M : Type 1} → statement M
 write-low-sums-spec =

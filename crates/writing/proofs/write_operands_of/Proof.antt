@@ -7,7 +7,7 @@ use Rattle.tables.specs.Tables.{pairBytes}
 use Rattle.tables.proofs.Put.{put-nil}
 use Rattle.masks.specs.Gadgets.{isw}
 use Rattle.writing.specs.Layout.{shareWires}
-use Rattle.writing.proofs.Pieces.{xor-operands, and-operands, no-wires}
+use Rattle.writing.proofs.Pieces.{xor-gates, and-gates, no-wires}
 use Rattle.writing.proofs.write_operands_of.Statement.{statement}
 use Rattle.writing.proofs.write_operands_of.Tie as tie
 
@@ -40,7 +40,7 @@ returns : tie.Need-returns
 returns c g =
     let call = c .before .before in
     let s = call .before .before .before .before in
-    rw (call .before .before .if1 .taken, and-operands isw (s .args .n) g (s .args .w)) (call .write-and .ensures)
+    rw (call .before .before .if1 .taken, and-gates isw (s .args .n) g (s .args .w)) (call .write-and .ensures)
 
 same-length-2 : tie.Need-same-length-2
 same-length-2 c = search needs
@@ -51,7 +51,7 @@ returns-2 c g =
     let s = call .before .before .before .before .before in
     let A = shareWires (s .args .n) (s .args .a) in
     let B = shareWires (s .args .n) (s .args .b) in
-    rw (call .before .before .if2 .taken, xor-operands isw (s .args .n) g (s .args .w) A B) (call .write-xor .ensures)
+    rw (call .before .before .if2 .taken, xor-gates isw (s .args .n) g (s .args .w) A B) (call .write-xor .ensures)
 
 same-length-3 : tie.Need-same-length-3
 same-length-3 c = search needs

@@ -1,21 +1,24 @@
 -- `writing::write_pairs` meets its contract. The invariant: c pairs are written, and p is the pair that is number c.
 -- Assumes nothing.
-use Prim.Native.Nat.{_+_, _-_, _*_, _≤_, _<_}
+use mathlib.Core.Path.{refl, ap}
+use mathlib.Core.List.{List}
+use Prim.Native.Nat.{ℕ, _+_, _-_, _*_, _≤_, _<_}
 use native.Mathlib.Numerals.{add-one}
 use native.Mathlib.Omega.{arith}
 use lib.ListN.{length}
+use Rattle.tables.specs.Tables.{Gate, pairBytes}
 use Rattle.masks.specs.Shares.{tri}
 use Rattle.masks.specs.Gadgets.{isw}
-use Rattle.writing.specs.Layout.{shareWires, pairOperands, PairNo}
+use Rattle.writing.specs.Layout.{shareWires, pairGates, PairNo}
 use Rattle.writing.proofs.ShareWires.{share-low}
-use Rattle.writing.proofs.Bytes.{Joining, joining-start, joining-turn, joining-end}
-use Rattle.writing.proofs.Pieces.{pair-long, pair-piece, pair-first}
+use Rattle.writing.proofs.Bytes.{pairs-joined, Joining, joining-start, joining-turn, joining-end}
+use Rattle.writing.proofs.Pieces.{pairNumber, pairs-in-turn, pair-piece, pair-first}
 use Rattle.writing.proofs.write_pairs.Statement.{statement}
 use Rattle.writing.proofs.write_pairs.Tie as tie
 
 abbrev Inv-loop : tie.InvT-loop
 Inv-loop ops₀ at w n a b m p₀ c₀ ops p c =
-    Joining 20 at (tri n) (pairOperands isw n w (shareWires n a) (shareWires n b)) ops₀ (at + 20 * c) c ops
+    Joining 20 at (tri n) (λ c. pairBytes (pairGates isw (shareWires n a) (shareWires n b) (w + 5 * c) (pairNumber n c))) ops₀ (at + 20 * c) c ops
     × (c < tri n → PairNo n c p)
 
 abbrev μ-loop : tie.MeasureT-loop
@@ -25,11 +28,10 @@ pair-count-requires : tie.Need-pair-count-requires Inv-loop μ-loop
 pair-count-requires c κs = c .before .pre .0 .few
 
 loop-holds : tie.Need-loop-holds Inv-loop μ-loop
+unfolding pairBytes
 loop-holds c =
     let s = c .before .before in
-    let n = s .args .n in
-    let long = pair-long isw n (s .args .w) (shareWires n (s .args .a)) (shareWires n (s .args .b)) in
-    (joining-start 20 (s .args .at) _ _ _ _ (λ i _. long i) (omega arith) (s .pre .2), pair-first n)
+    (joining-start 20 (s .args .at) _ _ _ _ (λ _ _. refl) (omega arith) (s .pre .2), pair-first (s .args .n))
 
 -- in a turn there is a pair, and room for it
 module _ (c : tie.In-loop Inv-loop μ-loop) where
@@ -101,6 +103,7 @@ loop-less : tie.Need-loop-less Inv-loop μ-loop
 loop-less c = omega (arith, c .before .before .before .before .before .before .before .before .before .loop-test .taken)
 
 loop-again : tie.Need-loop-again Inv-loop μ-loop
+unfolding pairBytes
 loop-again c =
     let call = c .before .before .before in
     let bj = call .before .before in
@@ -114,12 +117,12 @@ loop-again c =
     let A = shareWires n (s .args .a) in
     let B = shareWires n (s .args .b) in
     let P = here test in
-    let piece = pair-piece isw (s .args .w) A B P
+    let piece = pair-piece isw (s .args .w + 5 * head .loop .c) A B P
     (ai .share-wire .ensures .1 n (lower test))
     (bj .later-wire2 .ensures .1 n (P .inside))
     (aj .later-wire .ensures .1 n (P .inside))
     (bi .share-wire2 .ensures .1 n (lower test)) in (
-      joining-turn (head .loop .inv .0) _ _ (more test) (pair-long isw n (s .args .w) A B (head .loop .c)) piece
+      joining-turn (head .loop .inv .0) _ _ (more test) refl (ap {A = List Gate} {B = List ℕ} pairBytes piece)
           (call .write-pair .ensures) (omega arith),
       rw add-one (c .next-pair .ensures (head .loop .c) P),
     )
@@ -136,7 +139,7 @@ same-length c = c .before .loop .inv .0 .long
 returns : tie.Need-returns Inv-loop μ-loop
 returns c =
     let count = c .before .before .pair-count .ensures in
-    (omega (arith, count), joining-end (c .before .loop .inv .0) (omega (arith, count, c .loop-test .left)))
+    (omega (arith, count), rw (pairs-in-turn, pairs-joined) (joining-end (c .before .loop .inv .0) (omega (arith, count, c .loop-test .left))))
 
 pub write-pairs-spec : {M : Type 1} → statement M
 write-pairs-spec =

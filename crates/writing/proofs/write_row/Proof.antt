@@ -6,13 +6,14 @@ use Prim.Native.Nat.{_+_, _-_, _*_}
 use native.Mathlib.Omega.{arith}
 use lib.ListN.{length}
 use borrow.Author.Needs.{needs}
-use Rattle.tables.specs.Tables.{two}
+use Rattle.tables.specs.Tables.{two, pairBytes}
+use Rattle.tables.proofs.Format.{pairs-long}
 use Rattle.tables.proofs.Put.{put-then}
 use Rattle.masks.specs.Gadgets.{isw}
-use Rattle.writing.specs.Layout.{highSums, lowSums}
+use Rattle.writing.specs.Layout.{highGates, lowGates}
 use Rattle.writing.proofs.ShareWires.{share-low}
-use Rattle.writing.proofs.Bytes.{joined-long}
-use Rattle.writing.proofs.Pieces.{low-within, low-same}
+use Rattle.writing.proofs.Bytes.{pairs-append}
+use Rattle.writing.proofs.Pieces.{low-within, low-same, high-long}
 use Rattle.writing.proofs.write_row.Statement.{statement}
 use Rattle.writing.proofs.write_row.Tie as tie
 
@@ -64,6 +65,7 @@ same-length : tie.Need-same-length
 same-length c = search needs
 
 returns : tie.Need-returns
+unfolding pairBytes
 returns c =
     let low = c .before .before in
     let high = low .before .before .before .before in
@@ -79,13 +81,16 @@ returns c =
     let inside = s .pre .1 in
     let z = high .write-high-sums .result in
     let product = two (ai .share-wire .result) ++ two (bi .share-wire2 .result) in
-    let firsts = highSums isw n (s .args .w) v i in
-    let long : length firsts ≡ 4 * i = joined-long 4 i 0 _ (λ _ _. refl) in
-    let lasts = lowSums isw z (v + i) (n - 1 - i) in
-    let to2 = put-then at product firsts b (omega (arith, s .pre .4)) (own .put-gate .ensures) refl (high .write-high-sums .ensures .1) in
-    let to3 = put-then at (product ++ firsts) lasts b (omega (arith, s .pre .4)) to2 (omega arith) (low .write-low-sums .ensures) in
+    let firsts = highGates isw n (s .args .w) v i in
+    let lasts = lowGates isw z (v + i) (n - 1 - i) in
+    let long : length (pairBytes firsts) ≡ 4 * i = omega (arith, pairs-long firsts, high-long isw n (s .args .w) v i) in
+    let to2 = put-then at product (pairBytes firsts) b (omega (arith, s .pre .4)) (own .put-gate .ensures) refl
+    (high .write-high-sums .ensures .1) in
+    let to3 = put-then at (product ++ pairBytes firsts) (pairBytes lasts) b (omega (arith, s .pre .4)) to2 (omega arith)
+    (low .write-low-sums .ensures) in
     rw (
       low-same n (s .args .w) i z (v + i) (n - 1 - i) (omega arith) (high .write-high-sums .ensures .0),
+      pairs-append firsts lasts,
       ← ai .share-wire .ensures .1 n inside,
       ← bi .share-wire2 .ensures .1 n inside,
     )

@@ -4,21 +4,22 @@ use mathlib.Core.Path.{refl, ap₂}
 use mathlib.Core.List.{_++_}
 use Prim.Native.Nat.{ℕ, _+_, _-_, _*_}
 use native.Mathlib.Omega.{arith}
-use Rattle.tables.specs.Tables.{two}
-use Rattle.writing.specs.Layout.{shareWires, xorOperands}
+use Rattle.tables.specs.Tables.{two, pairBytes}
+use Rattle.writing.specs.Layout.{shareWires, xorGates}
 use Rattle.writing.proofs.ShareWires.{share-low}
-use Rattle.writing.proofs.Bytes.{Joining, joining-start, joining-turn, joining-end}
+use Rattle.writing.proofs.Bytes.{pairs-joined, Joining, joining-start, joining-turn, joining-end}
 use Rattle.writing.proofs.write_xor.Statement.{statement}
 use Rattle.writing.proofs.write_xor.Tie as tie
 
 abbrev Inv-loop : tie.InvT-loop
 Inv-loop ops₀ at n a b s₀ ops s =
-    Joining 4 at n (xorOperands (shareWires n a) (shareWires n b)) ops₀ (at + 4 * s) s ops
+    Joining 4 at n (λ s. pairBytes (xorGates (shareWires n a) (shareWires n b) s)) ops₀ (at + 4 * s) s ops
 
 abbrev μ-loop : tie.MeasureT-loop
 μ-loop ops₀ at n a b s₀ ops s = n - s
 
 loop-holds : tie.Need-loop-holds Inv-loop μ-loop
+unfolding pairBytes
 loop-holds c =
     let s = c .before in
     joining-start 4 (s .args .at) _ _ _ _ (λ _ _. refl) (omega arith) (s .pre .1)
@@ -49,6 +50,7 @@ loop-less : tie.Need-loop-less Inv-loop μ-loop
 loop-less c = omega arith
 
 loop-again : tie.Need-loop-again Inv-loop μ-loop
+unfolding pairBytes
 loop-again c =
     let call = c .before .before in
     let right = call .before .before in
@@ -65,7 +67,7 @@ same-length : tie.Need-same-length Inv-loop μ-loop
 same-length c = c .before .loop .inv .long
 
 returns : tie.Need-returns Inv-loop μ-loop
-returns c = joining-end (c .before .loop .inv) (omega arith)
+returns c = rw pairs-joined (joining-end (c .before .loop .inv) (omega arith))
 
 pub write-xor-spec : {M : Type 1} → statement M
 write-xor-spec =
