@@ -8,18 +8,15 @@ use lib.ListN.{length, getD, drop, set, replicate, length-map, length-replicate,
 use lib.Seq.{drop-drop}
 use Rattle.tables.specs.Tables.{Kind, NOT, XOR, AND, RANDOM, UNKNOWN, kindOf, Gate, gate, kindBytes}
 use Rattle.tables.specs.Inside.{putAt}
-use Rattle.tables.proofs.Lists.{All}
 use Rattle.tables.proofs.Format.{kinds-long}
 use Rattle.tables.proofs.Put.{put-length, put-set, put-past}
-use Rattle.masks.specs.Shares.{upFrom, inTurn, pairs, tri, row}
+use Rattle.masks.specs.Shares.{inTurn, pairs, tri, pairAt}
 use Rattle.masks.specs.Gadgets.{isw}
-use Rattle.masks.specs.Wires.{Origin, Wire, driverOf, wire, andPart, sum, xorShare, share, pairWires, adding, rowWires}
-use Rattle.masks.specs.Wires.{pairWire, andWires, newWires, newShares, cost, masked}
-use Rattle.writing.specs.Layout.{joined}
-use Rattle.kinds.specs.Kinds.{wireKinds, pairKinds, rowKinds, newKinds, gateKinds, XorsFrom}
-use Rattle.masks.proofs.Sum.{up-length, up-all}
-use Rattle.masks.proofs.Rows.{pairs-length, row-length}
-use Rattle.masks.proofs.Costs.{all-of}
+use Rattle.masks.specs.Wires.{Wire, driverOf, share, pairWire, newWires, newShares, cost, masked}
+use Rattle.writing.specs.Layout.{joined, pairGates, sumGates, highGates, rowGates, rowsGates}
+use Rattle.writing.proofs.Bytes.{joined-same, joined-through}
+use Rattle.writing.proofs.Pieces.{pairs-in-turn, xor-gates, and-gates}
+use Rattle.kinds.specs.Kinds.{wireKinds, rowKinds, newKinds, gateKinds, XorsFrom}
 
 kinds-append : (gs hs : List Gate) → kindBytes (gs ++ hs) ≡ kindBytes gs ++ kindBytes hs
 unfolding kindBytes
@@ -85,55 +82,40 @@ pub row-head :
     (at n : ℕ) (b : List ℕ) → 1 ≤ n → XorsFrom at b → at + n ≤ length b → set b at 2 ≡ putAt at (rowKinds n) b
 row-head at n b some h fits = xors-head at (n - 1) 2 b h (omega arith)
 
--- blocks of wires that all have the same kinds
-in-turn-kinds :
-    {A : Type 0} (size w c : ℕ) (xs : List A) (F : ℕ → A → List Wire) (ks : List ℕ)
-    → All (λ x. (v : ℕ) → wireKinds (F v x) ≡ ks) xs → wireKinds (inTurn size w xs F) ≡ joined (length xs) c (λ _. ks)
-unfolding All inTurn joined kindBytes
-in-turn-kinds size w c [] F ks h = refl
-in-turn-kinds size w c (x ∷ xs) F ks h =
-    wire-kinds-append (F w x) (inTurn size (w + size) xs F)
-    ∙ ap₂ {A = List ℕ} {B = List ℕ} {C = List ℕ} (λ y z. y ++ z) (h .0 w)
-    (in-turn-kinds size (w + size) (suc c) xs F ks (h .1))
+-- the kinds of gates in pieces
+kinds-joined :
+    (c s : ℕ) (f : ℕ → List Gate) → kindBytes (joined c s f) ≡ joined c s (λ i. kindBytes (f i))
+unfolding kindBytes
+kinds-joined c s f = joined-through kindBytes refl kinds-append c s f
 
-adding-kinds :
-    (o : ℕ → Origin) (m last next : ℕ) (zs : List ℕ) → wireKinds (adding o m last next zs) ≡ ones (length zs)
-unfolding adding kindBytes
-adding-kinds o m last next [] = refl
-adding-kinds o m last next (z ∷ zs) =
-    ap {A = List ℕ} {B = List ℕ} (λ y. 1 ∷ y) (adding-kinds o (suc m) next (suc next) zs)
+xors-kinds : (m : ℕ) (l r : ℕ → ℕ) → kindBytes (joined m 0 (λ c. gate XOR (l c) (r c) ∷ [])) ≡ ones m
+unfolding kindBytes
+xors-kinds m l r = kinds-joined m 0 (λ c. gate XOR (l c) (r c) ∷ []) ∙ sym (replicate-joined m 1)
 
 row-kinds :
-    (n g w : ℕ) (a b : List ℕ) (low high : ℕ → ℕ) (i : ℕ) → i < n
-    → wireKinds (rowWires g a b (row n low high) w i) ≡ rowKinds n
+    (n w v : ℕ) (a b : List ℕ) (i : ℕ) → i < n → kindBytes (rowGates isw n w v a b i) ≡ rowKinds n
 unfolding kindBytes
-row-kinds n g w a b low high i h =
-    let long : length (row n low high i) ≡ n - 1 = omega (arith, row-length n low high i h) in
+row-kinds n w v a b i h =
+    let low : ℕ → ℕ = λ j. pairWire w (isw .low) (pairAt n i (suc i + j)) in
     ap {A = List ℕ} {B = List ℕ} (λ y. 2 ∷ y)
-    (adding-kinds (λ m. andPart g (sum i m)) 1 w (suc w) (row n low high i) ∙ rw long refl)
-
-xors-kinds :
-    (g m c : ℕ) (a b : List ℕ)
-    → wireKinds (upFrom m c (λ s. wire (gate XOR (share a s) (share b s)) (xorShare g s))) ≡ ones m
-unfolding upFrom kindBytes
-xors-kinds g zero c a b = refl
-xors-kinds g (suc m) c a b = ap {A = List ℕ} {B = List ℕ} (λ y. 1 ∷ y) (xors-kinds g m (suc c) a b)
+    (kinds-append (highGates isw n w v i) (joined (n - suc i) 0 (sumGates (v + i) low))
+    ∙ ap₂ {A = List ℕ} {B = List ℕ} {C = List ℕ} (λ y z. y ++ z) (xors-kinds i _ _) (xors-kinds (n - suc i) _ _)
+    ∙ replicate-append-replicate {A = ℕ} i (n - suc i) 1
+    ∙ ap ones {x = i + (n - suc i)} {y = n - 1} (omega arith))
 
 pub new-kinds : (k : Kind) (n g w : ℕ) (a b : List ℕ) → wireKinds (newWires isw k n g w a b) ≡ newKinds k n
-unfolding andWires kindBytes
+unfolding kindBytes
 new-kinds NOT n g w a b = refl
-new-kinds XOR n g w a b = xors-kinds g n 0 a b
+new-kinds XOR n g w a b =
+    ap {A = List Gate} {B = List ℕ} kindBytes (xor-gates isw n g w a b) ∙ xors-kinds n (share a) (share b)
 new-kinds AND n g w a b =
-    let low = pairWire w (isw .low) in
-    let high = pairWire w (isw .high) in
-    let rows = upFrom n 0 (λ i. i) in
-    let ofPairs = in-turn-kinds 5 w 0 (pairs n) (pairWires isw g a b) pairKinds (all-of _ (λ p v. refl) (pairs n)) in
-    let ofRows = in-turn-kinds n (w + 5 * tri n) 0 rows (rowWires g a b (row n low high)) (rowKinds n)
-    (up-all _ n 0 (λ i. i) (λ i _ h v. row-kinds n g v a b low high i (omega arith))) in
-    wire-kinds-append (inTurn 5 w (pairs n) (pairWires isw g a b)) _
+    let F = pairGates isw a b in
+    let v = w + 5 * tri n in
+    ap {A = List Gate} {B = List ℕ} kindBytes (and-gates isw n g w a b)
+    ∙ kinds-append (inTurn 5 w (pairs n) F) (rowsGates isw n w v a b)
     ∙ ap₂ {A = List ℕ} {B = List ℕ} {C = List ℕ} (λ y z. y ++ z)
-    (ofPairs ∙ ap (λ (m : ℕ). joined m 0 (λ _. pairKinds)) (pairs-length n 0))
-    (ofRows ∙ ap (λ (m : ℕ). joined m 0 (λ _. rowKinds n)) (up-length n 0 (λ (i : ℕ). i)))
+    (ap {A = List Gate} {B = List ℕ} kindBytes (pairs-in-turn n 5 w F) ∙ kinds-joined (tri n) 0 _)
+    (kinds-joined n 0 _ ∙ joined-same n 0 _ _ (λ i h. row-kinds n w (v + n * i) a b i (omega arith)))
 new-kinds RANDOM n g w a b = refl
 new-kinds (UNKNOWN c) n g w a b = refl
 

@@ -50,11 +50,18 @@ joined-same {A} (suc c) s f g h =
     ap₂ {A = List A} {B = List A} {C = List A} (λ x y. x ++ y) (h s (omega arith))
     (joined-same c (suc s) f g (λ i k. h i (omega arith)))
 
+-- what goes through appended lists goes through pieces
+pub joined-through :
+    {A B : Type 0} (h : List A → List B) → h [] ≡ [] → ((xs ys : List A) → h (xs ++ ys) ≡ h xs ++ h ys) → (c s : ℕ)
+    (f : ℕ → List A) → h (joined c s f) ≡ joined c s (λ i. h (f i))
+unfolding joined
+joined-through h e a zero s f = e
+joined-through h e a (suc c) s f = a (f s) (joined c (suc s) f) ∙ rw (joined-through h e a c (suc s) f) refl
+
 pub pairs-joined :
     (c s : ℕ) (f : ℕ → List Gate) → pairBytes (joined c s f) ≡ joined c s (λ i. pairBytes (f i))
-unfolding joined pairBytes
-pairs-joined zero s f = refl
-pairs-joined (suc c) s f = pairs-append (f s) (joined c (suc s) f) ∙ rw (pairs-joined c (suc s) f) refl
+unfolding pairBytes
+pairs-joined c s f = joined-through pairBytes refl pairs-append c s f
 
 -- m pieces of a size go to a place of b₀; c of them are put, the buffer is now b, and the next one goes to another place
 pub record Joining (size at m : ℕ) (f : ℕ → List ℕ) (b₀ : List ℕ) (to c : ℕ) (b : List ℕ) : Type 0 where
