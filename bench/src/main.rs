@@ -1,16 +1,19 @@
-//! Measures every call of the archive libmasks_c.a against the separate implementation of tests/:
-//! the same inputs, both built for release, in one run.
+//! Measures every call of the archive libmasks_c.a against the separate implementation of tests/,
+//! and against copying what the call reads and writes: the same inputs, all built for release, in
+//! one run.
 //!
 //!     bench measure FILE     measures, and writes the rows to a file
 //!     bench report FILE..    prints the table of rows measured in one layout or several
 //!     bench stack            prints how much stack each call of the archive takes
 //!
-//! Both are called through the same trait on slices, with buffers that are lent once and used
-//! again; neither is inlined into the loop that measures it. A size is measured on as many
-//! different inputs as make up the largest size together, in turn, so that the processor cannot
-//! learn a small one by heart. Before anything is measured, both must answer and write the same.
+//! All are called through the same trait on slices, with buffers that are lent once and used
+//! again; none is inlined into the loop that measures it. A size is measured on as many different
+//! inputs as make up the largest size together, in turn, so that the processor cannot learn a small
+//! one by heart. Before anything is measured, the archive and the separate implementation must
+//! answer and write the same.
 
 mod clock;
+mod copying;
 #[path = "../../tests/src/ffi.rs"]
 mod ffi;
 mod layout;
@@ -29,6 +32,7 @@ use compare::model::{AND, NOT, RANDOM, XOR};
 use compare::rng::Rng;
 
 use clock::{Gauge, Times, race};
+use copying::Copying;
 use ffi::Archive;
 use load::{Mapping, Masking, Running, any_table, plain_table};
 use report::{MAP_AGAINST_RUNS, Row};
@@ -187,23 +191,39 @@ fn measure<T, const N: usize>(
     call: impl Fn(&dyn Masks, &T, &mut [Vec<u8>; N]) -> Outcome,
 ) -> Times {
     for input in inputs {
-        let lent = || lengths(input).map(|length| vec![2_u8; length]);
-        let (mut our_buffers, mut their_buffers) = (lent(), lent());
+        let mut our_buffers = lent(lengths(input));
+        let mut their_buffers = our_buffers.clone();
         let ours = call(&Archive, input, &mut our_buffers);
         let theirs = call(&Model, input, &mut their_buffers);
         assert_eq!(ours.number, 0, "a sound call is refused");
         assert!(ours == theirs && our_buffers == their_buffers, "the results differ");
     }
-    let lent = || longest(inputs.iter().map(&lengths)).map(|length| vec![2_u8; length]);
-    let (mut our_buffers, mut their_buffers) = (lent(), lent());
-    let sweep = |masks: &dyn Masks, buffers: &mut [Vec<u8>; N]| {
-        for input in inputs {
-            black_box(call(masks, black_box(input), black_box(buffers)));
-        }
-    };
-    gauge(inputs.len(), &mut || sweep(&Archive, &mut our_buffers), &mut || {
-        sweep(&Model, &mut their_buffers)
-    })
+    let mut our_buffers = lent(longest(inputs.iter().map(&lengths)));
+    let (mut their_buffers, mut copies) = (our_buffers.clone(), our_buffers.clone());
+    let copying = Copying::new();
+    gauge(
+        inputs.len(),
+        &mut || sweep(&Archive, inputs, &mut our_buffers, &call),
+        &mut || sweep(&Model, inputs, &mut their_buffers, &call),
+        &mut || sweep(&copying, inputs, &mut copies, &call),
+    )
+}
+
+/// The call on each input in turn.
+fn sweep<T, const N: usize>(
+    masks: &dyn Masks,
+    inputs: &[T],
+    buffers: &mut [Vec<u8>; N],
+    call: impl Fn(&dyn Masks, &T, &mut [Vec<u8>; N]) -> Outcome,
+) {
+    for input in inputs {
+        black_box(call(masks, black_box(input), black_box(buffers)));
+    }
+}
+
+/// Buffers of these lengths.
+fn lent<const N: usize>(lengths: [usize; N]) -> [Vec<u8>; N] {
+    lengths.map(|length| vec![2; length])
 }
 
 /// The longest of each length.
@@ -237,17 +257,16 @@ fn run(gauge: Gauge, runnings: &[&Running]) -> Times {
     measure(
         gauge,
         runnings,
-        |running| [running.wires, running.outputs],
-        |masks, running, [values, outputs]| run_once(masks, running, values, outputs),
+        |running| run_lengths(running),
+        |masks, running, buffers| run_once(masks, running, buffers),
     )
 }
 
-fn run_once(
-    masks: &dyn Masks,
-    running: &Running,
-    values: &mut [u8],
-    outputs: &mut [u8],
-) -> Outcome {
+fn run_lengths(running: &Running) -> [usize; 2] {
+    [running.wires, running.outputs]
+}
+
+fn run_once(masks: &dyn Masks, running: &Running, [values, outputs]: &mut [Vec<u8>; 2]) -> Outcome {
     let Running { table, inputs, random, .. } = running;
     masks.run(table, inputs, random, values, outputs)
 }
@@ -308,25 +327,21 @@ fn map_once(
     masks.map(plain, *order, first, second, tape, probes, mapped, one, other)
 }
 
-/// The archive's map, against two of its runs of the masked table.
+/// The archive's map, against two of its runs of the masked table, and the map's copying.
 fn map_and_two_runs(gauge: Gauge, maskings: &[Masking]) -> Times {
-    let mut map_lent = longest(maskings.iter().map(map_lengths)).map(|length| vec![2; length]);
-    let mut run_lent = [map_lent[1].clone(), vec![2; maskings[0].masked.outputs]];
+    let mut map_buffers = lent(longest(maskings.iter().map(map_lengths)));
+    let mut copies = map_buffers.clone();
+    let mut run_buffers = lent(longest(masked(maskings).into_iter().map(run_lengths)));
+    let copying = Copying::new();
     gauge(
         maskings.len(),
-        &mut || {
-            for masking in maskings {
-                black_box(map_once(&Archive, black_box(masking), black_box(&mut map_lent)));
-            }
-        },
-        &mut || {
-            for masking in maskings {
-                for _ in 0..2 {
-                    let (running, lent) = (black_box(&masking.masked), black_box(&mut run_lent));
-                    let [values, outputs] = lent;
-                    black_box(run_once(&Archive, running, values, outputs));
-                }
-            }
-        },
+        &mut || sweep(&Archive, maskings, &mut map_buffers, map_once),
+        &mut || sweep(&Archive, maskings, &mut run_buffers, run_twice),
+        &mut || sweep(&copying, maskings, &mut copies, map_once),
     )
+}
+
+fn run_twice(masks: &dyn Masks, masking: &Masking, buffers: &mut [Vec<u8>; 2]) -> Outcome {
+    run_once(masks, &masking.masked, buffers);
+    run_once(masks, &masking.masked, buffers)
 }

@@ -7,7 +7,8 @@ use crate::clock::Times;
 
 const ABOUT: &str = "\
 Microseconds a call, the median of many: this library's, then those of the separate implementation
-in Rust. A ratio above 1.00 is marked. Wires are those of the masked table, in encode and decode the
+in Rust. A ratio above 1.00 is marked. Copy is the time of copying the bytes that the call reads and
+writes, as the limit to compare with. Wires are those of the masked table, in encode and decode the
 share bits. Growth is the time for each wire at the largest size against the smallest. An AND takes
 24, 75, 750 and 3,286 wires at order 1, 2, 7 and 15: at 15 the smallest tables have none.";
 
@@ -58,8 +59,8 @@ impl Row {
 /// A row in a file: its parts, with tabs between them.
 impl fmt::Display for Row {
     fn fmt(&self, f: &mut fmt::Formatter<'_>) -> fmt::Result {
-        let Row { call, wires, times: Times { ours, theirs }, .. } = self;
-        write!(f, "{call}\t{}\t{wires}\t{ours}\t{theirs}", self.order.unwrap_or(0))
+        let Row { call, wires, times: Times { ours, theirs, copy }, .. } = self;
+        write!(f, "{call}\t{}\t{wires}\t{ours}\t{theirs}\t{copy}", self.order.unwrap_or(0))
     }
 }
 
@@ -72,11 +73,11 @@ impl FromStr for Row {
 
     fn from_str(line: &str) -> Result<Self, String> {
         let parts: Vec<&str> = line.split('\t').collect();
-        let [call, order, wires, ours, theirs] = parts[..] else {
+        let [call, order, wires, ours, theirs, copy] = parts[..] else {
             return Err(format!("no row: {line}"));
         };
         let order: u8 = number(order)?;
-        let times = Times { ours: number(ours)?, theirs: number(theirs)? };
+        let times = Times { ours: number(ours)?, theirs: number(theirs)?, copy: number(copy)? };
         Ok(Row::new(call, (order > 0).then_some(order), number(wires)?, times))
     }
 }
@@ -94,9 +95,11 @@ pub fn combined(layouts: &[Vec<Row>]) -> Result<Vec<Row>, String> {
                 other.get(at).filter(|other| row.same_call(other) && row.wires == other.wires);
             times.push(same.ok_or("the layouts have different rows")?.times);
         }
+        let middle = |time: fn(&Times) -> f64| median(times.iter().map(time).collect());
         row.times = Times {
-            ours: median(times.iter().map(|times| times.ours).collect()),
-            theirs: median(times.iter().map(|times| times.theirs).collect()),
+            ours: middle(|times| times.ours),
+            theirs: middle(|times| times.theirs),
+            copy: middle(|times| times.copy),
         };
     }
     Ok(rows)
@@ -118,7 +121,7 @@ pub fn print(rows: &[Row], layouts: usize) {
     println!(
         "Each time is the median over {layouts} places in memory to which the code was linked.\n"
     );
-    println!("call          order  wires      ours      Rust  ratio  growth");
+    println!("call          order  wires      ours      Rust      copy  ratio  growth");
     let (mut above, mut largest_growth, mut map_ratio) = (0, 0_f64, None);
     for (at, row) in rows.iter().enumerate() {
         let before = at.checked_sub(1).map(|before| &rows[before]);
@@ -151,14 +154,16 @@ fn growth(rows: &[Row], at: usize) -> Option<f64> {
 }
 
 fn text(row: &Row, growth: Option<f64>) -> String {
-    let Row { call, wires, times: Times { ours, theirs }, .. } = row;
+    let Row { call, wires, times, .. } = row;
     let order = row.order.map_or("-".into(), |order| order.to_string());
-    let (ours, theirs, ratio) = (ours / 1e3, theirs / 1e3, row.ratio());
+    let [ours, theirs, copy] = [times.ours, times.theirs, times.copy].map(|time| time / 1e3);
+    let ratio = row.ratio();
     let growth = growth.map_or(String::new(), |growth| format!("{growth:.2}"));
     let mark =
         if ratio > row.goal() { format!("<-- above {:.2}", row.goal()) } else { String::new() };
     let text = format!(
-        "{call:<13} {order:>5} {wires:>6} {ours:>9.2} {theirs:>9.2} {ratio:>6.2} {growth:>7} {mark}"
+        "{call:<13} {order:>5} {wires:>6} {ours:>9.2} {theirs:>9.2} {copy:>9.3} {ratio:>6.2} \
+         {growth:>7} {mark}"
     );
     text.trim_end().to_string()
 }

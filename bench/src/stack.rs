@@ -27,12 +27,17 @@ unsafe extern "C" {
     fn pthread_join(thread: usize, answer: *mut *mut c_void) -> c_int;
 }
 
-/// The bytes of stack that two ways to do the same work take, beyond those of a thread that does
-/// nothing.
-pub fn taken(_calls: usize, ours: &mut dyn FnMut(), theirs: &mut dyn FnMut()) -> Times {
+/// The bytes of stack that two ways to do the same work take, and the copying, beyond those of a
+/// thread that does nothing.
+pub fn taken(
+    _calls: usize,
+    ours: &mut dyn FnMut(),
+    theirs: &mut dyn FnMut(),
+    copy: &mut dyn FnMut(),
+) -> Times {
     let nothing = touched(&mut || ());
     let taken = |work| touched(work).saturating_sub(nothing) as f64;
-    Times { ours: taken(ours), theirs: taken(theirs) }
+    Times { ours: taken(ours), theirs: taken(theirs), copy: taken(copy) }
 }
 
 /// Makes the call in a thread whose stack is a buffer, and answers how far down it was written.
