@@ -100,7 +100,7 @@ struct masks_marks masks_marks_of(const uint8_t *table, size_t table_len, uint8_
 /* Maps a tape from the first secret to the second, so that each probe, a wire of the masked table, keeps its value. Writes the
  * mapped tape to mapped, the masked table's wire values with the first secret and the tape to one, and those with the second
  * secret and the mapped tape to other. Value: the free share, the smallest share number that no probe carries.
- * Refusals 1 to 8, 10 to 13, 9. Stack: under 900 KiB. */
+ * Refusals 1 to 8, 10 to 13, 9. Stack: under 400 KiB. */
 struct masks_answer masks_map(const uint8_t *table, size_t table_len, uint8_t order, const uint8_t *first, size_t first_len,
                               const uint8_t *second, size_t second_len, const uint8_t *tape, size_t tape_len,
                               const uint32_t *probes, size_t probes_len, uint8_t *mapped, size_t mapped_len, uint8_t *one,

@@ -4,7 +4,7 @@ use mathlib.Core.Path.{_≡_, refl, sym, ap, ap₂, _∙_}
 use mathlib.Core.List.{List, _++_}
 use Prim.Native.Nat.{ℕ, _+_, _-_, _*_, _≤_}
 use native.Mathlib.Omega.{arith}
-use lib.ListN.{length, replicate, length-replicate}
+use lib.ListN.{length}
 use lib.Seq.{take-length}
 use borrow.Rule.Slice.PartMut.{midOf, putMid, mid-len}
 use Rattle.tables.specs.Tables.{Table, two, tableOf, total, kindBytes, pairBytes, wordBytes, tableBytes}
@@ -21,18 +21,11 @@ use Rattle.sizing.proofs.Planning.{plan-passed, plan-inputs, plan-bytes}
 use Rattle.writing.specs.Layout.{operandBytes}
 use Rattle.kinds.specs.Kinds.{gateKinds}
 use Rattle.kinds.proofs.GateKinds.{masked-kinds}
-use Rattle.placing.specs.Located.{Room, Noted, Located, sharesTo, allShares, gateWire}
-use Rattle.placing.proofs.Placing.{noted-room}
+use Rattle.placing.specs.Located.{sharesTo, allShares, gateWire}
 use Rattle.placing.proofs.Turns.{plan-wires}
 use Rattle.parts.specs.Parts.{stretch}
 use Rattle.parts.proofs.Stretches.{over-all}
 use Rattle.assembling.specs.Parts.{afterSizes}
-
--- three cleared arrays have room
-pub room-of : (c k : ℕ) → c ≤ k → Room c (replicate k 0) (replicate k 0) (replicate k 0)
-room-of c k h =
-    let l = length-replicate {A = ℕ} k 0 in
-    record { heads = omega arith; bases = omega arith; steps = omega arith }
 
 -- the gates of a plan's masked table
 abbrev pub gatesOf : DP.Plan → ℕ
@@ -50,12 +43,6 @@ module _ {s : List ℕ} {p : DP.Plan} (R : PlanReady s p) where
 
   outputs-count : length (m .outputs) ≡ p .shares * p .outputs
   outputs-count = rw (R .shares, R .outputs) (masked-outputs isw (p .order) (tableOf s) (plan-passed R .plain) .0)
-
-  -- the arrays once the shares are noted
-  pub plan-located :
-      {H B T H′ B′ T′ : List ℕ} → Room (p .inputs + p .gates) H B T
-      → Noted (p .shares) (allShares (p .shares) (tableOf s)) H B T H′ B′ T′ → Located (tableOf s) (p .shares) H′ B′ T′
-  plan-located r N = record { room = noted-room r N (omega (arith, R .inputs, R .gates)); holds = N .holds }
 
   -- what is written over all gates is the masked table's
   whole-cost : total (λ k. cost k (p .shares)) (stretch (tableOf s) 0 (p .gates)) ≡ gatesOf p

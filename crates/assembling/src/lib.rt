@@ -109,8 +109,8 @@ fn mask_large(table: &[u8], p: sizing::Plan, out: &mut [u8])
     mask_with(table, p, &mut head, &mut base, &mut step, out);
 }
 
-// Writes the masked table of a plan into a buffer that has room for it.
-pub fn mask_into(table: &[u8], p: sizing::Plan, out: &mut [u8])
+// Masks a table of any size.
+fn mask_any(table: &[u8], p: sizing::Plan, out: &mut [u8])
     requires { ⌜ PlanReady (now table) p × (planBytes p ≤ length (now out)) ⌝ }
     ensures { λ _. ⌜ now (out .exit)
         ≡ over (tableBytes (maskedTable isw (p .order) (tableOf (now (table .entry))))) (now (out .entry)) ⌝ }
@@ -126,8 +126,8 @@ pub fn mask_into(table: &[u8], p: sizing::Plan, out: &mut [u8])
     mask_large(table, p, out);
 }
 
-// The same, with little stack for a tiny table: to reserve that of a large one takes time even where it is not used.
-pub fn mask_lean(table: &[u8], p: sizing::Plan, out: &mut [u8])
+// Masks with little stack where the table is tiny: to reserve that of a large one takes time even where it is not used.
+fn mask_lean(table: &[u8], p: sizing::Plan, out: &mut [u8])
     requires { ⌜ PlanReady (now table) p × (planBytes p ≤ length (now out)) ⌝ }
     ensures { λ _. ⌜ now (out .exit)
         ≡ over (tableBytes (maskedTable isw (p .order) (tableOf (now (table .entry))))) (now (out .entry)) ⌝ }
@@ -136,5 +136,19 @@ pub fn mask_lean(table: &[u8], p: sizing::Plan, out: &mut [u8])
         mask_tiny(table, p, out);
         return;
     }
-    mask_into(table, p, out);
+    mask_any(table, p, out);
+}
+
+// Writes the masked table of a plan into a buffer that has room for it. A function that is called in two places stays one of its
+// own, and its stack is reserved only where it is called.
+pub fn mask_into(table: &[u8], p: sizing::Plan, out: &mut [u8])
+    requires { ⌜ PlanReady (now table) p × (planBytes p ≤ length (now out)) ⌝ }
+    ensures { λ _. ⌜ now (out .exit)
+        ≡ over (tableBytes (maskedTable isw (p .order) (tableOf (now (table .entry))))) (now (out .entry)) ⌝ }
+{
+    if p.inputs + p.gates <= 2048 {
+        mask_lean(table, p, out);
+        return;
+    }
+    mask_any(table, p, out);
 }

@@ -12,13 +12,13 @@ use Rattle.tables.specs.Runs.{runFrom, randoms}
 use Rattle.tables.proofs.Lists.{All, all-map}
 use Rattle.tables.proofs.Accept.{PlainGate, PlainGates}
 use Rattle.tables.proofs.Run.{run-length, run-keep, run-append, run-prefix}
-use Rattle.masks.specs.Shares.{pairs}
+use Rattle.masks.specs.Shares.{Pair, pairs}
 use Rattle.masks.specs.Gadgets.{differs, Gadget}
-use Rattle.masks.specs.Wires.{driverOf, newWires, newShares, cost, draws, masked}
+use Rattle.masks.specs.Wires.{driverOf, share, newWires, newShares, cost, draws, masked}
 use Rattle.masks.proofs.Rows.{pairs-length, pairs-in}
 use Rattle.masks.proofs.Lawful.{Lawful}
 use Rattle.masks.proofs.Costs.{new-length, new-draws, all-of}
-use Rattle.masks.proofs.Placed.{Stands, Placed, share-below, placed-at, placed-step}
+use Rattle.masks.proofs.Placed.{Placed, share-below, placed-at, placed-step}
 use Rattle.maps.specs.Maps.{flipped, pairFlip, gateFlips, mapGates}
 use Rattle.maps.specs.Laws.{gatesFlips}
 use Rattle.maps.proofs.Inputs.{flipped-length, flipped-append, flipped-nil, zero-append}
@@ -54,31 +54,38 @@ differs-local :
     → differs v u a b ≡ differs v′ u′ a b
 differs-local w a b v u v′ u′ ha hb ev eu = rw (ev a ha, ev b hb, eu a ha, eu b hb)
 
-and-flips-local :
-    (G : Gadget) (n k w : ℕ) (a b : List ℕ) (v u v′ u′ : ℕ → ℕ) → Stands n w a → Stands n w b → SameBelow w v v′
-    → SameBelow w u u′ → map (pairFlip G k a b v u) (pairs n) ≡ map (pairFlip G k a b v′ u′) (pairs n)
-and-flips-local G n k w a b v u v′ u′ sa sb ev eu =
-    map-same (pairFlip G k a b v u) (pairFlip G k a b v′ u′) (pairs n)
+-- what pairs flip depends on the wires of both operands' shares alone
+pub pairs-flips-local :
+    (G : Gadget) (n k w : ℕ) (a b : List ℕ) (v u v′ u′ : ℕ → ℕ) (ps : List Pair)
+    → All (λ p. (p .lower < p .upper) × (p .upper < n)) ps → ((i : ℕ) → i < n → share a i < w)
+    → ((i : ℕ) → i < n → share b i < w) → SameBelow w v v′ → SameBelow w u u′
+    → map (pairFlip G k a b v u) ps ≡ map (pairFlip G k a b v′ u′) ps
+pairs-flips-local G n k w a b v u v′ u′ ps inside sa sb ev eu =
+    map-same (pairFlip G k a b v u) (pairFlip G k a b v′ u′) ps
     (all-map _ _
     (λ p h.
     let i = p .lower in
     let j = p .upper in
     let hi : i < n = omega arith in
     ap₂ (G .flip k (suc i) (suc j))
-    (differs-local w _ _ v u v′ u′ (share-below n w a sa i hi) (share-below n w b sb j (h .1)) ev eu)
-    (differs-local w _ _ v u v′ u′ (share-below n w a sa j (h .1)) (share-below n w b sb i hi) ev eu))
-    (pairs n)
-    (pairs-in n))
+    (differs-local w _ _ v u v′ u′ (sa i hi) (sb j (h .1)) ev eu)
+    (differs-local w _ _ v u v′ u′ (sa j (h .1)) (sb i hi) ev eu))
+    ps
+    inside)
 
 -- what a gate flips depends on the wires of its operands' shares alone
-gate-flips-local :
+pub gate-flips-local :
     (G : Gadget) (kd : Kind) (n k w l r : ℕ) (S : List (List ℕ)) (v u v′ u′ : ℕ → ℕ) → PlainGate (length S) kd l r
     → Placed n w S → SameBelow w v v′ → SameBelow w u u′
     → gateFlips G kd n k (getD S l []) (getD S r []) v u ≡ gateFlips G kd n k (getD S l []) (getD S r []) v′ u′
 gate-flips-local G NOT n k w l r S v u v′ u′ g P ev eu = refl
 gate-flips-local G XOR n k w l r S v u v′ u′ g P ev eu = refl
 gate-flips-local G AND n k w l r S v u v′ u′ g P ev eu =
-    and-flips-local G n k w _ _ v u v′ u′ (placed-at n w S l P (g .0)) (placed-at n w S r P (g .1)) ev eu
+    pairs-flips-local G n k w (getD S l []) (getD S r []) v u v′ u′ (pairs n) (pairs-in n)
+    (share-below n w (getD S l []) (placed-at n w S l P (g .0)))
+    (share-below n w (getD S r []) (placed-at n w S r P (g .1)))
+    ev
+    eu
 gate-flips-local G RANDOM n k w l r S v u v′ u′ g P ev eu = refl
 gate-flips-local G (UNKNOWN c) n k w l r S v u v′ u′ g P ev eu = refl
 
@@ -252,7 +259,7 @@ module _ {G : Gadget} (L : Lawful G) (n k g w : ℕ) (S : List (List ℕ)) (x : 
   unfolding masked
   run-split rs vs = rw map-append (run-append these others rs vs ∙ rw these-draw)
 
-  map-step :
+  pub map-step :
       (rs vs us : List ℕ) → mapGates G n k g w S (x ∷ xs) rs vs us ≡ front rs vs us ++ next rs vs us
   unfolding mapGates
   map-step rs vs us =
@@ -307,7 +314,7 @@ rest-long :
 unfolding total
 rest-long n x xs rs e = (omega arith, omega (arith, length-drop (draws (x .kind) n) rs))
 
-next-plain :
+pub next-plain :
     (n w : ℕ) (S : List (List ℕ)) (x : Gate) (xs : List Gate) → PlainGates (suc (length S)) xs
     → PlainGates (length (S ++ (newShares (x .kind) n w (getD S (x .left) []) ∷ []))) xs
 next-plain n w S x xs P =

@@ -9,9 +9,9 @@ pub mod Begun
 pub mod TwoRuns
 pub mod Agree
 pub mod Kept
-pub mod Flat
-pub mod Walked
 pub mod Computing
 pub mod Written
 pub mod Whole
 pub mod Assurance
+pub mod Both
+pub mod MapGates

@@ -17,7 +17,7 @@ pub fn mask_table(table: &[u8], order: u8, out: &mut [u8]) -> tables::Answer
             if out.len() < bytes {
                 return tables::refused(tables::refuse(9, 0));
             }
-            assembling::mask_lean(table, p, out);
+            assembling::mask_into(table, p, out);
             return tables::done(tables::refuse(0, 0), bytes as u32);
         }
     }

@@ -2,7 +2,7 @@
 -- those of the blocks. Everything over pairs and rows goes through these laws.
 -- Assumes nothing.
 use mathlib.Core.Path.{_≡_, refl, sym, ap, _∙_, subst, subst₂}
-use mathlib.Core.List.{List, [], _∷_, _++_, map, map-append}
+use mathlib.Core.List.{List, [], _∷_, _++_, map, map-append, append-assoc}
 use Prim.Native.Nat.{ℕ, zero, suc, _+_, _*_, _<_}
 use native.Mathlib.Omega.{arith}
 use lib.ListN.{length, getD, length-append, length-map, List·getD-append}
@@ -59,6 +59,17 @@ in-turn-length size w [] f a = omega arith
 in-turn-length size w (x ∷ xs) f a =
     length-append (f w x) (inTurn size (w + size) xs f)
     ∙ omega (arith, a .0 w, in-turn-length size (w + size) xs f (a .1))
+
+pub in-turn-append :
+    {A B : Type 0} (size w : ℕ) (xs ys : List A) (f : ℕ → A → List B)
+    → inTurn size w (xs ++ ys) f ≡ inTurn size w xs f ++ inTurn size (w + size * length xs) ys f
+unfolding inTurn
+in-turn-append {B = B} size w [] ys f = ap {A = ℕ} {B = List B} (λ v. inTurn size v ys f) {x = w} {y = w + size * 0} (omega arith)
+in-turn-append {B = B} size w (x ∷ xs) ys f =
+    let next : w + size + size * length xs ≡ w + size * suc (length xs) = omega arith in
+    ap {A = List B} {B = List B} (λ l. f w x ++ l)
+    (in-turn-append size (w + size) xs ys f ∙ rw next refl)
+    ∙ sym (append-assoc (f w x) (inTurn size (w + size) xs f) (inTurn size (w + size * suc (length xs)) ys f))
 
 pub in-turn-draws :
     {A : Type 0} (size d w : ℕ) (xs : List A) (f : ℕ → A → List Wire) → All (Draws d f) xs

@@ -25,7 +25,7 @@ use Rattle.writing.specs.Layout.{shareWires, LowShares, operandBytes, joined}
 use Rattle.writing.proofs.Bytes.{operands-append, operands-long}
 use Rattle.kinds.specs.Kinds.{newKinds, gateKinds, XorsFrom}
 use Rattle.kinds.proofs.GateKinds.{wire-kinds-long, new-kinds, masked-kinds, xors-after}
-use Rattle.placing.specs.Located.{placesAt, Room, Located, sharesTo, allShares, gateWire}
+use Rattle.placing.specs.Located.{placesAt, Located, sharesTo, allShares, gateWire}
 use Rattle.placing.proofs.Located.{shares-length, all-shares-length, gate-wire-next, shares-to-next, located-at}
 use Rattle.placing.proofs.Turns.{Turn, turn, plan-sized, located-low}
 use Rattle.parts.specs.Parts.{stretch}
@@ -70,16 +70,6 @@ outputs-joined t n m e = outputs-from (allShares n t) m 0 (t .outputs) (omega ar
 
 -- where the arrays say that output o's shares are
 module _ {s : List ℕ} {p : DP.Plan} {H B T : List ℕ} (R : PlanReady s p) (L : Located (tableOf s) (p .shares) H B T) where
-  -- the arrays have the numbers of a plain wire
-  pub located-room : {q : ℕ} → q < p .inputs + p .gates → Room (q + 1) H B T
-  located-room h =
-      let room = L .room in
-      record {
-        heads = omega (arith, room .heads, R .inputs, R .gates);
-        bases = omega (arith, room .bases, R .inputs, R .gates);
-        steps = omega (arith, room .steps, R .inputs, R .gates);
-      }
-
   pub read-low : {q : ℕ} {a : DW.Places} → q < p .inputs + p .gates → a ≡ placesAt H B T q → LowShares (p .shares) a
   read-low {q} h e = subst {A = DW.Places} (LowShares (p .shares)) (sym e) (located-low R L q h)
 

@@ -6,7 +6,7 @@ use Prim.Native.Nat.{ℕ, suc, _+_, _*_, _≤_, _<_}
 use native.Mathlib.Nat.{zero-add, mul-le-mul-left}
 use native.Mathlib.Numerals.{add-one}
 use native.Mathlib.Omega.{arith}
-use lib.ListN.{length, getD}
+use lib.ListN.{length, getD, replicate, length-replicate}
 use Rattle.tables.specs.declared.GateFields as DG
 use Rattle.tables.specs.Tables.{kindOf, Table, gateOf, tableOf, total}
 use Rattle.tables.specs.Inside.{GateIs}
@@ -17,7 +17,7 @@ use Rattle.masks.proofs.Sum.{up-length, up-append}
 use Rattle.sizing.specs.declared.Plan as DP
 use Rattle.sizing.specs.Plans.{PlanReady}
 use Rattle.writing.specs.Layout.{shareWires}
-use Rattle.placing.specs.Located.{placesAt, Room, Put, Holds, Noted, sharesTo, allShares, gateWire}
+use Rattle.placing.specs.Located.{placesAt, Room, Put, Holds, Noted, Located, sharesTo, allShares, gateWire}
 use Rattle.placing.proofs.Located.{placesOf, shares-run, noted-start, noted-next, shares-to-all, shares-to-length}
 use Rattle.placing.proofs.Located.{gate-wire-next, shares-to-next}
 use Rattle.placing.proofs.Turns.{turn}
@@ -30,6 +30,18 @@ noted-room r N h = record {
   bases = omega (arith, r .bases, N .bases);
   steps = omega (arith, r .steps, N .steps);
 }
+
+-- three cleared arrays have room
+pub room-of : (c k : ℕ) → c ≤ k → Room c (replicate k 0) (replicate k 0) (replicate k 0)
+room-of c k h =
+    let l = length-replicate {A = ℕ} k 0 in
+    record { heads = omega arith; bases = omega arith; steps = omega arith }
+
+-- the arrays once the shares are noted
+pub plan-located :
+    {s : List ℕ} {p : DP.Plan} {H B T H′ B′ T′ : List ℕ} → PlanReady s p → Room (p .inputs + p .gates) H B T
+    → Noted (p .shares) (allShares (p .shares) (tableOf s)) H B T H′ B′ T′ → Located (tableOf s) (p .shares) H′ B′ T′
+plan-located R r N = record { room = noted-room r N (omega (arith, R .inputs, R .gates)); holds = N .holds }
 
 -- first the plain wires of S, then those of a longer list
 pub noted-both :

@@ -24,7 +24,7 @@ use Rattle.sizing.specs.declared.Plan as DP
 use Rattle.sizing.specs.Plans.{PlanReady}
 use Rattle.sizing.proofs.Planning.{plan-passed, plan-fits}
 use Rattle.writing.specs.Layout.{LowShares}
-use Rattle.placing.specs.Located.{placesAt, Located, allShares, gateWire}
+use Rattle.placing.specs.Located.{placesAt, Room, Located, allShares, gateWire}
 use Rattle.placing.proofs.Located.{all-shares-length, gate-wire-left, gate-wire-next}
 
 sound-at :
@@ -127,3 +127,14 @@ module _ {s : List ℕ} {p : DP.Plan} (R : PlanReady s p) where
       (placed-inputs n (t .inputs)) in
       let below = share-below n _ _ (placed-at n _ (allShares n t) q placed inside) i k in
       omega (arith, plan-wires, plan-fits R .wires, rw (← L .holds q inside) at below)
+
+  -- the arrays have the numbers of a plain wire
+  pub located-room :
+      {H B T : List ℕ} → Located (tableOf s) (p .shares) H B T → {q : ℕ} → q < p .inputs + p .gates → Room (q + 1) H B T
+  located-room L h =
+      let room = L .room in
+      record {
+        heads = omega (arith, room .heads, R .inputs, R .gates);
+        bases = omega (arith, room .bases, R .inputs, R .gates);
+        steps = omega (arith, room .steps, R .inputs, R .gates);
+      }

@@ -1,3 +1,2 @@
--- Laws of the mapped tape with both runs.
+-- Laws of the work of mapping.
 mod Working
-mod Room

@@ -1,45 +1,38 @@
--- The work of mapping: what each step needs once nothing is refused, and that the steps together leave the mapped tape and both
--- runs. The walk's bits are the mapped tape's by the law of the walk.
+-- The work of mapping: what each part needs once nothing is refused, and that the parts together leave the mapped tape and both
+-- runs.
 -- Assumes nothing.
-use mathlib.Core.Path.{_≡_, refl, sym, ap, ap₂, subst, _∙_}
+use mathlib.Core.Path.{_≡_, refl, sym, ap, ap₂, _∙_}
 use mathlib.Core.List.{List, _++_, map}
-use Prim.Native.Nat.{ℕ, suc, _+_, _-_, _*_, _≤_}
+use Prim.Native.Nat.{ℕ, _+_, _*_, _≤_}
 use native.Mathlib.Omega.{arith}
-use lib.ListN.{length, take, drop, length-append, length-drop}
-use lib.Seq.{length-take-le, take-at, drop-at}
-use borrow.Rule.Slice.PartAt.{part-to-end}
-use borrow.Rule.Slice.PartMut.{midOf, putMid, mid-len}
-use Rattle.tables.specs.Tables.{Gate, Table, tableOf, tableBytes}
+use lib.ListN.{length, take, drop, length-drop}
+use lib.Seq.{length-take-le, take-all, take-at, drop-at}
+use Rattle.tables.specs.Tables.{Table, tableOf, total}
 use Rattle.tables.specs.Runs.{Bits, run, runFrom, randoms}
 use Rattle.tables.specs.Says.{over}
-use Rattle.tables.proofs.Lists.{bits-take, bits-drop}
+use Rattle.tables.specs.Inside.{ranOn, RunsTo}
+use Rattle.tables.proofs.Lists.{bits-take}
 use Rattle.tables.proofs.Run.{run-length}
+use Rattle.tables.proofs.Ran.{ran-is}
 use Rattle.tables.proofs.Accept.{Plain}
-use Rattle.tables.proofs.Format.{inputs-written, gates-written}
-use Rattle.tables.proofs.Put.{put-zero, put-then, part-put, over-length, over-over}
-use Rattle.running.specs.Running.{RunReady}
-use Rattle.masks.specs.Shares.{sharesOf, tri}
+use Rattle.tables.proofs.Put.{put-zero, put-then, over-length, over-over}
+use Rattle.masks.specs.Shares.{sharesOf}
 use Rattle.masks.specs.Gadgets.{isw}
-use Rattle.masks.specs.Wires.{driverOf, inputShares, masked, maskedTable, tapeLong}
+use Rattle.masks.specs.Wires.{driverOf, inputShares, cost, draws, masked, maskedTable, tapeLong}
 use Rattle.masks.specs.Codes.{encode, maskedRun}
 use Rattle.masks.proofs.Orders.{order-range}
 use Rattle.masks.proofs.Lawful.{isw-lawful}
-use Rattle.masks.proofs.Costs.{masked-tape}
-use Rattle.masks.proofs.Placed.{placed-inputs}
+use Rattle.masks.proofs.Costs.{masked-draws, masked-wires}
 use Rattle.masks.proofs.Codes.{encode-bits}
 use Rattle.sizing.specs.declared.Plan as DP
 use Rattle.sizing.specs.Plans.{PlanReady}
-use Rattle.sizing.proofs.Planning.{plan-passed, plan-inputs, plan-fits}
+use Rattle.sizing.proofs.Planning.{plan-passed, plan-fits}
 use Rattle.maps.specs.Maps.{flipped, inputFlips, mapGates, mappedAt}
-use Rattle.maps.specs.Walk.{offset, inRow, walked, Crossing}
-use Rattle.maps.specs.Claims.{WrittenBack}
+use Rattle.maps.specs.Both.{BothRan, BothReady}
 use Rattle.maps.proofs.Inputs.{flipped-length, flipped-bits}
-use Rattle.maps.proofs.Begun.{shares-long, plain-inputs}
-use Rattle.maps.proofs.TwoRuns.{mapped-length}
-use Rattle.maps.proofs.Walked.{crossing-masked, walked-mapped}
-use Rattle.maps.proofs.Written.{written}
+use Rattle.maps.proofs.Begun.{shares-long}
 use Rattle.flipping.specs.Flipping.{BeginReady, BegunSays}
-use Rattle.walking.specs.Walking.{WalkReady, walkedBits, PlanWalk}
+use Rattle.steps.specs.Steps.{GatesRan}
 use Rattle.rerunning.specs.Working.{WorkReady, WorkSays}
 
 module _ {s : List ℕ} {p : DP.Plan} {k : ℕ} {xs ys ts m a b : List ℕ} (W : WorkReady s p k xs ys ts m a b) where
@@ -86,9 +79,6 @@ module _ {s : List ℕ} {p : DP.Plan} {k : ℕ} {xs ys ts m a b : List ℕ} (W :
 
   plain : Plain t
   plain = plan-passed R .plain
-
-  back : WrittenBack s o
-  back = written s o (rw (R .none))
 
   split-is : split ≡ 2 * o * t .inputs
   split-is = ap (λ (i : ℕ). 2 * o * i) (R .inputs)
@@ -142,9 +132,6 @@ module _ {s : List ℕ} {p : DP.Plan} {k : ℕ} {xs ys ts m a b : List ℕ} (W :
         other = omega (arith, inputs-are, fits .inputs, W .other);
       }
 
-  gates-are : tableOf (tableBytes M) .gates ≡ M .gates
-  gates-are = ap (λ (x : Table). x .gates) (back .read-back)
-
   rest-long : length rs ≡ randoms (M .gates)
   rest-long = omega (arith, length-drop split ts, tape-parts, W .tape)
 
@@ -152,45 +139,30 @@ module _ {s : List ℕ} {p : DP.Plan} {k : ℕ} {xs ys ts m a b : List ℕ} (W :
   unfolding maskedTable
   masked-gates = refl
 
-  crossing : Crossing w (tableOf (tableBytes M) .gates)
-  crossing =
-      rw (inputs-are, gates-are, masked-gates)
-      (crossing-masked n 0 (n * t .inputs) (inputShares n (t .inputs)) (t .gates) (omega arith) (plain-inputs n t plain)
-      (placed-inputs n (t .inputs)))
+  -- the random bits of the gates, and the wires that these drive
+  draws-are : total (λ kd. draws kd n) (t .gates) ≡ randoms (M .gates)
+  draws-are = sym (ap randoms masked-gates ∙ masked-draws isw-lawful n 0 (n * t .inputs) (inputShares n (t .inputs)) (t .gates))
+
+  wires-are : n * t .inputs + total (λ kd. cost kd n) (t .gates) ≡ p .wires
+  wires-are = sym (R .wires ∙ masked-wires isw o t)
 
   -- a run that was begun with the shares e
   module _ {v : List ℕ} (e v₀ : List ℕ) (long : length e ≡ n * t .inputs) (ev : v ≡ over e v₀) where
-    taken : take w v ≡ e
-    taken = rw ev (take-at e (drop (length e) v₀) w (long ∙ sym inputs-are))
+    taken : take (n * t .inputs) v ≡ e
+    taken = rw ev (take-at e (drop (length e) v₀) (n * t .inputs) long)
 
-    run-ready : Bits e → p .wires ≤ length v₀ → RunReady (tableBytes M) rs v w (p .wires - w)
+    run-ready : Bits e → p .wires ≤ length v₀ → RunsTo (n * t .inputs) (total (λ kd. cost kd n) (t .gates)) v
     run-ready bits room =
-        let fits = plan-fits R in
-        let same : p .wires ≡ M .inputs + length (M .gates) = R .wires in
-        let long-v : length v ≡ length v₀ =
-        ap length ev ∙ over-length e v₀ (omega (arith, long, inputs-are, fits .inputs)) in
-        record {
-          accepted = rw (back .unrefused);
-          inputs = plan-inputs R ∙ sym (inputs-written M);
-          gates = omega (arith, gates-written M, plan-inputs R);
-          random = omega (arith, rest-long, ap randoms gates-are);
-          random-bits = bits-drop split ts (W .tape-bits);
-          room = omega (arith, fits .inputs);
-          input-bits = rw taken bits;
-        }
+        let same : length v ≡ length v₀ = ap length ev ∙ over-length e v₀ (omega (arith, long, wires-are)) in
+        record { room = omega (arith, wires-are); bits = rw taken bits }
 
-    -- what the walk leaves of it, over what was lent
+    -- what the gates leave of it, over what was lent
     run-left :
-        {v′ : List ℕ} (us : List ℕ) → v′ ≡ over (runFrom (tableOf (tableBytes M) .gates) us (take w v)) v
-        → v′ ≡ over (runFrom (M .gates) us e) v₀
+        {v′ : List ℕ} (us : List ℕ) → v′ ≡ ranOn (M .gates) us (n * t .inputs) v → v′ ≡ over (runFrom (M .gates) us e) v₀
     run-left us h =
         let ran = runFrom (M .gates) us e in
         let short : length e ≤ length ran = omega (arith, run-length (M .gates) us e) in
-        h ∙ rw (gates-are, taken, ev) (over-over e ran v₀ short)
-
-  -- the part of the tape that the random gates take
-  pub rest-part : midOf split (length ts - split) ts ≡ rs
-  rest-part = part-to-end ts split
+        h ∙ ran-is (M .gates) us (n * t .inputs) v ∙ rw (taken, ev) (over-over e ran v₀ short)
 
   -- the mapped tape's bits of the random gates
   abbrev rest : List ℕ
@@ -200,31 +172,6 @@ module _ {s : List ℕ} {p : DP.Plan} {k : ℕ} {xs ys ts m a b : List ℕ} (W :
   unfolding mappedAt
   mapped-parts = rw split-is
 
-  walks-are : walked (inRow (offset n (k - 1)) (offset n k)) (tri n) 0 (M .gates) rs E E′ ≡ rest
-  walks-are =
-      let d = k - 1 in
-      let from = W .from-1 in
-      let next : suc d ≡ k = omega arith in
-      let law =
-      walked-mapped n d 0 (n * t .inputs) (inputShares n (t .inputs)) (t .gates) rs E E′
-      (omega (arith, order-fits .0))
-      (omega (arith, W .to-n, R .shares))
-      (plain-inputs n t plain)
-      (placed-inputs n (t .inputs))
-      E-long
-      E′-long
-      (omega (arith, length-drop split ts, W .tape, R .tape, masked-tape isw-lawful o t, split-is)) in
-      subst
-      (λ (y : ℕ). walked (inRow (offset n d) (offset n y)) (tri n) 0 (M .gates) rs E E′
-      ≡ mapGates isw n y 0 (n * t .inputs) (inputShares n (t .inputs)) (t .gates) rs E E′)
-      next
-      (ap (λ (l : List Gate). walked (inRow (offset n d) (offset n (suc d))) (tri n) 0 l rs E E′) masked-gates ∙ law)
-
-  rest-fits : split + length rest ≡ p .tape
-  rest-fits =
-      let whole = mapped-length isw-lawful t o k plain xs ys ts first-long second-long (W .tape ∙ R .tape) in
-      omega (arith, ap length mapped-parts, length-append F rest, F-long, whole, R .tape)
-
   -- a run of the masked table on a tape
   run-parts :
       (zs us : List ℕ)
@@ -233,56 +180,47 @@ module _ {s : List ℕ} {p : DP.Plan} {k : ℕ} {xs ys ts m a b : List ℕ} (W :
   run-parts zs us = rw split-is
 
   -- both runs begun, and the front of the mapped tape put
-  module _ {s′ rs′ m₁ a₁ b₁ : List ℕ} (es : s′ ≡ tableBytes M) (er : rs′ ≡ rs) (B : BegunSays o k xs ys front m m₁ a a₁ b b₁) where
+  module _ {m₁ a₁ b₁ : List ℕ} (B : BegunSays o k xs ys front m m₁ a a₁ b b₁) where
     begun-long : length m₁ ≡ length m
     begun-long = ap length (B .mapped) ∙ over-length F m (omega (arith, F-long, tape-parts, W .mapped))
 
-    pub walk-ready : WalkReady s′ rs′ (midOf split (length m₁ - split) m₁) a₁ b₁ w (p .wires - w)
-    walk-ready =
-        let long = begun-long in
-        let fits = W .mapped in
-        let tape = tape-parts in
-        rw (es, er) (record {
+    pub gates-ready :
+        BothReady (p .shares * t .inputs) (total (λ kd. cost kd (p .shares)) (t .gates)) split
+        (total (λ kd. draws kd (p .shares)) (t .gates)) ts m₁ a₁ b₁
+    gates-ready =
+        rw (R .shares)
+        (record {
           one = run-ready E a E-long (B .one) (encode-bits o xs front (W .first-bits) front-bits) (W .one);
           other =
               run-ready E′ b E′-long (B .other)
               (encode-bits o ys F (W .second-bits) (flipped-bits front (inputFlips o k xs ys) front-bits))
               (W .other);
-          exact = rest-long ∙ ap randoms (sym gates-are);
-          room = omega (arith, rest-long, mid-len split (length m₁) m₁ (omega arith));
-          crossing = crossing;
+          tape = omega (arith, draws-are, tape-parts, W .tape);
+          room = omega (arith, draws-are, tape-parts, W .mapped, begun-long);
+          bits = W .tape-bits;
         })
 
-    module _ {m₂ part a₂ b₂ : List ℕ}
-        (walks : PlanWalk p k s′ rs′ (midOf split (length m₁ - split) m₁) part a₁ a₂ b₁ b₂)
-        (put : m₂ ≡ putMid split (length m₁ - split) m₁ part) where
-      walk : PlanWalk p k (tableBytes M) rs (midOf split (length m₁ - split) m₁) part a₁ a₂ b₁ b₂
-      walk = rw (es, er) at walks
-
-      bits-are : walkedBits (tableBytes M) w (offset (p .shares) (k - 1)) (offset (p .shares) k) (tri (p .shares)) rs a₁ b₁ ≡ rest
-      bits-are = rw (gates-are, taken E a E-long (B .one), taken E′ b E′-long (B .other), R .shares) walks-are
-
-      mapped-left : m₂ ≡ over (F ++ rest) m
-      mapped-left =
-          let long = begun-long in
-          let fits = rest-fits in
-          let room = W .mapped in
-          let mid = midOf split (length m₁ - split) m₁ in
-          let written : part ≡ over rest mid = walk .mapped ∙ ap (λ (l : List ℕ). over l mid) bits-are in
-          put-then 0 F rest m
-          (omega (arith, F-long))
-          (B .mapped ∙ sym (put-zero F m))
-          (omega (arith, F-long))
-          (put ∙ part-put split (length m₁) rest m₁ (omega arith) (omega arith) (omega arith) written)
-          ∙ put-zero (F ++ rest) m
+    module _ {m₂ a₂ b₂ : List ℕ} (gates : GatesRan (p .shares) k t ts split m₁ m₂ a₁ a₂ b₁ b₂) where
+      ran : BothRan (M .gates) rs rest split (n * t .inputs) m₁ m₂ a₁ a₂ b₁ b₂
+      ran =
+          let all : take (total (λ kd. draws kd n) (t .gates)) rs ≡ rs =
+          take-all (total (λ kd. draws kd n) (t .gates)) rs (omega (arith, draws-are, rest-long)) in
+          rw (R .shares, all, taken E a E-long (B .one), taken E′ b E′-long (B .other), ← masked-gates) at gates
 
       pub work-done : WorkSays s o k xs ys ts m m₂ a a₂ b b₂
       work-done =
           let mapped = mappedAt isw o t k xs ys ts in
           let second : maskedRun isw o t ys mapped ≡ runFrom (M .gates) rest E′ =
           run-parts ys mapped ∙ rw (mapped-parts, drop-at F rest split F-long, take-at F rest split F-long) in
+          let put : m₂ ≡ over (F ++ rest) m =
+          put-then 0 F rest m
+          (omega (arith, F-long, tape-parts, W .mapped))
+          (B .mapped ∙ sym (put-zero F m))
+          (omega (arith, F-long))
+          (ran .mapped)
+          ∙ put-zero (F ++ rest) m in
           record {
-            mapped = rw mapped-parts mapped-left;
-            one = rw (run-parts xs ts) (run-left E a E-long (B .one) rs (walk .one));
-            other = rw second (run-left E′ b E′-long (B .other) rest (rw bits-are at (walk .other)));
+            mapped = rw mapped-parts put;
+            one = rw (run-parts xs ts) (run-left E a E-long (B .one) rs (ran .one));
+            other = rw second (run-left E′ b E′-long (B .other) rest (ran .other));
           }

@@ -1,6 +1,6 @@
 -- For contracts inside the library only: no promise of a call cites this.
 -- What the work of mapping takes and leaves, once nothing is refused (document 01, "Marks and the mapped tape"): both runs are
--- begun with the encodings, the front of the mapped tape is put, and the walk does the rest.
+-- begun with the encodings, the front of the mapped tape is put, and the gates follow in table order.
 -- Assumes nothing.
 use mathlib.Core.Path.{_≡_}
 use mathlib.Core.List.{List}

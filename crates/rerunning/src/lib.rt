@@ -1,10 +1,9 @@
 // The mapped tape and both runs, where mapping is not refused and the free share is known.
-ghost use Prim.Native.Nat.{_≤_};
-ghost use lib.ListN.{length};
-ghost use Rattle.sizing.specs.Plans.{planBytes};
+ghost use Prim.Native.Nat.{_+_, _≤_};
+ghost use Rattle.placing.specs.Located.{Room};
 ghost use Rattle.rerunning.specs.Working.{WorkReady, WorkSays};
 
-// Maps with the masked table of a plan, written into a buffer that has room for it; k is the free share.
+// Maps with three arrays that are lent to note where shares are; k is the free share.
 fn map_with(
     table: &[u8],
     p: sizing::Plan,
@@ -12,27 +11,20 @@ fn map_with(
     first: &[u8],
     second: &[u8],
     tape: &[u8],
-    masked: &mut [u8],
+    head: &mut [u16],
+    base: &mut [u16],
+    step: &mut [u16],
     mapped: &mut [u8],
     one: &mut [u8],
     other: &mut [u8],
 )
     requires { ⌜ WorkReady (now table) p k (now first) (now second) (now tape) (now mapped) (now one) (now other)
-        × (planBytes p ≤ length (now masked)) ⌝ }
-    ensures { λ _. ⌜ WorkSays (now (table .entry)) (p .order) k
-        (now (first .entry))
-        (now (second .entry))
-        (now (tape .entry))
-        (now (mapped .entry))
-        (now (mapped .exit))
-        (now (one .entry))
-        (now (one .exit))
-        (now (other .entry))
-        (now (other .exit)) ⌝ }
+        × Room (p .inputs + p .gates) (now head) (now base) (now step) ⌝ }
+    ensures { λ _. ⌜ WorkSays (now (table .entry)) (p .order) k (now (first .entry)) (now (second .entry)) (now (tape .entry))
+        (now (mapped .entry)) (now (mapped .exit)) (now (one .entry)) (now (one .exit)) (now (other .entry)) (now (other .exit)) ⌝ }
 {
     let split = 2 * p.order * p.inputs;
-    let bytes = sizing::plan_bytes(p);
-    assembling::mask_into(table, p, masked);
+    placing::locate(table, p, head, base, step);
     flipping::begin_runs(
         p.order,
         k,
@@ -43,18 +35,58 @@ fn map_with(
         one,
         other,
     );
-    walking::walk_plan(
-        &masked[..bytes],
+    steps::map_gates(
+        table,
         p,
         k,
-        &tape[split..],
-        &mut mapped[split..],
+        head,
+        base,
+        step,
+        tape,
+        split,
+        mapped,
         one,
         other,
     );
 }
 
-// Maps where the masked table has at most 8,192 bytes.
+// Maps with a table of at most 256 wires.
+fn map_tiny(
+    table: &[u8],
+    p: sizing::Plan,
+    k: usize,
+    first: &[u8],
+    second: &[u8],
+    tape: &[u8],
+    mapped: &mut [u8],
+    one: &mut [u8],
+    other: &mut [u8],
+)
+    requires { ⌜ WorkReady (now table) p k (now first) (now second) (now tape) (now mapped) (now one) (now other)
+        × (p .inputs + p .gates ≤ 256) ⌝ }
+    ensures { λ _. ⌜ WorkSays (now (table .entry)) (p .order) k (now (first .entry)) (now (second .entry)) (now (tape .entry))
+        (now (mapped .entry)) (now (mapped .exit)) (now (one .entry)) (now (one .exit)) (now (other .entry)) (now (other .exit)) ⌝ }
+{
+    let mut head = [0u16; 256];
+    let mut base = [0u16; 256];
+    let mut step = [0u16; 256];
+    map_with(
+        table,
+        p,
+        k,
+        first,
+        second,
+        tape,
+        &mut head,
+        &mut base,
+        &mut step,
+        mapped,
+        one,
+        other,
+    );
+}
+
+// Maps with a table of at most 2,048 wires.
 fn map_small(
     table: &[u8],
     p: sizing::Plan,
@@ -67,19 +99,13 @@ fn map_small(
     other: &mut [u8],
 )
     requires { ⌜ WorkReady (now table) p k (now first) (now second) (now tape) (now mapped) (now one) (now other)
-        × (planBytes p ≤ 8192) ⌝ }
-    ensures { λ _. ⌜ WorkSays (now (table .entry)) (p .order) k
-        (now (first .entry))
-        (now (second .entry))
-        (now (tape .entry))
-        (now (mapped .entry))
-        (now (mapped .exit))
-        (now (one .entry))
-        (now (one .exit))
-        (now (other .entry))
-        (now (other .exit)) ⌝ }
+        × (p .inputs + p .gates ≤ 2048) ⌝ }
+    ensures { λ _. ⌜ WorkSays (now (table .entry)) (p .order) k (now (first .entry)) (now (second .entry)) (now (tape .entry))
+        (now (mapped .entry)) (now (mapped .exit)) (now (one .entry)) (now (one .exit)) (now (other .entry)) (now (other .exit)) ⌝ }
 {
-    let mut masked = [0u8; 8192];
+    let mut head = [0u16; 2048];
+    let mut base = [0u16; 2048];
+    let mut step = [0u16; 2048];
     map_with(
         table,
         p,
@@ -87,14 +113,16 @@ fn map_small(
         first,
         second,
         tape,
-        &mut masked,
+        &mut head,
+        &mut base,
+        &mut step,
         mapped,
         one,
         other,
     );
 }
 
-// Maps where the masked table has at most 65,536 bytes.
+// Maps with a table of at most 16,384 wires.
 fn map_middle(
     table: &[u8],
     p: sizing::Plan,
@@ -107,19 +135,13 @@ fn map_middle(
     other: &mut [u8],
 )
     requires { ⌜ WorkReady (now table) p k (now first) (now second) (now tape) (now mapped) (now one) (now other)
-        × (planBytes p ≤ 65536) ⌝ }
-    ensures { λ _. ⌜ WorkSays (now (table .entry)) (p .order) k
-        (now (first .entry))
-        (now (second .entry))
-        (now (tape .entry))
-        (now (mapped .entry))
-        (now (mapped .exit))
-        (now (one .entry))
-        (now (one .exit))
-        (now (other .entry))
-        (now (other .exit)) ⌝ }
+        × (p .inputs + p .gates ≤ 16384) ⌝ }
+    ensures { λ _. ⌜ WorkSays (now (table .entry)) (p .order) k (now (first .entry)) (now (second .entry)) (now (tape .entry))
+        (now (mapped .entry)) (now (mapped .exit)) (now (one .entry)) (now (one .exit)) (now (other .entry)) (now (other .exit)) ⌝ }
 {
-    let mut masked = [0u8; 65536];
+    let mut head = [0u16; 16384];
+    let mut base = [0u16; 16384];
+    let mut step = [0u16; 16384];
     map_with(
         table,
         p,
@@ -127,14 +149,16 @@ fn map_middle(
         first,
         second,
         tape,
-        &mut masked,
+        &mut head,
+        &mut base,
+        &mut step,
         mapped,
         one,
         other,
     );
 }
 
-// Maps where the masked table has any number of bytes.
+// Maps with a table of any number of wires.
 fn map_large(
     table: &[u8],
     p: sizing::Plan,
@@ -147,18 +171,12 @@ fn map_large(
     other: &mut [u8],
 )
     requires { ⌜ WorkReady (now table) p k (now first) (now second) (now tape) (now mapped) (now one) (now other) ⌝ }
-    ensures { λ _. ⌜ WorkSays (now (table .entry)) (p .order) k
-        (now (first .entry))
-        (now (second .entry))
-        (now (tape .entry))
-        (now (mapped .entry))
-        (now (mapped .exit))
-        (now (one .entry))
-        (now (one .exit))
-        (now (other .entry))
-        (now (other .exit)) ⌝ }
+    ensures { λ _. ⌜ WorkSays (now (table .entry)) (p .order) k (now (first .entry)) (now (second .entry)) (now (tape .entry))
+        (now (mapped .entry)) (now (mapped .exit)) (now (one .entry)) (now (one .exit)) (now (other .entry)) (now (other .exit)) ⌝ }
 {
-    let mut masked = [0u8; tables::LONGEST];
+    let mut head = [0u16; 65536];
+    let mut base = [0u16; 65536];
+    let mut step = [0u16; 65536];
     map_with(
         table,
         p,
@@ -166,14 +184,67 @@ fn map_large(
         first,
         second,
         tape,
-        &mut masked,
+        &mut head,
+        &mut base,
+        &mut step,
         mapped,
         one,
         other,
     );
 }
 
-// The mapped tape and both runs, where nothing is refused; k is the free share.
+// Maps with a table of any size.
+fn map_any(
+    table: &[u8],
+    p: sizing::Plan,
+    k: usize,
+    first: &[u8],
+    second: &[u8],
+    tape: &[u8],
+    mapped: &mut [u8],
+    one: &mut [u8],
+    other: &mut [u8],
+)
+    requires { ⌜ WorkReady (now table) p k (now first) (now second) (now tape) (now mapped) (now one) (now other) ⌝ }
+    ensures { λ _. ⌜ WorkSays (now (table .entry)) (p .order) k (now (first .entry)) (now (second .entry)) (now (tape .entry))
+        (now (mapped .entry)) (now (mapped .exit)) (now (one .entry)) (now (one .exit)) (now (other .entry)) (now (other .exit)) ⌝ }
+{
+    if p.inputs + p.gates <= 2048 {
+        map_small(table, p, k, first, second, tape, mapped, one, other);
+        return;
+    }
+    if p.inputs + p.gates <= 16384 {
+        map_middle(table, p, k, first, second, tape, mapped, one, other);
+        return;
+    }
+    map_large(table, p, k, first, second, tape, mapped, one, other);
+}
+
+// Maps with little stack where the table is tiny: to reserve that of a large one takes time even where it is not used.
+fn map_lean(
+    table: &[u8],
+    p: sizing::Plan,
+    k: usize,
+    first: &[u8],
+    second: &[u8],
+    tape: &[u8],
+    mapped: &mut [u8],
+    one: &mut [u8],
+    other: &mut [u8],
+)
+    requires { ⌜ WorkReady (now table) p k (now first) (now second) (now tape) (now mapped) (now one) (now other) ⌝ }
+    ensures { λ _. ⌜ WorkSays (now (table .entry)) (p .order) k (now (first .entry)) (now (second .entry)) (now (tape .entry))
+        (now (mapped .entry)) (now (mapped .exit)) (now (one .entry)) (now (one .exit)) (now (other .entry)) (now (other .exit)) ⌝ }
+{
+    if p.inputs + p.gates <= 256 {
+        map_tiny(table, p, k, first, second, tape, mapped, one, other);
+        return;
+    }
+    map_any(table, p, k, first, second, tape, mapped, one, other);
+}
+
+// The mapped tape and both runs, where nothing is refused; k is the free share. As in masking, `map_any` is called in two places, so
+// that its stack is reserved only where it is called.
 pub fn map_work(
     table: &[u8],
     p: sizing::Plan,
@@ -186,25 +257,12 @@ pub fn map_work(
     other: &mut [u8],
 )
     requires { ⌜ WorkReady (now table) p k (now first) (now second) (now tape) (now mapped) (now one) (now other) ⌝ }
-    ensures { λ _. ⌜ WorkSays (now (table .entry)) (p .order) k
-        (now (first .entry))
-        (now (second .entry))
-        (now (tape .entry))
-        (now (mapped .entry))
-        (now (mapped .exit))
-        (now (one .entry))
-        (now (one .exit))
-        (now (other .entry))
-        (now (other .exit)) ⌝ }
+    ensures { λ _. ⌜ WorkSays (now (table .entry)) (p .order) k (now (first .entry)) (now (second .entry)) (now (tape .entry))
+        (now (mapped .entry)) (now (mapped .exit)) (now (one .entry)) (now (one .exit)) (now (other .entry)) (now (other .exit)) ⌝ }
 {
-    let bytes = sizing::plan_bytes(p);
-    if bytes <= 8192 {
-        map_small(table, p, k, first, second, tape, mapped, one, other);
+    if p.inputs + p.gates <= 2048 {
+        map_lean(table, p, k, first, second, tape, mapped, one, other);
         return;
     }
-    if bytes <= 65536 {
-        map_middle(table, p, k, first, second, tape, mapped, one, other);
-        return;
-    }
-    map_large(table, p, k, first, second, tape, mapped, one, other);
+    map_any(table, p, k, first, second, tape, mapped, one, other);
 }

@@ -9,16 +9,16 @@ ghost use Rattle.tables.specs.Says.{Refused, over, suppliedFault, lentFault, ru
 ghost use Rattle.running.specs.Running.{GateReady, GateSays, RunReady, OutputsReady};
 
 // A gate's value and the number of the next random bit.
-pub struct Drawn {
-    pub value: u8,
-    pub next: usize,
+struct Drawn {
+    value: u8,
+    next: usize,
 }
 
 // The truth tables of NOT, XOR and AND: bit 4·kind + 2·a + b is what a gate of this kind makes of a and b.
 const TRUTH: u32 = 0x863;
 
 // What a gate drives, from its operands' values.
-pub fn gate_value(kind: u8, a: u8, b: u8, random: &[u8], at: usize) -> Drawn
+fn gate_value(kind: u8, a: u8, b: u8, random: &[u8], at: usize) -> Drawn
     requires { ⌜ GateReady kind a b (now random) at ⌝ }
     ensures { λ r. ⌜ GateSays kind a b (now (random .entry)) at r ⌝ }
 {
@@ -36,7 +36,7 @@ pub fn gate_value(kind: u8, a: u8, b: u8, random: &[u8], at: usize) -> Drawn
 }
 
 // Runs the gates over values that begin with the inputs.
-pub fn run_gates(table: &[u8], inputs: usize, gates: usize, random: &[u8], values: &mut [u8])
+fn run_gates(table: &[u8], inputs: usize, gates: usize, random: &[u8], values: &mut [u8])
     requires { ⌜ RunReady (now table) (now random) (now values) inputs gates ⌝ }
     ensures { λ _.
         ⌜

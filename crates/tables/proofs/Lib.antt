@@ -5,6 +5,7 @@ pub mod Run
 pub mod Accept
 pub mod Format
 pub mod Put
+pub mod Ran
 pub mod Bad
 pub mod Loops
 pub mod Counts

@@ -6,6 +6,8 @@ use Prim.Native.Nat.{ℕ, _+_, _*_, _≤_, _<_}
 use lib.ListN.{length, take, drop}
 use Rattle.tables.specs.declared.GateFields as DG
 use Rattle.tables.specs.Tables.{kindOf, Gate, word}
+use Rattle.tables.specs.Runs.{Bits, runFrom}
+use Rattle.tables.specs.Says.{over}
 
 -- xs at a place of ys
 unfoldable pub putAt : ℕ → List ℕ → List ℕ → List ℕ
@@ -30,3 +32,12 @@ pub record GateIs (g : Gate) (r : DG.GateFields) : Type 0 where
   pub right : r .right ≡ g .right
   pub left-small : r .left < 65536
   pub right-small : r .right < 65536
+
+-- a buffer whose first w bytes are the values of a run so far, once gates have run on with the random bits rs
+unfoldable pub ranOn : List Gate → List ℕ → ℕ → List ℕ → List ℕ
+ranOn gs rs w b = over (runFrom gs rs (take w b)) b
+
+-- the first w bytes of b are the values of a run so far, and there is room for c more
+pub record RunsTo (w c : ℕ) (b : List ℕ) : Type 0 where
+  pub room : w + c ≤ length b
+  pub bits : Bits (take w b)

@@ -1,7 +1,7 @@
 -- Pieces one after another, the operands of gates in pieces, and pieces of one size that a loop writes.
 -- Assumes nothing.
-use mathlib.Core.Path.{_≡_, refl, ap, ap₂, _∙_}
-use mathlib.Core.List.{List, [], _∷_, _++_, map, map-append}
+use mathlib.Core.Path.{_≡_, refl, sym, ap, ap₂, _∙_}
+use mathlib.Core.List.{List, [], _∷_, _++_, map, map-append, append-assoc, append-nil}
 use Prim.Native.Nat.{ℕ, zero, suc, _+_, _-_, _*_, _≤_, _<_}
 use native.Mathlib.Numerals.{add-one}
 use native.Mathlib.Omega.{arith}
@@ -32,6 +32,16 @@ pub joined-some :
     {A : Type 0} (m c : ℕ) (f : ℕ → List A) → c < m → joined (m - c) c f ≡ f c ++ joined (m - suc c) (suc c) f
 unfolding joined
 joined-some m c f h = let e : m - c ≡ suc (m - suc c) = omega arith in rw e refl
+
+-- one piece more, at the end
+pub joined-snoc : {A : Type 0} (c s : ℕ) (f : ℕ → List A) → joined (suc c) s f ≡ joined c s f ++ f (s + c)
+unfolding joined
+joined-snoc {A} zero s f = append-nil (f s) ∙ ap {A = ℕ} {B = List A} f {x = s} {y = s + 0} (omega arith)
+joined-snoc {A} (suc c) s f =
+    ap {A = List A} {B = List A} (λ y. f s ++ y)
+    (joined-snoc c (suc s) f
+    ∙ ap {A = ℕ} {B = List A} (λ i. joined c (suc s) f ++ f i) {x = suc s + c} {y = s + suc c} (omega arith))
+    ∙ sym (append-assoc (f s) (joined c (suc s) f) (f (s + suc c)))
 
 pub joined-long :
     {A : Type 0} (size c s : ℕ) (f : ℕ → List A) → ((i : ℕ) → i < s + c → length (f i) ≡ size)

@@ -12,9 +12,9 @@ ghost use Rattle.writing.specs.Layout.{shareWires, ReadsShares, OperandR
 ghost use Rattle.writing.specs.Layout.{pairGates, highGates, lowGates, rowGates, rowsGates, xorGates};
 
 // Which of the five wires of a pair (i, j) the rows add: row i the first, row j the fifth.
-const LOW: usize = 0;
+pub const LOW: usize = 0;
 
-const HIGH: usize = 4;
+pub const HIGH: usize = 4;
 
 // Where the shares of a plain wire are: share 1 on wire head, share s on wire base + (s − 2)·step.
 pub struct Places {
@@ -24,7 +24,7 @@ pub struct Places {
 }
 
 // The wire of share i, counted from 0, for a share that is not the first.
-fn later_wire(a: Places, i: usize) -> usize
+pub fn later_wire(a: Places, i: usize) -> usize
     requires { ⌜ (1 ≤ i) × (share (shareWires (suc i) a) i < 65536) ⌝ }
     ensures { λ r. ⌜ (r < 65536) × ((n : ℕ) → i < n → r ≡ share (shareWires n a) i) ⌝ }
 {

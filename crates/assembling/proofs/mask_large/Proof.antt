@@ -6,7 +6,7 @@ use native.Mathlib.Omega.{arith}
 use lib.ListN.{length-replicate}
 use borrow.Author.Needs.{needs}
 use Rattle.placing.proofs.Turns.{plan-sized}
-use Rattle.assembling.proofs.Assembled.{room-of}
+use Rattle.placing.proofs.Placing.{room-of}
 use Rattle.assembling.proofs.mask_large.Statement.{statement}
 use Rattle.assembling.proofs.mask_large.Tie as tie
 

@@ -18,14 +18,14 @@ same-length c = search needs
 returns : tie.Need-returns
 returns c = c .before .before .mask-tiny .ensures
 
-mask-into-requires : tie.Need-mask-into-requires
-mask-into-requires c κs = let pre = c .before .before .before .before .before .pre in (pre .0, pre .1)
+mask-any-requires : tie.Need-mask-any-requires
+mask-any-requires c κs = let pre = c .before .before .before .before .before .pre in (pre .0, pre .1)
 
 same-length-2 : tie.Need-same-length-2
 same-length-2 c = search needs
 
 returns-2 : tie.Need-returns-2
-returns-2 c = c .before .before .mask-into .ensures
+returns-2 c = c .before .before .mask-any .ensures
 
 pub mask-lean-spec : {M : Type 1} → statement M
 mask-lean-spec =
@@ -35,6 +35,6 @@ mask-lean-spec =
     mask-tiny-requires
     same-length
     returns
-    mask-into-requires
+    mask-any-requires
     same-length-2
     returns-2)

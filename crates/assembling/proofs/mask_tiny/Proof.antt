@@ -4,7 +4,7 @@ use mathlib.Core.Path.{sym}
 use Prim.Native.Nat.{ℕ}
 use lib.ListN.{length-replicate}
 use borrow.Author.Needs.{needs}
-use Rattle.assembling.proofs.Assembled.{room-of}
+use Rattle.placing.proofs.Placing.{room-of}
 use Rattle.assembling.proofs.mask_tiny.Statement.{statement}
 use Rattle.assembling.proofs.mask_tiny.Tie as tie
 

@@ -3,7 +3,8 @@
 use native.Mathlib.Omega.{arith}
 use borrow.Author.Needs.{needs}
 use Rattle.sizing.proofs.Planning.{plan-fits}
-use Rattle.assembling.proofs.Assembled.{plan-located, whole-back}
+use Rattle.placing.proofs.Placing.{plan-located}
+use Rattle.assembling.proofs.Assembled.{whole-back}
 use Rattle.assembling.proofs.mask_with.Statement.{statement}
 use Rattle.assembling.proofs.mask_with.Tie as tie
 

@@ -42,8 +42,8 @@ returns-2 c =
     (omega (arith, c .before .before .if1 .taken, c .before .before .before .plan-bytes .ensures))
     (c .before .refuse .ensures))
 
-mask-lean-requires : tie.Need-mask-lean-requires
-mask-lean-requires c κs = (
+mask-into-requires : tie.Need-mask-into-requires
+mask-into-requires c κs = (
   planned-ready (planned-as (c .before .before .before .before .before .before .plan-table .ensures)
       (c .before .before .before .before .planned2 .given .1)) .ready,
   omega (arith, c .before .if1 .left, c .before .before .plan-bytes .ensures),
@@ -79,7 +79,7 @@ returns-3 c =
     ))
     (c .before .refuse2 .ensures)
     (c .before .before .before .before .before .before .before .plan-bytes .ensures)
-    (c .before .before .before .before .mask-lean .ensures))
+    (c .before .before .before .before .mask-into .ensures))
 
 pub mask-table-spec : {M : Type 1} → statement M
 mask-table-spec =
@@ -94,7 +94,7 @@ mask-table-spec =
     refuse-requires
     refused-requires-2
     returns-2
-    mask-lean-requires
+    mask-into-requires
     refuse-requires-2
     cast-done
     done-requires

@@ -5,7 +5,7 @@ use native.Mathlib.Omega.{arith}
 use lib.ListN.{length}
 use Rattle.tables.specs.Tables.{kindOf, tableOf}
 use Rattle.masks.specs.Wires.{cost}
-use Rattle.placing.proofs.Turns.{Turn, plan-sized}
+use Rattle.placing.proofs.Turns.{Turn, plan-sized, located-room}
 use Rattle.parts.proofs.Stretches.{
   Operands,
   operandsWhole,
@@ -14,7 +14,6 @@ use Rattle.parts.proofs.Stretches.{
   operands-room,
   operands-turn,
   operands-end,
-  located-room,
   read-low,
 }
 use Rattle.parts.proofs.write_operands.Statement.{statement}

@@ -9,8 +9,8 @@ use lib.ListN.{length}
 use Rattle.tables.specs.Tables.{tableOf}
 use Rattle.tables.proofs.Put.{put-zero}
 use Rattle.writing.proofs.Bytes.{Joining, joining-start, joining-turn, joining-end}
-use Rattle.placing.proofs.Turns.{plan-sized}
-use Rattle.parts.proofs.Stretches.{outputPiece, outputs-joined, located-room, output-below, output-long, output-piece, read-low}
+use Rattle.placing.proofs.Turns.{plan-sized, located-room}
+use Rattle.parts.proofs.Stretches.{outputPiece, outputs-joined, output-below, output-long, output-piece, read-low}
 use Rattle.parts.proofs.write_outputs.Statement.{statement}
 use Rattle.parts.proofs.write_outputs.Tie as tie
 

@@ -1,20 +1,28 @@
--- `rerunning::map_large` meets its contract: its buffer has room for every masked table.
+-- `rerunning::map_large` meets its contract: its arrays have room for every table.
 -- Assumes nothing.
 use mathlib.Core.Path.{sym}
 use Prim.Native.Nat.{ℕ}
+use native.Mathlib.Omega.{arith}
 use lib.ListN.{length-replicate}
+use Rattle.placing.proofs.Placing.{room-of}
+use Rattle.placing.proofs.Turns.{plan-sized}
 use borrow.Author.Needs.{needs}
-use Rattle.rerunning.proofs.Room.{room-at, bytes-few}
 use Rattle.rerunning.proofs.map_large.Statement.{statement}
 use Rattle.rerunning.proofs.map_large.Tie as tie
 
 slice-aggregate-map-with : tie.Need-slice-aggregate-map-with
-slice-aggregate-map-with c = sym (length-replicate {A = ℕ} 458746 0)
+slice-aggregate-map-with c = sym (length-replicate {A = ℕ} 65536 0)
+
+slice-aggregate-map-with-2 : tie.Need-slice-aggregate-map-with-2
+slice-aggregate-map-with-2 c = sym (length-replicate {A = ℕ} 65536 0)
+
+slice-aggregate-map-with-3 : tie.Need-slice-aggregate-map-with-3
+slice-aggregate-map-with-3 c = sym (length-replicate {A = ℕ} 65536 0)
 
 map-with-requires : tie.Need-map-with-requires
 map-with-requires c κs =
-    let W = c .before .before .before .before .before .before .before .before .before .before .before .pre in
-    (W, room-at _ 458746 (bytes-few (W .plan)))
+    let W = c .before .before .before .before .before .before .before .before .before .before .before .before .before .pre in
+    (W, room-of _ 65536 (omega (arith, plan-sized (W .plan) .plain)))
 
 same-length : tie.Need-same-length
 same-length c = search needs
@@ -26,13 +34,15 @@ same-length-3 : tie.Need-same-length-3
 same-length-3 c = search needs
 
 returns : tie.Need-returns
-returns c = c .before .before .before .before .before .before .before .map-with .ensures
+returns c = c .before .before .before .before .before .before .before .before .before .map-with .ensures
 
 pub map-large-spec : {M : Type 1} → statement M
 map-large-spec =
     tie.close
     (tie.spec
     slice-aggregate-map-with
+    slice-aggregate-map-with-2
+    slice-aggregate-map-with-3
     map-with-requires
     same-length
     same-length-2

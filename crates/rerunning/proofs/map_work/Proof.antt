@@ -1,19 +1,16 @@
--- `rerunning::map_work` meets its contract, for a table of each size.
+-- `rerunning::map_work` meets its contract: with little stack where it can be, and else with more.
 -- Assumes nothing.
 use native.Mathlib.Omega.{arith}
+use Rattle.placing.proofs.Turns.{plan-sized}
 use borrow.Author.Needs.{needs}
-use Rattle.sizing.proofs.Planning.{plan-fits}
 use Rattle.rerunning.proofs.map_work.Statement.{statement}
 use Rattle.rerunning.proofs.map_work.Tie as tie
 
-plan-bytes-requires : tie.Need-plan-bytes-requires
-plan-bytes-requires c κs = plan-fits (c .before .before .before .before .before .before .before .pre .plan)
+add-if1 : tie.Need-add-if1
+add-if1 c = omega (arith, plan-sized (c .before .before .before .before .before .before .before .before .pre .plan) .plain)
 
-map-small-requires : tie.Need-map-small-requires
-map-small-requires c κs = (
-  c .before .before .before .before .before .before .before .before .before .before .before .before .pre,
-  omega (arith, c .before .before .before .before .plan-bytes .ensures, c .before .before .before .if1 .taken),
-)
+map-lean-requires : tie.Need-map-lean-requires
+map-lean-requires c κs = search needs
 
 same-length : tie.Need-same-length
 same-length c = search needs
@@ -25,13 +22,10 @@ same-length-3 : tie.Need-same-length-3
 same-length-3 c = search needs
 
 returns : tie.Need-returns
-returns c = c .before .before .before .before .before .before .map-small .ensures
+returns c = search needs
 
-map-middle-requires : tie.Need-map-middle-requires
-map-middle-requires c κs = (
-  c .before .before .before .before .before .before .before .before .before .before .before .before .before .pre,
-  omega (arith, c .before .before .before .before .before .plan-bytes .ensures, c .before .before .before .if2 .taken),
-)
+map-any-requires : tie.Need-map-any-requires
+map-any-requires c κs = search needs
 
 same-length-4 : tie.Need-same-length-4
 same-length-4 c = search needs
@@ -43,40 +37,20 @@ same-length-6 : tie.Need-same-length-6
 same-length-6 c = search needs
 
 returns-2 : tie.Need-returns-2
-returns-2 c = c .before .before .before .before .before .before .map-middle .ensures
-
-map-large-requires : tie.Need-map-large-requires
-map-large-requires c κs = c .before .before .before .before .before .before .before .before .before .before .before .before .before .pre
-
-same-length-7 : tie.Need-same-length-7
-same-length-7 c = search needs
-
-same-length-8 : tie.Need-same-length-8
-same-length-8 c = search needs
-
-same-length-9 : tie.Need-same-length-9
-same-length-9 c = search needs
-
-returns-3 : tie.Need-returns-3
-returns-3 c = c .before .before .before .before .before .before .map-large .ensures
+returns-2 c = search needs
 
 pub map-work-spec : {M : Type 1} → statement M
 map-work-spec =
     tie.close
     (tie.spec
-    plan-bytes-requires
-    map-small-requires
+    add-if1
+    map-lean-requires
     same-length
     same-length-2
     same-length-3
     returns
-    map-middle-requires
+    map-any-requires
     same-length-4
     same-length-5
     same-length-6
-    returns-2
-    map-large-requires
-    same-length-7
-    same-length-8
-    same-length-9
-    returns-3)
+    returns-2)

@@ -1,0 +1,2 @@
+-- What running one masked gate on takes.
+pub mod Driving

@@ -1,0 +1,127 @@
+// What the gates of a masked table drive in one run, each value after those so far.
+ghost use mathlib.Core.Path.{_≡_};
+ghost use mathlib.Core.List.{[], _∷_};
+ghost use Prim.Native.Nat.{_+_, _*_, _≤_, _<_, ℕ, suc};
+ghost use Rattle.tables.specs.Tables.{NOT, XOR, AND, RANDOM, gate};
+ghost use Rattle.tables.specs.Inside.{ranOn, RunsTo};
+ghost use Rattle.masks.specs.Shares.{tri, pairAt};
+ghost use Rattle.masks.specs.Gadgets.{first, isw};
+ghost use Rattle.masks.specs.Wires.{pairWire};
+ghost use Rattle.writing.specs.Layout.{shareWires, joined, highGates, lowGates, rowGates, rowsGates, xorGates};
+ghost use Rattle.driving.specs.Driving.{SharesBefore};
+
+// A random gate on wire w, with its bit.
+pub fn run_random(run: &mut [u8], w: usize, bit: u8)
+    requires { ⌜ RunsTo w 1 (now run) ⌝ }
+    ensures { λ _. ⌜ now (run .exit) ≡ ranOn (gate RANDOM 0 0 ∷ []) (bit ∷ []) w (now (run .entry)) ⌝ }
+{
+    run[w] = bit;
+}
+
+// A NOT on wire w.
+pub fn run_not(run: &mut [u8], w: usize, left: usize)
+    requires { ⌜ RunsTo w 1 (now run) × (left < w) ⌝ }
+    ensures { λ _. ⌜ now (run .exit) ≡ ranOn (gate NOT left 0 ∷ []) [] w (now (run .entry)) ⌝ }
+{
+    run[w] = 1 - run[left];
+}
+
+// An XOR on wire w.
+pub fn run_xor(run: &mut [u8], w: usize, left: usize, right: usize)
+    requires { ⌜ RunsTo w 1 (now run) × (left < w) × (right < w) ⌝ }
+    ensures { λ _. ⌜ now (run .exit) ≡ ranOn (gate XOR left right ∷ []) [] w (now (run .entry)) ⌝ }
+{
+    run[w] = (run[left] + run[right]) % 2;
+}
+
+// An AND on wire w.
+pub fn run_and(run: &mut [u8], w: usize, left: usize, right: usize)
+    requires { ⌜ RunsTo w 1 (now run) × (left < w) × (right < w) ⌝ }
+    ensures { λ _. ⌜ now (run .exit) ≡ ranOn (gate AND left right ∷ []) [] w (now (run .entry)) ⌝ }
+{
+    run[w] = run[left] * run[right];
+}
+
+// An XOR share by share, from wire w on.
+pub fn run_xors(run: &mut [u8], w: usize, n: usize, a: writing::Places, b: writing::Places)
+    requires { ⌜ SharesBefore n w a b × RunsTo w n (now run) ⌝ }
+    ensures { λ _. ⌜ now (run .exit) ≡ ranOn (joined n 0 (xorGates (shareWires n a) (shareWires n b))) [] w (now (run .entry)) ⌝ }
+{
+    let mut s = 0;
+    while s < n {
+        let left = writing::share_wire(a, s);
+        let right = writing::share_wire(b, s);
+        run_xor(run, w + s, left, right);
+        s += 1;
+    }
+}
+
+// A row's last m sums, the first of which reads wire last: they add one wire each of m pairs, from wire z on.
+fn run_low_sums(run: &mut [u8], last: usize, z: usize, m: usize)
+    requires { ⌜ RunsTo (last + 1) m (now run) × ((c : ℕ) → c < m → pairWire z (isw .low) c ≤ last) ⌝ }
+    ensures { λ _. ⌜ now (run .exit) ≡ ranOn (lowGates isw z last m) [] (last + 1) (now (run .entry)) ⌝ }
+{
+    let mut c = 0;
+    while c < m {
+        run_xor(run, last + 1 + c, last + c, z + 5 * c + writing::LOW);
+        c += 1;
+    }
+}
+
+// Row i's first i sums, the first of which reads wire last: they add one wire each of the pairs (j, i), j rising, where the
+// AND's first wire is w. Returns the first wire of the pair (i, i + 1), if there is one.
+fn run_high_sums(run: &mut [u8], last: usize, w: usize, n: usize, i: usize) -> usize
+    requires { ⌜ RunsTo (last + 1) i (now run) × (i < n) × (n ≤ 31) × (w + 5 * tri n ≤ last) × (last ≤ 65536) ⌝ }
+    ensures { λ r. ⌜ (suc i < n → r ≡ pairWire w first (pairAt n i (suc i)))
+        × (now (run .exit) ≡ ranOn (highGates isw n w last i) [] (last + 1) (now (run .entry))) ⌝ }
+{
+    let mut z = w + 5 * i;
+    let mut j = 0;
+    while j < i {
+        run_xor(run, last + 1 + j, last + j, z - 5 + writing::HIGH);
+        z += 5 * (n - 2 - j);
+        j += 1;
+    }
+    z
+}
+
+// Row i from wire v on, where the AND's first wire is w: its own product, then the sums.
+fn run_row(
+    run: &mut [u8],
+    v: usize,
+    w: usize,
+    n: usize,
+    i: usize,
+    a: writing::Places,
+    b: writing::Places,
+)
+    requires { ⌜ RunsTo v n (now run) × SharesBefore n w a b × (i < n) × (w + 5 * tri n ≤ v) × (v + n ≤ 65536) ⌝ }
+    ensures { λ _. ⌜ now (run .exit) ≡ ranOn (rowGates isw n w v (shareWires n a) (shareWires n b) i) [] v (now (run .entry)) ⌝ }
+{
+    let ai = writing::share_wire(a, i);
+    let bi = writing::share_wire(b, i);
+    run_and(run, v, ai, bi);
+    let z = run_high_sums(run, v, w, n, i);
+    run_low_sums(run, v + i, z, n - 1 - i);
+}
+
+// All rows from wire v on, where the AND's first wire is w.
+pub fn run_rows(
+    run: &mut [u8],
+    v: usize,
+    w: usize,
+    n: usize,
+    a: writing::Places,
+    b: writing::Places,
+)
+    requires { ⌜ RunsTo v (n * n) (now run) × SharesBefore n w a b × (w + 5 * tri n ≤ v) × (v + n * n ≤ 65536) ⌝ }
+    ensures { λ _. ⌜ now (run .exit) ≡ ranOn (rowsGates isw n w v (shareWires n a) (shareWires n b)) [] v (now (run .entry)) ⌝ }
+{
+    let mut from = v;
+    let mut i = 0;
+    while i < n {
+        run_row(run, from, w, n, i, a, b);
+        from += n;
+        i += 1;
+    }
+}

@@ -1,0 +1,3 @@
+-- Laws of pairs in both runs.
+mod Five
+pub mod Pairs

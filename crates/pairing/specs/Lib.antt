@@ -1,0 +1,2 @@
+-- What running pairs of shares on takes and leaves.
+pub mod Pairing

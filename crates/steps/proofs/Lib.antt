@@ -1,0 +1,4 @@
+-- Laws of a gate in both runs, and of all gates.
+mod And
+mod ByKind
+mod AllGates

@@ -1,0 +1,2 @@
+-- What the gates of the map take and leave.
+pub mod Steps

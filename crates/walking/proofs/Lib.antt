@@ -1,3 +1,0 @@
--- Laws of the walk.
-pub mod Driving
-pub mod Walking

@@ -1,2 +1,0 @@
--- What the walk's parts take and give.
-pub mod Walking
