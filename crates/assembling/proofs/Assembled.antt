@@ -18,7 +18,7 @@ use Rattle.masks.proofs.Placed.{masked-outputs}
 use Rattle.sizing.specs.declared.Plan as DP
 use Rattle.sizing.specs.Plans.{PlanReady, planBytes}
 use Rattle.sizing.proofs.Planning.{plan-passed, plan-inputs, plan-bytes}
-use Rattle.writing.specs.Layout.{operandBytes}
+use Rattle.pieces.specs.Layout.{operandBytes}
 use Rattle.kinds.specs.Kinds.{gateKinds}
 use Rattle.kinds.proofs.GateKinds.{masked-kinds}
 use Rattle.placing.specs.Located.{sharesTo, allShares, gateWire}

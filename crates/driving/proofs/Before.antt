@@ -3,10 +3,10 @@
 use mathlib.Core.Path.{_≡_}
 use Prim.Native.Nat.{ℕ, suc, _≤_, _<_}
 use native.Mathlib.Omega.{arith}
-use Rattle.writing.specs.declared.Places as DP
+use Rattle.pieces.specs.declared.Places as DP
 use Rattle.masks.specs.Wires.{share}
-use Rattle.writing.specs.Layout.{shareWires}
-use Rattle.writing.proofs.ShareWires.{share-low}
+use Rattle.pieces.specs.Layout.{shareWires}
+use Rattle.pieces.proofs.ShareWires.{share-low}
 use Rattle.driving.specs.Driving.{SharesBefore}
 
 module _ {n w : ℕ} {a b : DP.Places} (B : SharesBefore n w a b) {i : ℕ} (h : i < n) where

@@ -13,8 +13,8 @@ use Rattle.tables.specs.Inside.{ranOn, RunsTo}
 use Rattle.tables.proofs.Lists.{bits-nil}
 use Rattle.tables.proofs.Run.{total-append}
 use Rattle.tables.proofs.Ran.{Ran, ran-start, ran-more, runs-less}
-use Rattle.writing.specs.Layout.{joined}
-use Rattle.writing.proofs.Bytes.{joined-snoc}
+use Rattle.pieces.specs.Layout.{joined}
+use Rattle.pieces.proofs.Bytes.{joined-snoc}
 
 -- of m pieces c have run on, and the next one begins at wire v
 pub record InPieces (size w m : ℕ) (f : ℕ → List Gate) (b₀ : List ℕ) (v c : ℕ) (b : List ℕ) : Type 0 where

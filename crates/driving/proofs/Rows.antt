@@ -14,9 +14,9 @@ use Rattle.tables.proofs.Ran.{Ran, ran-start, ran-more, runs-less}
 use Rattle.masks.specs.Shares.{pairAt}
 use Rattle.masks.specs.Gadgets.{isw, Gadget}
 use Rattle.masks.specs.Wires.{share, pairWire}
-use Rattle.writing.specs.Layout.{joined, sumGates, highGates, lowGates, rowGates}
-use Rattle.writing.proofs.Bytes.{joined-long}
-use Rattle.writing.proofs.Pieces.{high-long, low-same}
+use Rattle.pieces.specs.Layout.{joined, sumGates, highGates, lowGates, rowGates}
+use Rattle.pieces.proofs.Bytes.{joined-long}
+use Rattle.pieces.proofs.Pieces.{high-long, low-same}
 use Rattle.driving.proofs.InPieces.{xor-none, joined-none-drawn}
 
 sums-none : (last c s : ℕ) (z : ℕ → ℕ) → randoms (joined c s (sumGates last z)) ≡ 0

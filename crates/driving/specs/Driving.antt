@@ -1,9 +1,9 @@
 -- For contracts inside the library only: no promise of a call cites this. What it takes to run the new wires of a plain gate on.
 -- Assumes nothing.
 use Prim.Native.Nat.{ℕ, _≤_, _<_}
-use Rattle.writing.specs.declared.Places as DP
+use Rattle.pieces.specs.declared.Places as DP
 use Rattle.masks.specs.Wires.{share}
-use Rattle.writing.specs.Layout.{shareWires}
+use Rattle.pieces.specs.Layout.{shareWires}
 
 -- the wires of both operands' n shares come before wire w
 pub record SharesBefore (n w : ℕ) (a b : DP.Places) : Type 0 where

@@ -7,7 +7,7 @@ ghost use Rattle.tables.specs.Inside.{ranOn, RunsTo};
 ghost use Rattle.masks.specs.Shares.{tri, pairAt};
 ghost use Rattle.masks.specs.Gadgets.{first, isw};
 ghost use Rattle.masks.specs.Wires.{pairWire};
-ghost use Rattle.writing.specs.Layout.{shareWires, joined, highGates, lowGates, rowGates, rowsGates, xorGates};
+ghost use Rattle.pieces.specs.Layout.{shareWires, joined, highGates, lowGates, rowGates, rowsGates, xorGates};
 ghost use Rattle.driving.specs.Driving.{SharesBefore};
 
 // A random gate on wire w, with its bit.
@@ -43,14 +43,14 @@ pub fn run_and(run: &mut [u8], w: usize, left: usize, right: usize)
 }
 
 // An XOR share by share, from wire w on.
-pub fn run_xors(run: &mut [u8], w: usize, n: usize, a: writing::Places, b: writing::Places)
+pub fn run_xors(run: &mut [u8], w: usize, n: usize, a: pieces::Places, b: pieces::Places)
     requires { ⌜ SharesBefore n w a b × RunsTo w n (now run) ⌝ }
     ensures { λ _. ⌜ now (run .exit) ≡ ranOn (joined n 0 (xorGates (shareWires n a) (shareWires n b))) [] w (now (run .entry)) ⌝ }
 {
     let mut s = 0;
     while s < n {
-        let left = writing::share_wire(a, s);
-        let right = writing::share_wire(b, s);
+        let left = pieces::share_wire(a, s);
+        let right = pieces::share_wire(b, s);
         run_xor(run, w + s, left, right);
         s += 1;
     }
@@ -63,7 +63,7 @@ fn run_low_sums(run: &mut [u8], last: usize, z: usize, m: usize)
 {
     let mut c = 0;
     while c < m {
-        run_xor(run, last + 1 + c, last + c, z + 5 * c + writing::LOW);
+        run_xor(run, last + 1 + c, last + c, z + 5 * c + pieces::LOW);
         c += 1;
     }
 }
@@ -78,7 +78,7 @@ fn run_high_sums(run: &mut [u8], last: usize, w: usize, n: usize, i: usize) -> u
     let mut z = w + 5 * i;
     let mut j = 0;
     while j < i {
-        run_xor(run, last + 1 + j, last + j, z - 5 + writing::HIGH);
+        run_xor(run, last + 1 + j, last + j, z - 5 + pieces::HIGH);
         z += 5 * (n - 2 - j);
         j += 1;
     }
@@ -92,28 +92,21 @@ fn run_row(
     w: usize,
     n: usize,
     i: usize,
-    a: writing::Places,
-    b: writing::Places,
+    a: pieces::Places,
+    b: pieces::Places,
 )
     requires { ⌜ RunsTo v n (now run) × SharesBefore n w a b × (i < n) × (w + 5 * tri n ≤ v) × (v + n ≤ 65536) ⌝ }
     ensures { λ _. ⌜ now (run .exit) ≡ ranOn (rowGates isw n w v (shareWires n a) (shareWires n b) i) [] v (now (run .entry)) ⌝ }
 {
-    let ai = writing::share_wire(a, i);
-    let bi = writing::share_wire(b, i);
+    let ai = pieces::share_wire(a, i);
+    let bi = pieces::share_wire(b, i);
     run_and(run, v, ai, bi);
     let z = run_high_sums(run, v, w, n, i);
     run_low_sums(run, v + i, z, n - 1 - i);
 }
 
 // All rows from wire v on, where the AND's first wire is w.
-pub fn run_rows(
-    run: &mut [u8],
-    v: usize,
-    w: usize,
-    n: usize,
-    a: writing::Places,
-    b: writing::Places,
-)
+pub fn run_rows(run: &mut [u8], v: usize, w: usize, n: usize, a: pieces::Places, b: pieces::Places)
     requires { ⌜ RunsTo v (n * n) (now run) × SharesBefore n w a b × (w + 5 * tri n ≤ v) × (v + n * n ≤ 65536) ⌝ }
     ensures { λ _. ⌜ now (run .exit) ≡ ranOn (rowsGates isw n w v (shareWires n a) (shareWires n b)) [] v (now (run .entry)) ⌝ }
 {

@@ -13,9 +13,9 @@ use Rattle.tables.proofs.Put.{put-length, put-set, put-past}
 use Rattle.masks.specs.Shares.{inTurn, pairs, tri, pairAt}
 use Rattle.masks.specs.Gadgets.{isw}
 use Rattle.masks.specs.Wires.{Wire, driverOf, share, pairWire, newWires, newShares, cost, masked}
-use Rattle.writing.specs.Layout.{joined, pairGates, sumGates, highGates, rowGates, rowsGates}
-use Rattle.writing.proofs.Bytes.{joined-same, joined-through}
-use Rattle.writing.proofs.Pieces.{pairs-in-turn, xor-gates, and-gates}
+use Rattle.pieces.specs.Layout.{joined, pairGates, sumGates, highGates, rowGates, rowsGates}
+use Rattle.pieces.proofs.Bytes.{joined-same, joined-through}
+use Rattle.pieces.proofs.Pieces.{pairs-in-turn, xor-gates, and-gates}
 use Rattle.kinds.specs.Kinds.{wireKinds, rowKinds, newKinds, gateKinds, XorsFrom}
 
 kinds-append : (gs hs : List Gate) → kindBytes (gs ++ hs) ≡ kindBytes gs ++ kindBytes hs

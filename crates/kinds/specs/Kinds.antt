@@ -7,7 +7,7 @@ use lib.ListN.{length, drop, replicate}
 use Rattle.tables.specs.Tables.{Kind, NOT, XOR, AND, RANDOM, UNKNOWN, Gate, kindBytes}
 use Rattle.masks.specs.Shares.{tri}
 use Rattle.masks.specs.Wires.{Wire, driverOf}
-use Rattle.writing.specs.Layout.{joined}
+use Rattle.pieces.specs.Layout.{joined}
 
 -- the kinds of wires, as bytes
 abbrev pub wireKinds : List Wire → List ℕ

@@ -5,7 +5,7 @@ ghost use lib.ListN.{length, replicate};
 ghost use Rattle.tables.specs.Inside.{putAt};
 ghost use Rattle.tables.specs.Tables.{kindOf, AND};
 ghost use Rattle.masks.specs.Wires.{cost};
-ghost use Rattle.writing.specs.Layout.{joined};
+ghost use Rattle.pieces.specs.Layout.{joined};
 ghost use Rattle.kinds.specs.Kinds.{pairKinds, rowKinds, newKinds, XorsFrom};
 
 // Writes the kinds of a pair's five wires.

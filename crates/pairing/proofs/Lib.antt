@@ -1,3 +1,2 @@
 -- Laws of pairs in both runs.
-mod Five
 pub mod Pairs

@@ -23,7 +23,7 @@ use Rattle.maps.specs.Maps.{flipped, pairFlip}
 use Rattle.maps.specs.Both.{BothFlip, BothReady, bitsFor}
 use Rattle.maps.proofs.Flips.{pairs-flips-local}
 use Rattle.maps.proofs.Both.{BothLeft, left-end, left-long, FlipsLeft, flips-more, flips-start, flipped-long, tapeAfter, oneAfter, otherAfter}
-use Rattle.writing.specs.Layout.{pairGates}
+use Rattle.pieces.specs.Layout.{pairGates}
 use Rattle.pairing.specs.Pairing.{sharePairs}
 
 -- the pairs ps are left; the runs began with the values v and u on the wires before w₀, where the shares a and b stand

@@ -1,29 +1,14 @@
 -- For contracts inside the library only: no promise of a call cites this. Pairs of shares in both runs of the map.
 -- Assumes nothing.
 use mathlib.Core.List.{List, map}
-use Prim.Native.Nat.{ℕ, suc, _-_, _≤_, _<_}
-use lib.ListN.{length, getD}
-use Rattle.writing.specs.declared.Places as DP
+use Prim.Native.Nat.{ℕ, suc, _-_}
+use lib.ListN.{getD}
+use Rattle.pieces.specs.declared.Places as DP
 use Rattle.masks.specs.Shares.{upFrom, inTurn, Pair, pairOf}
 use Rattle.masks.specs.Gadgets.{isw}
 use Rattle.maps.specs.Maps.{pairFlip}
 use Rattle.maps.specs.Both.{BothFlip}
-use Rattle.writing.specs.Layout.{shareWires, pairGates}
-
--- a bit stands at place p
-pub record BitAt (b : List ℕ) (p : ℕ) : Type 0 where
-  pub inside : p < length b
-  pub bit : getD b p 0 ≤ 1
-
--- the values of a_i, b_j, a_j and b_i are bits
-pub record PairBits (v : List ℕ) (ai bj aj bi : ℕ) : Type 0 where
-  pub cross : BitAt v ai × BitAt v bj
-  pub back : BitAt v aj × BitAt v bi
-
--- the wires of a_i, b_j, a_j and b_i come before wire w
-pub record PairBefore (w ai bj aj bi : ℕ) : Type 0 where
-  pub cross : (ai < w) × (bj < w)
-  pub back : (aj < w) × (bi < w)
+use Rattle.pieces.specs.Layout.{shareWires, pairGates}
 
 -- the pairs of share i, counted from 0, with each later one
 abbrev pub sharePairs : ℕ → ℕ → List Pair

@@ -1,109 +1,9 @@
-// Pairs of shares in both runs of the map: their five wires, and the random bit that the second run takes.
-ghost use mathlib.Core.Path.{_≡_};
-ghost use mathlib.Core.List.{[], _∷_, map};
+// All pairs of shares in both runs of the map.
 ghost use Prim.Native.Nat.{_+_, _-_, _*_, _≤_, _<_, suc};
-ghost use lib.ListN.{getD};
-ghost use Rattle.tables.specs.Runs.{xor};
-ghost use Rattle.tables.specs.Inside.{ranOn, RunsTo};
 ghost use Rattle.masks.specs.Shares.{pairs, tri};
-ghost use Rattle.masks.specs.Gadgets.{allFive, differs, isw};
-ghost use Rattle.maps.specs.Both.{BothFlip, BothReady};
+ghost use Rattle.maps.specs.Both.{BothReady};
 ghost use Rattle.driving.specs.Driving.{SharesBefore};
-ghost use Rattle.pairing.specs.Pairing.{BitAt, PairBits, PairBefore, sharePairs, PairsRan};
-
-// The five wires of a pair in one run, from wire w on, with the pair's random bit.
-fn run_pair(run: &mut [u8], w: usize, ai: usize, bj: usize, aj: usize, bi: usize, bit: u8)
-    requires { ⌜ RunsTo w 5 (now run) × PairBefore w ai bj aj bi × (bit ≤ 1) ⌝ }
-    ensures { λ _. ⌜ now (run .exit) ≡ ranOn (map (isw .gates w ai bj aj bi) allFive) (bit ∷ []) w (now (run .entry)) ⌝ }
-{
-    driving::run_random(run, w, bit);
-    driving::run_and(run, w + 1, ai, bj);
-    driving::run_xor(run, w + 2, w, w + 1);
-    driving::run_and(run, w + 3, aj, bi);
-    driving::run_xor(run, w + 4, w + 2, w + 3);
-}
-
-// What a pair of shares i < j flips, where k is the free share, and p and q say whether a_i·b_j and a_j·b_i differ: document 01's
-// AND flips where i is k.
-fn pair_flip(k: usize, i: usize, j: usize, p: u8, q: u8) -> u8
-    requires { ⌜ (p ≤ 1) × (q ≤ 1) ⌝ }
-    ensures { λ r. ⌜ (r ≡ isw .flip k i j p q) × (r ≤ 1) ⌝ }
-{
-    if i == k {
-        return (p + q) % 2;
-    }
-    0
-}
-
-// Whether the product of two wires differs between the runs: 1 or 0.
-fn product_differs(one: &[u8], other: &[u8], left: usize, right: usize) -> u8
-    requires { ⌜ BitAt (now one) left × BitAt (now one) right × BitAt (now other) left × BitAt (now other) right ⌝ }
-    ensures { λ r. ⌜ (r ≡ differs (λ p. getD (now (one .entry)) p 0) (λ p. getD (now (other .entry)) p 0) left right) × (r ≤ 1) ⌝ }
-{
-    (one[left] * one[right] + other[left] * other[right]) % 2
-}
-
-// The random bit of a pair of shares i and j in the second run, where its bit in the first is known: a pair without the free
-// share k keeps it.
-fn mapped_bit(
-    k: usize,
-    i: usize,
-    j: usize,
-    bit: u8,
-    one: &[u8],
-    other: &[u8],
-    ai: usize,
-    bj: usize,
-    aj: usize,
-    bi: usize,
-) -> u8
-    requires { ⌜ (bit ≤ 1) × PairBits (now one) ai bj aj bi × PairBits (now other) ai bj aj bi ⌝ }
-    ensures { λ r. ⌜ (r
-        ≡ xor bit
-        (isw .flip k i j
-        (differs (λ p. getD (now (one .entry)) p 0) (λ p. getD (now (other .entry)) p 0) ai bj)
-        (differs (λ p. getD (now (one .entry)) p 0) (λ p. getD (now (other .entry)) p 0) aj bi)))
-        × (r ≤ 1) ⌝ }
-{
-    if (i != k) & (j != k) {
-        return bit;
-    }
-    let p = product_differs(one, other, ai, bj);
-    let q = product_differs(one, other, aj, bi);
-    (bit + pair_flip(k, i, j, p, q)) % 2
-}
-
-// A pair of shares i and j in both runs, from wire w on: its random bit is that of the tape at a place, and the second run's is
-// put there into the mapped tape.
-fn map_pair(
-    k: usize,
-    i: usize,
-    j: usize,
-    w: usize,
-    ai: usize,
-    bj: usize,
-    aj: usize,
-    bi: usize,
-    tape: &[u8],
-    at: usize,
-    mapped: &mut [u8],
-    one: &mut [u8],
-    other: &mut [u8],
-)
-    requires { ⌜ BothReady w 5 at 1 (now tape) (now mapped) (now one) (now other) × PairBefore w ai bj aj bi ⌝ }
-    ensures { λ _. ⌜ BothFlip (map (isw .gates w ai bj aj bi) allFive)
-        (isw .flip k i j
-        (differs (λ p. getD (now (one .entry)) p 0) (λ p. getD (now (other .entry)) p 0) ai bj)
-        (differs (λ p. getD (now (one .entry)) p 0) (λ p. getD (now (other .entry)) p 0) aj bi) ∷ [])
-        (now (tape .entry)) at w
-        (now (mapped .entry)) (now (mapped .exit)) (now (one .entry)) (now (one .exit)) (now (other .entry)) (now (other .exit)) ⌝ }
-{
-    let bit = bits::tape_bit(tape, at);
-    let second = mapped_bit(k, i, j, bit, one, other, ai, bj, aj, bi);
-    mapped[at] = second;
-    run_pair(one, w, ai, bj, aj, bi, bit);
-    run_pair(other, w, ai, bj, aj, bi, second);
-}
+ghost use Rattle.pairing.specs.Pairing.{sharePairs, PairsRan};
 
 // The pairs of share i, counted from 0, with each later share, in both runs, from wire w and from a place of the tape on.
 fn map_share(
@@ -111,8 +11,8 @@ fn map_share(
     n: usize,
     i: usize,
     w: usize,
-    a: writing::Places,
-    b: writing::Places,
+    a: pieces::Places,
+    b: pieces::Places,
     tape: &[u8],
     at: usize,
     mapped: &mut [u8],
@@ -124,15 +24,15 @@ fn map_share(
     ensures { λ _. ⌜ PairsRan n k a b (sharePairs n i) (now (tape .entry)) at w
         (now (mapped .entry)) (now (mapped .exit)) (now (one .entry)) (now (one .exit)) (now (other .entry)) (now (other .exit)) ⌝ }
 {
-    let ai = writing::share_wire(a, i);
-    let bi = writing::share_wire(b, i);
+    let ai = pieces::share_wire(a, i);
+    let bi = pieces::share_wire(b, i);
     let later = n - 1 - i;
     let mut c = 0;
     while c < later {
         let j = i + 1 + c;
-        let aj = writing::later_wire(a, j);
-        let bj = writing::later_wire(b, j);
-        map_pair(
+        let aj = pieces::later_wire(a, j);
+        let bj = pieces::later_wire(b, j);
+        crossing::map_pair(
             k,
             i + 1,
             j + 1,
@@ -156,8 +56,8 @@ pub fn map_pairs(
     k: usize,
     n: usize,
     w: usize,
-    a: writing::Places,
-    b: writing::Places,
+    a: pieces::Places,
+    b: pieces::Places,
     tape: &[u8],
     at: usize,
     mapped: &mut [u8],

@@ -20,9 +20,9 @@ use Rattle.masks.proofs.Costs.{new-length, masked-length}
 use Rattle.sizing.specs.declared.Plan as DP
 use Rattle.sizing.specs.Plans.{PlanReady}
 use Rattle.sizing.proofs.Planning.{plan-passed}
-use Rattle.writing.specs.declared.Places as DW
-use Rattle.writing.specs.Layout.{shareWires, LowShares, operandBytes, joined}
-use Rattle.writing.proofs.Bytes.{operands-append, operands-long}
+use Rattle.pieces.specs.declared.Places as DW
+use Rattle.pieces.specs.Layout.{shareWires, LowShares, operandBytes, joined}
+use Rattle.pieces.proofs.Bytes.{operands-append, operands-long}
 use Rattle.kinds.specs.Kinds.{newKinds, gateKinds, XorsFrom}
 use Rattle.kinds.proofs.GateKinds.{wire-kinds-long, new-kinds, masked-kinds, xors-after}
 use Rattle.placing.specs.Located.{placesAt, Located, sharesTo, allShares, gateWire}

@@ -9,7 +9,7 @@ ghost use Rattle.tables.specs.Inside.{putAt};
 ghost use Rattle.masks.specs.Gadgets.{isw};
 ghost use Rattle.masks.specs.Wires.{cost, masked, outputShares};
 ghost use Rattle.sizing.specs.Plans.{PlanReady};
-ghost use Rattle.writing.specs.Layout.{shareWires, LowShares, operandBytes};
+ghost use Rattle.pieces.specs.Layout.{shareWires, LowShares, operandBytes};
 ghost use Rattle.kinds.specs.Kinds.{gateKinds};
 ghost use Rattle.placing.specs.Located.{Located, sharesTo, allShares, gateWire};
 ghost use Rattle.parts.specs.Parts.{stretch};
@@ -70,13 +70,13 @@ pub fn write_operands(
 }
 
 // Writes the wires of n shares, a field each.
-fn write_shares(a: writing::Places, n: usize, outs: &mut [u8], at: usize)
+fn write_shares(a: pieces::Places, n: usize, outs: &mut [u8], at: usize)
     requires { ⌜ (1 ≤ n) × (n ≤ 31) × LowShares n a × (at + 2 * n ≤ length (now outs)) ⌝ }
     ensures { λ _. ⌜ now (outs .exit) ≡ putAt at (wordBytes (shareWires n a)) (now (outs .entry)) ⌝ }
 {
     let mut i = 0;
     while i < n {
-        tables::put_field(outs, at + 2 * i, writing::share_wire(a, i));
+        tables::put_field(outs, at + 2 * i, pieces::share_wire(a, i));
         i += 1;
     }
 }

@@ -12,10 +12,10 @@ use lib.Seq.{getD-set-same, getD-set-other, length-take-le, take-suc, take-lengt
 use borrow.Author.Tests.{eqb-true, eqb-false}
 use Rattle.tables.specs.Tables.{Kind, kindOf, Gate, noGate, Table, wires, gateOf, total}
 use Rattle.tables.proofs.Run.{total-append}
-use Rattle.writing.specs.declared.Places as DP
+use Rattle.pieces.specs.declared.Places as DP
 use Rattle.masks.specs.Shares.{upFrom, tri}
 use Rattle.masks.specs.Wires.{cost, newShares, inputShares, sharesAfter}
-use Rattle.writing.specs.Layout.{shareWires}
+use Rattle.pieces.specs.Layout.{shareWires}
 use Rattle.placing.specs.Located.{placesAt, Small, Room, Put, Holds, Noted, sharesTo, allShares, Located, gateWire}
 use Rattle.masks.proofs.Sum.{up-length, up-plus, up-shift, up-cong}
 use Rattle.masks.proofs.Placed.{shares-after-length}

@@ -10,13 +10,13 @@ use lib.ListN.{length, getD, replicate, length-replicate}
 use Rattle.tables.specs.declared.GateFields as DG
 use Rattle.tables.specs.Tables.{kindOf, Table, gateOf, tableOf, total}
 use Rattle.tables.specs.Inside.{GateIs}
-use Rattle.writing.specs.declared.Places as DW
+use Rattle.pieces.specs.declared.Places as DW
 use Rattle.masks.specs.Shares.{upFrom}
 use Rattle.masks.specs.Wires.{cost, newShares, inputShares, sharesAfter}
 use Rattle.masks.proofs.Sum.{up-length, up-append}
 use Rattle.sizing.specs.declared.Plan as DP
 use Rattle.sizing.specs.Plans.{PlanReady}
-use Rattle.writing.specs.Layout.{shareWires}
+use Rattle.pieces.specs.Layout.{shareWires}
 use Rattle.placing.specs.Located.{placesAt, Room, Put, Holds, Noted, Located, sharesTo, allShares, gateWire}
 use Rattle.placing.proofs.Located.{placesOf, shares-run, noted-start, noted-next, shares-to-all, shares-to-length}
 use Rattle.placing.proofs.Located.{gate-wire-next, shares-to-next}

@@ -23,7 +23,7 @@ use Rattle.masks.proofs.Sum.{up-length}
 use Rattle.sizing.specs.declared.Plan as DP
 use Rattle.sizing.specs.Plans.{PlanReady}
 use Rattle.sizing.proofs.Planning.{plan-passed, plan-fits}
-use Rattle.writing.specs.Layout.{LowShares}
+use Rattle.pieces.specs.Layout.{LowShares}
 use Rattle.placing.specs.Located.{placesAt, Room, Located, allShares, gateWire}
 use Rattle.placing.proofs.Located.{all-shares-length, gate-wire-left, gate-wire-next}
 

@@ -6,9 +6,9 @@ use mathlib.Core.List.{List, []}
 use Prim.Native.Nat.{ℕ, _+_, _*_, _≤_, _<_}
 use lib.ListN.{length, getD, take, set}
 use Rattle.tables.specs.Tables.{Table, wires, total}
-use Rattle.writing.specs.declared.Places as DP
+use Rattle.pieces.specs.declared.Places as DP
 use Rattle.masks.specs.Wires.{cost, inputShares, sharesAfter}
-use Rattle.writing.specs.Layout.{shareWires}
+use Rattle.pieces.specs.Layout.{shareWires}
 
 -- where the three arrays say that the shares of plain wire p are
 abbrev pub placesAt : List ℕ → List ℕ → List ℕ → ℕ → DP.Places

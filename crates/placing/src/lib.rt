@@ -4,16 +4,16 @@ ghost use mathlib.Core.Path.{_≡_};
 ghost use Prim.Native.Nat.{_+_, _*_, _≤_, _<_};
 ghost use Rattle.tables.specs.Tables.{kindOf, tableOf};
 ghost use Rattle.masks.specs.Wires.{cost, newShares, inputShares};
-ghost use Rattle.writing.specs.Layout.{shareWires};
+ghost use Rattle.pieces.specs.Layout.{shareWires};
 ghost use Rattle.sizing.specs.Plans.{PlanReady};
 ghost use Rattle.placing.specs.Located.{placesAt, Small, Room, Put, Holds, Noted, allShares};
 
 // Where the shares of plain wire p are.
-pub fn places_at(head: &[u16], base: &[u16], step: &[u16], p: usize) -> writing::Places
+pub fn places_at(head: &[u16], base: &[u16], step: &[u16], p: usize) -> pieces::Places
     requires { ⌜ Room (p + 1) (now head) (now base) (now step) ⌝ }
     ensures { λ r. ⌜ (r ≡ placesAt (now (head .entry)) (now (base .entry)) (now (step .entry)) p) × Small r ⌝ }
 {
-    writing::Places {
+    pieces::Places {
         head: head[p] as usize,
         base: base[p] as usize,
         step: step[p] as usize,
@@ -31,14 +31,14 @@ fn either(test: bool, yes: usize, no: usize) -> usize
 }
 
 // Where the shares of a plain gate's result are, where its first wire is w and its left operand's shares are at a.
-fn new_places(kind: u8, n: usize, w: usize, a: writing::Places) -> writing::Places
+fn new_places(kind: u8, n: usize, w: usize, a: pieces::Places) -> pieces::Places
     requires { ⌜ (kind < 3) × (1 ≤ n) × (n ≤ 31) × (w + cost (kindOf kind) n ≤ 65535) × Small a ⌝ }
     ensures { λ r. ⌜ (shareWires n r ≡ newShares (kindOf kind) n w (shareWires n a)) × Small r ⌝ }
 {
     let last = w + 5 * masks::pair_count(n) + (n - 1);
     let base = either(kind == 1, w + 1, last + n);
     let step = either(kind == 1, 1, n);
-    writing::Places {
+    pieces::Places {
         head: either(kind == 2, last, w),
         base: either(kind == 0, a.base, base),
         step: either(kind == 0, a.step, step),
@@ -46,7 +46,7 @@ fn new_places(kind: u8, n: usize, w: usize, a: writing::Places) -> writing::Plac
 }
 
 // Notes where the shares of plain wire p are.
-fn put_places(head: &mut [u16], base: &mut [u16], step: &mut [u16], p: usize, a: writing::Places)
+fn put_places(head: &mut [u16], base: &mut [u16], step: &mut [u16], p: usize, a: pieces::Places)
     requires { ⌜ Room (p + 1) (now head) (now base) (now step) × Small a ⌝ }
     ensures { λ _. ⌜ Put p a (now (head .entry)) (now (base .entry)) (now (step .entry)) (now (head .exit)) (now (base .exit))
         (now (step .exit)) ⌝ }
@@ -67,7 +67,7 @@ fn place_inputs(p: sizing::Plan, head: &mut [u16], base: &mut [u16], step: &mut 
     let mut w = 0;
     let mut i = 0;
     while i < inputs {
-        let a = writing::Places {
+        let a = pieces::Places {
             head: w,
             base: w + 1,
             step: 1,

@@ -22,8 +22,8 @@ use Rattle.maps.specs.Both.{BothFlip, BothReady}
 use Rattle.maps.proofs.Begun.{plain-inputs}
 use Rattle.maps.proofs.Both.{left-long}
 use Rattle.maps.proofs.MapGates.{GatesLeft, gates-start, gates-ready, gates-more, gates-end}
-use Rattle.writing.specs.declared.Places as DW
-use Rattle.writing.specs.Layout.{shareWires}
+use Rattle.pieces.specs.declared.Places as DW
+use Rattle.pieces.specs.Layout.{shareWires}
 use Rattle.placing.specs.Located.{placesAt, Room, Located, sharesTo, gateWire}
 use Rattle.placing.proofs.Located.{gate-wire-next, shares-to-next, shares-to-length, located-at}
 use Rattle.placing.proofs.Turns.{Turn, turn, plan-sized, located-room}

@@ -16,10 +16,10 @@ use Rattle.masks.proofs.Lawful.{isw-lawful}
 use Rattle.maps.specs.Maps.{pairFlip}
 use Rattle.maps.specs.Both.{BothFlip, BothReady}
 use Rattle.maps.proofs.Both.{flips-after, flips-append, both-none, both-less}
-use Rattle.writing.specs.declared.Places as DP
-use Rattle.writing.specs.Layout.{shareWires, pairGates, rowGates, rowsGates}
-use Rattle.writing.proofs.Bytes.{joined-long}
-use Rattle.writing.proofs.Pieces.{row-long}
+use Rattle.pieces.specs.declared.Places as DP
+use Rattle.pieces.specs.Layout.{shareWires, pairGates, rowGates, rowsGates}
+use Rattle.pieces.proofs.Bytes.{joined-long}
+use Rattle.pieces.proofs.Pieces.{row-long}
 use Rattle.pairing.specs.Pairing.{PairsRan}
 use Rattle.pairing.proofs.Pairs.{pairs-long, pairs-draw}
 

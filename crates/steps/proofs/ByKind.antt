@@ -12,9 +12,9 @@ use Rattle.masks.specs.Wires.{cost, share}
 use Rattle.maps.specs.Maps.{pairFlip}
 use Rattle.maps.specs.Both.{BothFlip, BothReady}
 use Rattle.maps.proofs.Both.{both-none}
-use Rattle.writing.specs.declared.Places as DP
-use Rattle.writing.specs.Layout.{shareWires, joined, pairGates, rowsGates, xorGates}
-use Rattle.writing.proofs.Pieces.{and-gates, xor-gates}
+use Rattle.pieces.specs.declared.Places as DP
+use Rattle.pieces.specs.Layout.{shareWires, joined, pairGates, rowsGates, xorGates}
+use Rattle.pieces.proofs.Pieces.{and-gates, xor-gates}
 use Rattle.driving.specs.Driving.{SharesBefore}
 use Rattle.driving.proofs.Before.{left-before}
 use Rattle.steps.specs.Steps.{StepReady, GateRan}

@@ -7,8 +7,8 @@ use lib.ListN.{getD, take, drop}
 use Rattle.tables.specs.Tables.{kindOf, Table, total}
 use Rattle.masks.specs.Gadgets.{isw}
 use Rattle.masks.specs.Wires.{driverOf, newWires, cost, draws, masked, inputShares}
-use Rattle.writing.specs.declared.Places as DP
-use Rattle.writing.specs.Layout.{shareWires}
+use Rattle.pieces.specs.declared.Places as DP
+use Rattle.pieces.specs.Layout.{shareWires}
 use Rattle.maps.specs.Maps.{gateFlips, mapGates}
 use Rattle.maps.specs.Both.{BothRan, BothFlip, BothReady}
 use Rattle.driving.specs.Driving.{SharesBefore}

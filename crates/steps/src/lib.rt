@@ -9,7 +9,7 @@ ghost use Rattle.masks.specs.Wires.{cost, draws};
 ghost use Rattle.maps.specs.Maps.{pairFlip};
 ghost use Rattle.maps.specs.Both.{BothFlip, BothReady};
 ghost use Rattle.sizing.specs.Plans.{PlanReady};
-ghost use Rattle.writing.specs.Layout.{shareWires, pairGates, rowsGates};
+ghost use Rattle.pieces.specs.Layout.{shareWires, pairGates, rowsGates};
 ghost use Rattle.placing.specs.Located.{placesAt, Room, Located};
 ghost use Rattle.driving.specs.Driving.{SharesBefore};
 ghost use Rattle.steps.specs.Steps.{StepReady, GateRan, GatesRan};
@@ -19,8 +19,8 @@ fn map_and(
     k: usize,
     n: usize,
     w: usize,
-    a: writing::Places,
-    b: writing::Places,
+    a: pieces::Places,
+    b: pieces::Places,
     tape: &[u8],
     at: usize,
     mapped: &mut [u8],
@@ -72,7 +72,7 @@ fn map_gate(
 {
     let a = placing::places_at(head, base, step, left);
     if kind == 0 {
-        let first = writing::share_wire(a, 0);
+        let first = pieces::share_wire(a, 0);
         driving::run_not(one, w, first);
         driving::run_not(other, w, first);
         return;

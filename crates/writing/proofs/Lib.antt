@@ -1,4 +1,2 @@
--- Laws of the wires of shares, the bytes of gates, and the pieces of a masked gate.
-pub mod ShareWires
-pub mod Bytes
-pub mod Pieces
+-- Pairs by their numbers.
+mod PairNumbers

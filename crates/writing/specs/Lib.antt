@@ -1,2 +1,2 @@
--- How the code keeps the wires of shares, and what writing a gate needs.
-pub mod Layout
+-- What writing the operands of a gate's new wires takes.
+pub mod Operands

@@ -9,8 +9,8 @@ use Rattle.tables.proofs.Ran.{runs-less}
 use Rattle.masks.specs.Shares.{pairAt}
 use Rattle.masks.specs.Gadgets.{isw}
 use Rattle.masks.specs.Wires.{pairWire}
-use Rattle.writing.specs.Layout.{sumGates}
-use Rattle.writing.proofs.Pieces.{Upright, upright-start, upright-turn, upright-high, upright-within, upright-low}
+use Rattle.pieces.specs.Layout.{sumGates}
+use Rattle.pieces.proofs.Pieces.{Upright, upright-start, upright-turn, upright-high, upright-within, upright-low}
 use Rattle.driving.proofs.InPieces.{InPieces, pieces-start, pieces-room, pieces-turn, pieces-end, xor-none}
 use Rattle.driving.proofs.run_high_sums.Statement.{statement}
 use Rattle.driving.proofs.run_high_sums.Tie as tie

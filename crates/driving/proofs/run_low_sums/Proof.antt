@@ -6,7 +6,7 @@ use native.Mathlib.Omega.{arith}
 use Rattle.tables.proofs.Ran.{runs-less}
 use Rattle.masks.specs.Gadgets.{isw}
 use Rattle.masks.specs.Wires.{pairWire}
-use Rattle.writing.specs.Layout.{sumGates}
+use Rattle.pieces.specs.Layout.{sumGates}
 use Rattle.driving.proofs.InPieces.{InPieces, pieces-start, pieces-room, pieces-turn, pieces-end, xor-none}
 use Rattle.driving.proofs.run_low_sums.Statement.{statement}
 use Rattle.driving.proofs.run_low_sums.Tie as tie

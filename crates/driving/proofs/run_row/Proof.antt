@@ -2,8 +2,8 @@
 -- Assumes nothing.
 use native.Mathlib.Omega.{arith}
 use Rattle.tables.proofs.Ran.{runs-less}
-use Rattle.writing.specs.Layout.{shareWires}
-use Rattle.writing.proofs.Pieces.{low-within}
+use Rattle.pieces.specs.Layout.{shareWires}
+use Rattle.pieces.proofs.Pieces.{low-within}
 use Rattle.driving.proofs.Before.{left-low, right-low, left-before, right-before}
 use Rattle.driving.proofs.Rows.{high-ready, low-ready, row-ran}
 use borrow.Author.Needs.{needs}

@@ -7,8 +7,8 @@ use native.Mathlib.Nat.{mul-le-mul-left}
 use native.Mathlib.Omega.{arith}
 use Rattle.tables.specs.Tables.{Gate}
 use Rattle.masks.specs.Gadgets.{isw}
-use Rattle.writing.specs.Layout.{shareWires, rowGates}
-use Rattle.writing.proofs.Pieces.{row-long}
+use Rattle.pieces.specs.Layout.{shareWires, rowGates}
+use Rattle.pieces.proofs.Pieces.{row-long}
 use Rattle.driving.proofs.InPieces.{InPieces, pieces-start, pieces-room, pieces-turn, pieces-end}
 use Rattle.driving.proofs.Rows.{row-none}
 use Rattle.driving.proofs.run_rows.Statement.{statement}

@@ -6,7 +6,7 @@ use Prim.Native.Nat.{ℕ, _+_, _-_}
 use native.Mathlib.Omega.{arith}
 use Rattle.tables.specs.Tables.{XOR, Gate, gate}
 use Rattle.tables.proofs.Ran.{runs-less}
-use Rattle.writing.specs.Layout.{shareWires, xorGates}
+use Rattle.pieces.specs.Layout.{shareWires, xorGates}
 use Rattle.driving.proofs.InPieces.{InPieces, pieces-start, pieces-room, pieces-turn, pieces-end, xor-none}
 use Rattle.driving.proofs.Before.{left-low, right-low, left-before, right-before}
 use Rattle.driving.proofs.run_xors.Statement.{statement}

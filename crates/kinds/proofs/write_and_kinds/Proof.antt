@@ -8,9 +8,9 @@ use lib.ListN.{length}
 use borrow.Author.Needs.{needs}
 use Rattle.tables.specs.Inside.{putAt}
 use Rattle.tables.proofs.Put.{put-then}
-use Rattle.writing.specs.Layout.{joined}
+use Rattle.pieces.specs.Layout.{joined}
 use Rattle.kinds.specs.Kinds.{pairKinds, rowKinds}
-use Rattle.writing.proofs.Bytes.{joined-long}
+use Rattle.pieces.proofs.Bytes.{joined-long}
 use Rattle.kinds.proofs.GateKinds.{xors-after}
 use Rattle.kinds.proofs.write_and_kinds.Statement.{statement}
 use Rattle.kinds.proofs.write_and_kinds.Tie as tie

@@ -4,7 +4,7 @@ use mathlib.Core.Path.{refl}
 use Prim.Native.Nat.{_+_, _-_, _*_}
 use native.Mathlib.Omega.{arith}
 use Rattle.kinds.specs.Kinds.{pairKinds}
-use Rattle.writing.proofs.Bytes.{Joining, joining-start, joining-turn, joining-end}
+use Rattle.pieces.proofs.Bytes.{Joining, joining-start, joining-turn, joining-end}
 use Rattle.kinds.proofs.write_pair_kinds.Statement.{statement}
 use Rattle.kinds.proofs.write_pair_kinds.Tie as tie
 

@@ -6,7 +6,7 @@ use native.Mathlib.Nat.{mul-le-mul-left}
 use native.Mathlib.Omega.{arith}
 use lib.ListN.{length}
 use Rattle.kinds.specs.Kinds.{rowKinds, XorsFrom}
-use Rattle.writing.proofs.Bytes.{Joining, joining-start, joining-turn, joining-end}
+use Rattle.pieces.proofs.Bytes.{Joining, joining-start, joining-turn, joining-end}
 use Rattle.kinds.proofs.GateKinds.{row-kinds-long, row-head, xors-after}
 use Rattle.kinds.proofs.write_rows_kinds.Statement.{statement}
 use Rattle.kinds.proofs.write_rows_kinds.Tie as tie

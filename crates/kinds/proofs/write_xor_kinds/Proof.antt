@@ -5,7 +5,7 @@ use mathlib.Core.List.{[], _∷_}
 use Prim.Native.Nat.{_+_, _-_}
 use native.Mathlib.Omega.{arith}
 use Rattle.tables.proofs.Put.{put-set}
-use Rattle.writing.proofs.Bytes.{Joining, joining-start, joining-turn, joining-end}
+use Rattle.pieces.proofs.Bytes.{Joining, joining-start, joining-turn, joining-end}
 use Rattle.kinds.proofs.GateKinds.{replicate-joined}
 use Rattle.kinds.proofs.write_xor_kinds.Statement.{statement}
 use Rattle.kinds.proofs.write_xor_kinds.Tie as tie

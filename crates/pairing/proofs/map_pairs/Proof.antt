@@ -9,7 +9,7 @@ use Rattle.masks.specs.Gadgets.{isw}
 use Rattle.masks.proofs.Sum.{up-length}
 use Rattle.masks.proofs.Rows.{pairs-length}
 use Rattle.masks.proofs.Lawful.{isw-lawful}
-use Rattle.writing.specs.Layout.{shareWires}
+use Rattle.pieces.specs.Layout.{shareWires}
 use Rattle.driving.proofs.Before.{before-later}
 use Rattle.maps.proofs.Both.{both-less}
 use Rattle.pairing.specs.Pairing.{sharePairs}

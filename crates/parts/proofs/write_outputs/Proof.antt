@@ -8,7 +8,7 @@ use borrow.Author.Needs.{needs}
 use lib.ListN.{length}
 use Rattle.tables.specs.Tables.{tableOf}
 use Rattle.tables.proofs.Put.{put-zero}
-use Rattle.writing.proofs.Bytes.{Joining, joining-start, joining-turn, joining-end}
+use Rattle.pieces.proofs.Bytes.{Joining, joining-start, joining-turn, joining-end}
 use Rattle.placing.proofs.Turns.{plan-sized, located-room}
 use Rattle.parts.proofs.Stretches.{outputPiece, outputs-joined, output-below, output-long, output-piece, read-low}
 use Rattle.parts.proofs.write_outputs.Statement.{statement}

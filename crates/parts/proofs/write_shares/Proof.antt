@@ -7,9 +7,9 @@ use native.Mathlib.Omega.{arith}
 use borrow.Author.Needs.{needs}
 use Rattle.tables.specs.Tables.{two}
 use Rattle.masks.specs.Wires.{share}
-use Rattle.writing.specs.Layout.{shareWires}
-use Rattle.writing.proofs.ShareWires.{share-low}
-use Rattle.writing.proofs.Bytes.{Joining, joining-start, joining-turn, joining-end}
+use Rattle.pieces.specs.Layout.{shareWires}
+use Rattle.pieces.proofs.ShareWires.{share-low}
+use Rattle.pieces.proofs.Bytes.{Joining, joining-start, joining-turn, joining-end}
 use Rattle.parts.proofs.Stretches.{shares-joined}
 use Rattle.parts.proofs.write_shares.Statement.{statement}
 use Rattle.parts.proofs.write_shares.Tie as tie

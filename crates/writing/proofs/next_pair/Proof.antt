@@ -1,7 +1,7 @@
 -- `writing::next_pair` meets its contract: the next upper share, or the first pair of the next lower share.
 -- Assumes nothing.
 use borrow.Author.Needs.{needs}
-use Rattle.writing.proofs.Pieces.{pair-next, pair-turn}
+use Rattle.writing.proofs.PairNumbers.{pair-next, pair-turn}
 use Rattle.writing.proofs.next_pair.Statement.{statement}
 use Rattle.writing.proofs.next_pair.Tie as tie
 

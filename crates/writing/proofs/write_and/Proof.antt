@@ -11,8 +11,8 @@ use Rattle.tables.proofs.Format.{pairs-long}
 use Rattle.masks.specs.Shares.{inTurn, pairs, tri}
 use Rattle.tables.specs.Inside.{putAt}
 use Rattle.masks.specs.Gadgets.{isw}
-use Rattle.writing.specs.Layout.{shareWires, pairGates, rowsGates}
-use Rattle.writing.proofs.Bytes.{pairs-append}
+use Rattle.pieces.specs.Layout.{shareWires, pairGates, rowsGates}
+use Rattle.pieces.proofs.Bytes.{pairs-append}
 use Rattle.tables.proofs.Put.{put-then}
 use Rattle.masks.proofs.Each.{in-turn-length}
 use Rattle.masks.proofs.Costs.{all-of}

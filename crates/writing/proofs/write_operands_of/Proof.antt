@@ -6,8 +6,8 @@ use borrow.Author.Needs.{needs}
 use Rattle.tables.specs.Tables.{pairBytes}
 use Rattle.tables.proofs.Put.{put-nil}
 use Rattle.masks.specs.Gadgets.{isw}
-use Rattle.writing.specs.Layout.{shareWires}
-use Rattle.writing.proofs.Pieces.{xor-gates, and-gates, no-wires}
+use Rattle.pieces.specs.Layout.{shareWires}
+use Rattle.pieces.proofs.Pieces.{xor-gates, and-gates, no-wires}
 use Rattle.writing.proofs.write_operands_of.Statement.{statement}
 use Rattle.writing.proofs.write_operands_of.Tie as tie
 

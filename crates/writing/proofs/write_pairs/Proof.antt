@@ -9,10 +9,12 @@ use lib.ListN.{length}
 use Rattle.tables.specs.Tables.{Gate, pairBytes}
 use Rattle.masks.specs.Shares.{tri}
 use Rattle.masks.specs.Gadgets.{isw}
-use Rattle.writing.specs.Layout.{shareWires, pairGates, PairNo}
-use Rattle.writing.proofs.ShareWires.{share-low}
-use Rattle.writing.proofs.Bytes.{pairs-joined, Joining, joining-start, joining-turn, joining-end}
-use Rattle.writing.proofs.Pieces.{pairNumber, pairs-in-turn, pair-piece, pair-first}
+use Rattle.pieces.specs.Layout.{shareWires, pairGates}
+use Rattle.writing.specs.Operands.{PairNo}
+use Rattle.pieces.proofs.ShareWires.{share-low}
+use Rattle.pieces.proofs.Bytes.{pairs-joined, Joining, joining-start, joining-turn, joining-end}
+use Rattle.pieces.proofs.Pieces.{pairNumber, pairs-in-turn}
+use Rattle.writing.proofs.PairNumbers.{pair-piece, pair-first}
 use Rattle.writing.proofs.write_pairs.Statement.{statement}
 use Rattle.writing.proofs.write_pairs.Tie as tie
 

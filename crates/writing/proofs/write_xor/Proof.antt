@@ -5,9 +5,9 @@ use mathlib.Core.List.{_++_}
 use Prim.Native.Nat.{ℕ, _+_, _-_, _*_}
 use native.Mathlib.Omega.{arith}
 use Rattle.tables.specs.Tables.{two, pairBytes}
-use Rattle.writing.specs.Layout.{shareWires, xorGates}
-use Rattle.writing.proofs.ShareWires.{share-low}
-use Rattle.writing.proofs.Bytes.{pairs-joined, Joining, joining-start, joining-turn, joining-end}
+use Rattle.pieces.specs.Layout.{shareWires, xorGates}
+use Rattle.pieces.proofs.ShareWires.{share-low}
+use Rattle.pieces.proofs.Bytes.{pairs-joined, Joining, joining-start, joining-turn, joining-end}
 use Rattle.writing.proofs.write_xor.Statement.{statement}
 use Rattle.writing.proofs.write_xor.Tie as tie
 

@@ -1,0 +1,2 @@
+-- Laws of a pair's five wires.
+mod Five

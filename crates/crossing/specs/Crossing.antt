@@ -1,0 +1,20 @@
+-- For contracts inside the library only: no promise of a call cites this. A pair of shares in both runs of the map.
+-- Assumes nothing.
+use mathlib.Core.List.{List}
+use Prim.Native.Nat.{ℕ, _≤_, _<_}
+use lib.ListN.{length, getD}
+
+-- a bit stands at place p
+pub record BitAt (b : List ℕ) (p : ℕ) : Type 0 where
+  pub inside : p < length b
+  pub bit : getD b p 0 ≤ 1
+
+-- the values of a_i, b_j, a_j and b_i are bits
+pub record PairBits (v : List ℕ) (ai bj aj bi : ℕ) : Type 0 where
+  pub cross : BitAt v ai × BitAt v bj
+  pub back : BitAt v aj × BitAt v bi
+
+-- the wires of a_i, b_j, a_j and b_i come before wire w
+pub record PairBefore (w ai bj aj bi : ℕ) : Type 0 where
+  pub cross : (ai < w) × (bj < w)
+  pub back : (aj < w) × (bi < w)

@@ -1,0 +1,2 @@
+-- What running a pair of shares on takes.
+pub mod Crossing

@@ -1,0 +1,49 @@
+// Where the shares of a plain wire are kept, which wires the rows of an AND add, and the operands of one gate.
+ghost use mathlib.Core.Path.{_≡_};
+ghost use Prim.Native.Nat.{_+_, _*_, _≤_, _<_, ℕ, suc};
+ghost use Rattle.masks.specs.Wires.{share};
+ghost use Rattle.pieces.specs.Layout.{shareWires};
+ghost use mathlib.Core.List.{_++_};
+ghost use lib.ListN.{length};
+ghost use Rattle.tables.specs.Inside.{putAt};
+ghost use Rattle.tables.specs.Tables.{two};
+
+// Which of the five wires of a pair (i, j) the rows add: row i the first, row j the fifth.
+pub const LOW: usize = 0;
+
+pub const HIGH: usize = 4;
+
+// Where the shares of a plain wire are: share 1 on wire head, share s on wire base + (s − 2)·step.
+pub struct Places {
+    pub head: usize,
+    pub base: usize,
+    pub step: usize,
+}
+
+// The wire of share i, counted from 0, for a share that is not the first.
+pub fn later_wire(a: Places, i: usize) -> usize
+    requires { ⌜ (1 ≤ i) × (share (shareWires (suc i) a) i < 65536) ⌝ }
+    ensures { λ r. ⌜ (r < 65536) × ((n : ℕ) → i < n → r ≡ share (shareWires n a) i) ⌝ }
+{
+    a.base + (i - 1) * a.step
+}
+
+// The wire of share i, counted from 0.
+pub fn share_wire(a: Places, i: usize) -> usize
+    requires { ⌜ share (shareWires (suc i) a) i < 65536 ⌝ }
+    ensures { λ r. ⌜ (r < 65536) × ((n : ℕ) → i < n → r ≡ share (shareWires n a) i) ⌝ }
+{
+    if i == 0 {
+        return a.head;
+    }
+    later_wire(a, i)
+}
+
+// Writes one gate's operands: two fields.
+pub fn put_gate(ops: &mut [u8], at: usize, left: usize, right: usize)
+    requires { ⌜ (at + 4 ≤ length (now ops)) × (left < 65536) × (right < 65536) ⌝ }
+    ensures { λ _. ⌜ now (ops .exit) ≡ putAt at (two left ++ two right) (now (ops .entry)) ⌝ }
+{
+    tables::put_field(ops, at, left);
+    tables::put_field(ops, at + 2, right);
+}
