@@ -31,8 +31,11 @@ run-not-requires c κs =
 run-not-requires-2 : tie.Need-run-not-requires-2
 run-not-requires-2 c κs =
     let s = c .before .before .before .before .before .before .before .before .before .before .before .before .before .before .before in
-    let R = ready-where (s .pre .2) (c .before .before .before .before .before .before .before .places-at .ensures .0) refl in
-    (not-ready R (c .before .before .before .before .before .before .if1 .taken) .1, not-left R (c .before .before .before .before .before .share-wire .ensures .1 (s .args .n) (R .some)))
+    let R = ready-where (s .pre .2) (c .before .before .before .before .before .before .before .places-at .ensures .0) refl in (
+      not-ready R (c .before .before .before .before .before .before .if1 .taken) .1,
+      not-left R (c .before .before .before .before .before
+          .share-wire .ensures .1 (s .args .n) (R .some)),
+    )
 
 same-length : tie.Need-same-length
 same-length c = search needs
@@ -55,7 +58,9 @@ places-at-requires-2 : tie.Need-places-at-requires-2
 places-at-requires-2 c κs = c .before .before .before .before .before .before .before .before .before .pre .1
 
 map-and-requires : tie.Need-map-and-requires
-map-and-requires c κs = and-ready (ready-where (c .before .before .before .before .before .before .before .before .before .before .before .before .before .before .pre .2) (c .before .before .before .before .before .before .places-at .ensures .0) (c .before .before .before .before .places-at2 .ensures .0)) (c .before .before .before .if2 .taken)
+map-and-requires c κs = and-ready (ready-where (c .before .before .before .before .before .before .before .before .before .before .before .before
+    .before .before .pre .2) (c .before .before .before .before .before .before .places-at .ensures .0) (c .before .before .before .before
+    .places-at2 .ensures .0)) (c .before .before .before .if2 .taken)
 
 same-length-3 : tie.Need-same-length-3
 same-length-3 c = search needs
@@ -68,10 +73,13 @@ same-length-5 c = search needs
 
 returns-2 : tie.Need-returns-2
 returns-2 c =
-    let s = c .before .before .before .before .before .before .before .before .before .before .before .before .before .before .before .before .before .before .before .before .before in
+    let s = c .before .before .before .before .before .before .before .before .before .before .before .before .before .before .before .before
+    .before .before .before .before .before in
     λ g. ran-where (s .args .kind) (s .args .n) (s .args .k) g (s .args .w) (s .args .tape .now) (s .args .at) _ _ _ _ _ _
-    (c .before .before .before .before .before .before .before .before .before .before .before .before .before .places-at .ensures .0) (c .before .before .before .before .before .before .before .before .before .before .before .places-at2 .ensures .0)
-    (and-gate (s .args .n) (s .args .k) g (s .args .w) _ _ (s .args .tape .now) (s .args .at) (c .before .before .before .before .before .before .before .before .before .before .if2 .taken)
+    (c .before .before .before .before .before .before .before .before .before .before .before .before .before .places-at .ensures .0) (c .before
+    .before .before .before .before .before .before .before .before .before .before .places-at2 .ensures .0)
+    (and-gate (s .args .n) (s .args .k) g (s .args .w) _ _ (s .args .tape .now) (s .args .at) (c .before .before .before .before .before .before
+    .before .before .before .before .if2 .taken)
     (c .before .before .before .before .before .before .map-and .ensures))
 
 run-xors-requires : tie.Need-run-xors-requires
@@ -83,8 +91,10 @@ run-xors-requires c κs =
 run-xors-requires-2 : tie.Need-run-xors-requires-2
 run-xors-requires-2 c κs =
     let s = c .before .before .before .before .before .before .before .before .before .before .before .before .before .before .before .before in
-    let R = ready-where (s .pre .2) (c .before .before .before .before .before .before .before .before .places-at .ensures .0) (c .before .before .before .before .before .before .places-at2 .ensures .0) in
-    let r = xor-ready R (is-xor s (c .before .before .before .before .before .before .before .if1 .left) (c .before .before .before .before .before .if2 .left)) in (r .0, r .2)
+    let R = ready-where (s .pre .2) (c .before .before .before .before .before .before .before .before .places-at .ensures .0) (c .before .before
+    .before .before .before .before .places-at2 .ensures .0) in
+    let r = xor-ready R (is-xor s (c .before .before .before .before .before .before .before .if1 .left) (c .before .before .before .before
+    .before .if2 .left)) in (r .0, r .2)
 
 same-length-6 : tie.Need-same-length-6
 same-length-6 c = search needs
@@ -95,9 +105,11 @@ same-length-7 c = search needs
 returns-3 : tie.Need-returns-3
 returns-3 c =
     let s = c .before .before .before .before .before .before .before .before .before .before .before .before .before .before .before .before .before .before .before in
-    let is = is-xor s (c .before .before .before .before .before .before .before .before .before .before .if1 .left) (c .before .before .before .before .before .before .before .before .if2 .left) in
+    let is = is-xor s (c .before .before .before .before .before .before .before .before .before .before .if1 .left) (c .before .before .before
+    .before .before .before .before .before .if2 .left) in
     λ g. ran-where (s .args .kind) (s .args .n) (s .args .k) g (s .args .w) (s .args .tape .now) (s .args .at) _ _ _ _ _ _
-    (c .before .before .before .before .before .before .before .before .before .before .before .places-at .ensures .0) (c .before .before .before .before .before .before .before .before .before .places-at2 .ensures .0)
+    (c .before .before .before .before .before .before .before .before .before .before .before .places-at .ensures .0) (c .before .before .before
+    .before .before .before .before .before .before .places-at2 .ensures .0)
     (xor-gate (s .args .n) (s .args .k) g (s .args .w) _ _ (s .args .tape .now) (s .args .at) is
     (c .before .before .before .before .before .before .run-xors .ensures) (c .before .before .run-xors2 .ensures))
 
