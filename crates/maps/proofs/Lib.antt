@@ -11,6 +11,7 @@ pub mod Agree
 pub mod Kept
 pub mod Computing
 pub mod Written
+pub mod Counted
 pub mod Whole
 pub mod Assurance
 pub mod Both

@@ -1,4 +1,5 @@
--- Demands 2 and 3 and the further laws, for every accepted table and order: `demands` and `laws` are what a visitor looks for.
+-- Demands 2 and 3 and the further laws, for every accepted table and order: `demands` and `laws` are what a
+-- visitor looks for; `decides` is Card 3's law.
 -- Assumes nothing.
 use mathlib.Core.Path.{_≡_, refl, sym, ap, subst}
 use mathlib.Core.Bool.{true, false, _&&_}
@@ -15,7 +16,7 @@ use Rattle.tables.proofs.Tests.{and-true, and-intro}
 use Rattle.tables.proofs.Lists.{All, all-append, all-map}
 use Rattle.tables.proofs.Accept.{Plain, accepted-plain}
 use Rattle.masks.specs.Shares.{sharesOf}
-use Rattle.masks.specs.Gadgets.{isIn, Gadget}
+use Rattle.masks.specs.Gadgets.{isIn, Gadget, isw}
 use Rattle.masks.specs.Wires.{Origin, marks, maskedTable, origins, tapeLong, inputShare}
 use Rattle.masks.specs.Codes.{maskedRun}
 use Rattle.masks.specs.Says.{orderOk, originAt}
@@ -23,7 +24,7 @@ use Rattle.masks.proofs.Lawful.{Lawful, isw-lawful}
 use Rattle.masks.proofs.Each.{each-at}
 use Rattle.maps.specs.Maps.{ofEach, single, carried, freeShare, mappedAt, mapped}
 use Rattle.maps.specs.Claims.{accepted, isTape, areSecrets, areProbes, allBelow, allBits, same, Hides, Demands}
-use Rattle.maps.specs.Laws.{Free, Laws}
+use Rattle.maps.specs.Laws.{Free, Laws, CountsDecide}
 use Rattle.maps.proofs.Bits.{all-below}
 use Rattle.maps.proofs.Count.{BitsOf, tapes, once, same-count}
 use Rattle.maps.proofs.Free.{carriedCount, free-laws, few-carried, marks-two, uncarried-each}
@@ -32,6 +33,7 @@ use Rattle.maps.proofs.TwoRuns.{two-runs, mapped-tape, mapped-back}
 use Rattle.maps.proofs.Kept.{all-kept}
 use Rattle.maps.proofs.Computing.{computes}
 use Rattle.maps.proofs.Written.{sized, written}
+use Rattle.maps.proofs.Counted.{counts-decide}
 
 -- reading wires whose values are the same
 read-same :
@@ -157,6 +159,10 @@ demands =
       third = λ s o h. hides isw-hiding (tableOf s) o (covers-single isw-lawful (tableOf s) o) (accepted-is s o h);
       written-back = written;
     }
+
+-- the counts decide the forecast
+pub decides : CountsDecide isw
+decides = counts-decide isw-lawful
 
 -- the further laws
 pub laws : Laws

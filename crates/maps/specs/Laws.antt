@@ -1,4 +1,5 @@
--- Further laws that tie the definitions to document 01: closed sizes, the free share, the two complete runs, all tapes once.
+-- Further laws that tie the definitions to document 01: closed sizes, the free share, the two complete runs, all tapes once; and
+-- to Card 3: the counts decide the forecast.
 -- The statements only; proofs/ has the proofs. No promise of a call cites them.
 -- Assumes nothing.
 use mathlib.Core.Path.{_≡_}
@@ -7,11 +8,15 @@ use mathlib.Core.List.{List, [], _∷_, _++_}
 use Prim.Native.Nat.{ℕ, _+_, _*_, _≤_, _<_}
 use lib.Dec.{eqb}
 use lib.ListN.{length, getD}
-use Rattle.tables.specs.Tables.{Table, wires, tableOf, tableBytes, tableLong, total, Gate}
+use Rattle.tables.specs.Tables.{AND, Table, wires, tableOf, tableBytes, tableLong, total, Gate}
+use Rattle.tables.specs.Counted.{countsOf}
 use Rattle.masks.specs.Shares.{sharesOf}
 use Rattle.masks.specs.Gadgets.{isIn, Gadget, isw}
 use Rattle.masks.specs.Wires.{marks, cost, draws, maskedTable, origins, tapeLong, newShares, inputShares}
+use Rattle.masks.specs.declared.Sizes as DS
 use Rattle.masks.specs.Codes.{maskedRun}
+use Rattle.masks.specs.Says.{ForecastSays}
+use Rattle.masks.specs.Counts.{tooManyBy, forecastBy}
 use Rattle.maps.specs.Maps.{carried, freeShare, flipped, inputFlips, gateFlips, mappedAt}
 use Rattle.maps.specs.Claims.{allBits, accepted, isTape, areSecrets, areProbes, allTapes, same, howMany}
 
@@ -85,3 +90,21 @@ pub record Laws : Type 0 where
   pub tapes : (n : ℕ) → howMany (λ ts. eqb (length ts) n && allBits ts) (allTapes n) ≡ length (allTapes n)
   pub once :
       (n : ℕ) (ts : List ℕ) → length ts ≡ n → allBits ts ≡ true → howMany (λ us. same ts us) (allTapes n) ≡ 1
+
+-- "The order, I, O and the number of gates of each kind alone decide the four figures, or 8, by one stated formula"
+pub record CountsDecide (G : Gadget) : Type 0 where
+  -- for every table and order that 1 to 7 accept, forecasting answers by the formula of the table's counts
+  pub formula :
+      (s : List ℕ) (o : ℕ) (r : DS.Sizes) → accepted s o ≡ true → ForecastSays G s o r
+      → r ≡ forecastBy o (tableOf s .inputs) (length (tableOf s .outputs)) (countsOf (tableOf s .gates))
+  -- with 8 exactly where the formula says 8
+  pub eight :
+      (s : List ℕ) (o : ℕ) (r : DS.Sizes) → accepted s o ≡ true → ForecastSays G s o r
+      → eqb (r .number) 8 ≡ tooManyBy o (tableOf s .inputs) (length (tableOf s .outputs)) (countsOf (tableOf s .gates))
+  -- so tables of the same counts have the same answer
+  pub alike :
+      (s s′ : List ℕ) (o : ℕ) (r r′ : DS.Sizes) → accepted s o ≡ true → accepted s′ o ≡ true
+      → tableOf s .inputs ≡ tableOf s′ .inputs → length (tableOf s .outputs) ≡ length (tableOf s′ .outputs)
+      → countsOf (tableOf s .gates) ≡ countsOf (tableOf s′ .gates) → ForecastSays G s o r → ForecastSays G s′ o r′ → r ≡ r′
+  -- and what an AND draws is closed: "n(n−1)/2"
+  pub closed : (n : ℕ) → 2 * draws AND n + n ≡ n * n

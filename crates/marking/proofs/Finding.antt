@@ -8,7 +8,7 @@ use native.Mathlib.Omega.{arith}
 use lib.ListN.{length, getD, drop, List·getD-append}
 use lib.Seq.{getD-append-add, drop-cons}
 use Rattle.tables.specs.Tables.{kindOf, noGate, Table, gateOf, tableOf, total}
-use Rattle.tables.proofs.Counts.{total-next, total-none}
+use Rattle.tables.proofs.Total.{total-next, total-none}
 use Rattle.sizing.specs.declared.Plan as DP
 use Rattle.masks.specs.Shares.{sharesOf, upFrom, pairOf, pairsFrom, pairs, tri}
 use Rattle.masks.specs.Gadgets.{isw}

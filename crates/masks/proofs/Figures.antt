@@ -6,9 +6,11 @@ use mathlib.Core.List.{List, [], _∷_}
 use Prim.Native.Nat.{ℕ, zero, suc, _+_, _*_, _≤_}
 use native.Mathlib.Nat.{mul-le-mul, mul-le-mul-right}
 use native.Mathlib.Omega.{arith}
-use Rattle.tables.specs.Tables.{Kind, NOT, XOR, AND, RANDOM, UNKNOWN, kindOf, Gate, total, ofKind}
+use Rattle.tables.specs.Tables.{Kind, NOT, XOR, AND, RANDOM, UNKNOWN, kindOf, Gate, total}
+use Rattle.tables.specs.Counted.{ofKind, countsOf}
 use Rattle.masks.specs.Shares.{tri}
 use Rattle.masks.specs.Wires.{cost, draws}
+use Rattle.masks.specs.Counts.{counted}
 use Rattle.masks.proofs.Rows.{tri-closed}
 
 pub square-small : (n : ℕ) → n ≤ 31 → n * n ≤ 961
@@ -47,32 +49,22 @@ other-draws (suc (suc zero)) n c = absurd (c refl)
 other-draws (suc (suc (suc zero))) n c = refl
 other-draws (suc (suc (suc (suc k)))) n c = refl
 
--- a figure that only NOT, XOR and AND have, of one gate and in total, from how many gates there are of each
-module _ (f : Kind → ℕ) (random : f RANDOM ≡ 0) (unknown : (k : ℕ) → f (UNKNOWN k) ≡ 0) where
-  pub by-kind : (k : Kind) → f k ≡ ofKind 0 k * f NOT + ofKind 1 k * f XOR + ofKind 2 k * f AND
+-- a figure that only known kinds have, of one gate and in total: so many gates of each kind, times the figure
+module _ (f : Kind → ℕ) (unknown : (k : ℕ) → f (UNKNOWN k) ≡ 0) where
+  pub by-kind :
+      (k : Kind) → f k ≡ ofKind 0 k * f NOT + ofKind 1 k * f XOR + ofKind 2 k * f AND + ofKind 3 k * f RANDOM
   by-kind NOT = omega arith
   by-kind XOR = omega arith
   by-kind AND = omega arith
-  by-kind RANDOM = omega (arith, random)
+  by-kind RANDOM = omega arith
   by-kind (UNKNOWN k) = omega (arith, unknown k)
 
-  pub total-by-kind :
-      (gs : List Gate) → total f gs ≡ total (ofKind 0) gs * f NOT + total (ofKind 1) gs * f XOR + total (ofKind 2) gs * f AND
+  pub total-counted : (gs : List Gate) → total f gs ≡ counted f (countsOf gs)
   unfolding total
-  total-by-kind [] = omega arith
-  total-by-kind (g ∷ gs) = omega (arith, by-kind (g .kind), total-by-kind gs)
+  total-counted [] = omega arith
+  total-counted (g ∷ gs) = omega (arith, by-kind (g .kind), total-counted gs)
 
 pub at-most-once : (b v : ℕ) → b ≤ 1 → b * v ≤ v
 at-most-once zero v h = omega arith
 at-most-once (suc zero) v h = omega arith
 at-most-once (suc (suc b)) v h = absurd (omega arith)
-
-pub few-costs :
-    {c g v n : ℕ} (k : Kind) → c ≤ g → g ≤ 65535 → v ≡ cost k n → n ≤ 31 → c * v ≤ 65535 * 3286
-few-costs {n = n} k a b e h =
-    mul-le-mul {n₂ = 65535} {m₂ = 3286} (omega arith) (omega (arith, e, cost-small k n h))
-
-pub few-draws :
-    {c g v n : ℕ} (k : Kind) → c ≤ g → g ≤ 65535 → v ≡ draws k n → n ≤ 31 → c * v ≤ 65535 * 465
-few-draws {n = n} k a b e h =
-    mul-le-mul {n₂ = 65535} {m₂ = 465} (omega arith) (omega (arith, e, draws-small k n h))

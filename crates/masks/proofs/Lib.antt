@@ -7,6 +7,7 @@ pub mod Lawful
 pub mod Hiding
 pub mod Costs
 pub mod Figures
+pub mod Counted
 pub mod Placed
 pub mod Passed
 pub mod Codes

@@ -1,22 +1,24 @@
 -- The refusals of a run, by the sizes and counts that the code reads.
 -- Assumes nothing.
-use mathlib.Core.Path.{_≡_, sym, _∙_}
+use mathlib.Core.Path.{_≡_, sym, ap, _∙_}
 use mathlib.Core.Bool.{true, false, _&&_, _||_, not}
 use mathlib.Core.List.{List}
-use Prim.Native.Nat.{ℕ, _+_}
+use Prim.Native.Nat.{ℕ, _+_, _≤_}
 use native.Mathlib.Nat.{zero-add}
 use native.Mathlib.Omega.{arith}
 use lib.Dec.{eqb, ltb}
 use lib.ListN.{length}
 use borrow.Author.Tests.{eqb-true, not-false}
-use Rattle.tables.specs.Refusals.{fault, orElse, refusedIf, badBit}
-use Rattle.tables.specs.Tables.{wires, word, tableOf, total, ofKind}
+use Rattle.tables.specs.Refusals.{fault, passed, orElse, refusedIf, badBit}
+use Rattle.tables.specs.declared.Counts as DC
+use Rattle.tables.specs.Tables.{wires, word, tableOf, tableFault}
+use Rattle.tables.specs.Counted.{countsOf}
 use Rattle.tables.specs.Runs.{randoms}
 use Rattle.tables.specs.Says.{suppliedFault, lentFault}
 use Rattle.tables.proofs.Tests.{and-true}
-use Rattle.tables.proofs.Accept.{inputs-of, outputs-of-length, wires-of}
+use Rattle.tables.proofs.Accept.{inputs-of, gates-of-length, outputs-of-length, wires-of, accepted-few}
 use Rattle.tables.proofs.Bad.{bad-append}
-use Rattle.tables.proofs.Counts.{count-randoms}
+use Rattle.tables.proofs.Total.{count-randoms, count-small}
 
 -- two counts that are right
 pub counts-right : (a n b m : ℕ) → not (eqb a n && eqb b m) ≡ false → (a ≡ n) × (b ≡ m)
@@ -24,24 +26,37 @@ counts-right a n b m h =
     let both = and-true (eqb a n) (eqb b m) (not-false (eqb a n && eqb b m) h) in
     (eqb-true a n (both .0), eqb-true b m (both .1))
 
-module _ (s xs rs : List ℕ) {n m : ℕ} (inputs : n ≡ word s 0) (draws : m ≡ total (ofKind 3) (tableOf s .gates)) where
+-- an accepted table has few random gates
+pub few-randoms :
+    (s : List ℕ) {c : DC.Counts} → passed (tableFault s) ≡ true → c ≡ countsOf (tableOf s .gates) → c .randoms ≤ 65535
+few-randoms s h e =
+    omega (
+      arith,
+      ap (λ (x : DC.Counts). x .randoms) e,
+      count-small 3 (tableOf s .gates),
+      gates-of-length s,
+      accepted-few s h,
+    )
+
+module _ (s xs rs : List ℕ) {n : ℕ} {c : DC.Counts} (inputs : n ≡ word s 0) (counts : c ≡ countsOf (tableOf s .gates)) where
   supplied-is :
       suppliedFault (tableOf s) xs rs
       ≡ orElse
-      (refusedIf (not (eqb (length xs) n && eqb (length rs) m)) 10)
+      (refusedIf (not (eqb (length xs) n && eqb (length rs) (c .randoms))) 10)
       (orElse (badBit 0 xs) (badBit (length xs) rs))
   unfolding suppliedFault
   supplied-is =
       let i : tableOf s .inputs ≡ n = inputs-of s ∙ sym inputs in
-      let d : randoms (tableOf s .gates) ≡ m = sym (draws ∙ count-randoms (tableOf s .gates)) in
+      let d : randoms (tableOf s .gates) ≡ c .randoms =
+      sym (ap (λ (x : DC.Counts). x .randoms) counts ∙ count-randoms (tableOf s .gates)) in
       rw (i, d, bad-append 0 xs rs, zero-add)
 
   pub supplied-wrong :
-      not (eqb (length xs) n && eqb (length rs) m) ≡ true → suppliedFault (tableOf s) xs rs ≡ fault 10 0
+      not (eqb (length xs) n && eqb (length rs) (c .randoms)) ≡ true → suppliedFault (tableOf s) xs rs ≡ fault 10 0
   supplied-wrong e = supplied-is ∙ rw e
 
   pub supplied-bits :
-      not (eqb (length xs) n && eqb (length rs) m) ≡ false
+      not (eqb (length xs) n && eqb (length rs) (c .randoms)) ≡ false
       → suppliedFault (tableOf s) xs rs ≡ orElse (badBit 0 xs) (badBit (length xs) rs)
   supplied-bits e = supplied-is ∙ rw e
 

@@ -77,7 +77,7 @@ fn supplied_fault(table: &[u8], inputs: &[u8], random: &[u8]) -> tables::Refusal
     requires { ⌜ passed (tableFault (now table)) ≡ true ⌝ }
     ensures { λ r. ⌜ Refused (suppliedFault (tableOf (now (table .entry))) (now (inputs .entry)) (now (random .entry))) r ⌝ }
 {
-    let draws = tables::count_kind(table, tables::field(table, 2), 3);
+    let draws = counts::count_kinds(table, tables::field(table, 2)).randoms;
     if !((inputs.len() == tables::field(table, 0)) & (random.len() == draws)) {
         return tables::refuse(10, 0);
     }

@@ -1,7 +1,7 @@
 -- Which of refusals 1 to 8 answers for a plain table and an order, and the sizes where none does.
 -- Assumes nothing.
-use mathlib.Core.Path.{_≡_, refl, sym, subst, _∙_}
-use mathlib.Core.Bool.{Bool, true, false, _||_, not}
+use mathlib.Core.Path.{_≡_, refl, sym, ap, subst, _∙_}
+use mathlib.Core.Bool.{Bool, true, false, _||_, not, cond}
 use mathlib.Core.List.{List}
 use Prim.Native.Nat.{ℕ, zero, suc, _+_, _*_, _≤_, _<_}
 use native.Mathlib.Nat.{mul-le-mul}
@@ -14,13 +14,15 @@ use lib.Seq.{drop-cons}
 use Rattle.tables.specs.declared.Refusal as DR
 use Rattle.tables.specs.Refusals.{Fault, fault, none, passed, orElse, refusedIf}
 use Rattle.tables.specs.Tables.{NOT, XOR, AND, kindOf, noGate, gateOf, Table, wires, word, tableOf}
-use Rattle.tables.specs.Tables.{tableBytes, tableFault, isRandom, randomFault, total, ofKind}
+use Rattle.tables.specs.Tables.{tableBytes, tableFault, isRandom, randomFault}
+use Rattle.tables.specs.Counted.{countsOf}
 use Rattle.tables.specs.Says.{Refused}
 use Rattle.tables.proofs.Tests.{both-passed, not-refused, or-else-assoc}
 use Rattle.tables.proofs.Answers.{refused-is, refused-passed, refused-fails, first-of}
-use Rattle.tables.proofs.Counts.{total-small, total-below}
+use Rattle.tables.proofs.Total.{total-below, count-small}
 use Rattle.tables.proofs.Format.{table-long}
 use Rattle.tables.proofs.Accept.{inputs-of, gates-of-length, outputs-of-length, accepted-few}
+use Rattle.tables.specs.declared.Counts as DC
 use Rattle.sizing.specs.declared.Totals as DT
 use Rattle.sizing.specs.declared.Plan as DP
 use Rattle.sizing.specs.declared.Planned as DN
@@ -29,13 +31,16 @@ use Rattle.masks.specs.Shares.{sharesOf}
 use Rattle.masks.specs.Gadgets.{isw}
 use Rattle.masks.specs.Wires.{cost, draws, maskedTable, tapeLong}
 use Rattle.masks.specs.Says.{orderOk, orderFault, tooMany, plainFault}
-use Rattle.sizing.specs.Plans.{Maskable, TotalsSay, PlanReady, PlanSays, PlanFits, planBytes}
+use Rattle.masks.specs.Counts.{figuresBy, tooManyBy}
+use Rattle.sizing.specs.Plans.{Maskable, FewGates, TotalsSay, Countable, noPlan, planBy, PlannedBy, plannedFault, plannedSizes}
+use Rattle.sizing.specs.Plans.{PlanReady, PlanSays, PlanFits, planBytes}
 use Rattle.masks.proofs.Passed.{PlainPassed, plain-passed}
 use Rattle.masks.proofs.Orders.{order-range}
 use Rattle.masks.proofs.Lawful.{isw-lawful}
 use Rattle.masks.proofs.Placed.{masked-outputs}
 use Rattle.masks.proofs.Costs.{masked-wires, masked-tape}
-use Rattle.masks.proofs.Figures.{cost-small, draws-small, draws-below, total-by-kind}
+use Rattle.masks.proofs.Figures.{cost-small, draws-small, draws-below}
+use Rattle.masks.proofs.Counted.{manyOf, wires-counted, tape-counted, masked-inputs, eight-counted}
 
 -- the search for a random gate, at gate i: what is left of the gates
 pub record Searching (t : Table) (i : ℕ) : Type 0 where
@@ -68,32 +73,53 @@ pub search-end : {t : Table} {i : ℕ} → Searching t i → length (t .gates) �
 unfolding randomFault
 search-end {t} {i} S h = S .rest ∙ rw (drop-of-length-le (t .gates) {i = i} h)
 
--- the gates' totals, by how many there are of each kind
+-- the gates' totals, kind by kind
 pub totals-say :
-    {t : Table} {n nots xors ands of-not of-xor of-and draw : ℕ}
-    → nots ≡ total (ofKind 0) (t .gates) → xors ≡ total (ofKind 1) (t .gates) → ands ≡ total (ofKind 2) (t .gates)
+    {c : DC.Counts} {n of-not of-xor of-and draw : ℕ}
     → of-not ≡ cost NOT n → of-xor ≡ cost XOR n → of-and ≡ cost AND n → draw ≡ draws AND n
-    → TotalsSay t n (record { wires = nots * of-not + xors * of-xor + ands * of-and; draws = ands * draw })
-totals-say {t} {n} a b c d e f h = record {
-  wires = rw (a, b, c, d, e, f) (sym (total-by-kind (λ k. cost k n) refl (λ k. refl) (t .gates)));
-  draws = rw (c, h) (omega (arith, total-by-kind (λ k. draws k n) refl (λ k. refl) (t .gates)));
-}
+    → TotalsSay c n (record { wires = c .nots * of-not + c .xors * of-xor + c .ands * of-and; draws = c .ands * draw })
+totals-say a b d e = record { wires = rw (a, b, d) (omega arith); draws = rw e (omega arith) }
 
-pub few-products : (n v : ℕ) → n ≤ 31 → v ≤ 65535 → n * v ≤ 31 * 65535
-few-products n v h k = mul-le-mul {n₂ = 31} {m₂ = 65535} h k
+-- so many gates, inputs or outputs, times what is at most m
+pub few-times : (c v m : ℕ) → c ≤ 65535 → v ≤ m → c * v ≤ 65535 * m
+few-times c v m h k = mul-le-mul {n₂ = 65535} {m₂ = m} h k
 
--- the totals of an accepted table at n shares
-module _ (s : List ℕ) {n : ℕ} {r : DT.Totals} (h : passed (tableFault s) ≡ true) (few : n ≤ 31)
-    (T : TotalsSay (tableOf s) n r) where
-  pub few-total-wires : r .wires ≤ 3286 * 65535
+-- the totals of counts that a table can have
+module _ {c : DC.Counts} {n : ℕ} {r : DT.Totals} (F : FewGates c) (few : n ≤ 31) (T : TotalsSay c n r) where
+  pub few-total-wires : r .wires ≤ 3 * (65535 * 3286)
   few-total-wires =
-      let most = total-small (λ k. cost k n) 3286 (λ k. cost-small k n few) (tableOf s .gates) in
-      omega (arith, most, T .wires, gates-of-length s, accepted-few s h)
+      omega (
+        arith,
+        T .wires,
+        few-times (c .nots) (cost NOT n) 3286 (F .nots) (cost-small NOT n few),
+        few-times (c .xors) (cost XOR n) 3286 (F .xors) (cost-small XOR n few),
+        few-times (c .ands) (cost AND n) 3286 (F .ands) (cost-small AND n few),
+      )
 
-  pub few-total-draws : r .draws ≤ 465 * 65535
-  few-total-draws =
-      let most = total-small (λ k. draws k n) 465 (λ k. draws-small k n few) (tableOf s .gates) in
-      omega (arith, most, T .draws, gates-of-length s, accepted-few s h)
+  pub few-total-draws : r .draws ≤ 65535 * 465
+  few-total-draws = omega (arith, T .draws, few-times (c .ands) (draws AND n) 465 (F .ands) (draws-small AND n few))
+
+pub few-shares : {s : List ℕ} {o : ℕ} → Maskable s o → sharesOf o ≤ 31
+few-shares {o = o} M = omega (arith, order-range o (M .order) .1)
+
+-- the counts of an accepted table, at an order that 6 accepts
+pub countable :
+    {s : List ℕ} {o i q : ℕ} {c : DC.Counts} → Maskable s o → i < 65536 → q < 65536 → c ≡ countsOf (tableOf s .gates)
+    → Countable o i q c
+countable {s} {o} M hi hq e =
+    let gs = tableOf s .gates in
+    let few = accepted-few s (M .table) in
+    record {
+      order = few-shares M;
+      inputs = omega (arith, hi);
+      outputs = omega (arith, hq);
+      gates = rw e
+          (record {
+            nots = omega (arith, count-small 0 gs, gates-of-length s, few);
+            xors = omega (arith, count-small 1 gs, gates-of-length s, few);
+            ands = omega (arith, count-small 2 gs, gates-of-length s, few);
+          });
+    }
 
 -- an answer that refuses
 pub refuses :
@@ -133,42 +159,34 @@ module _ {s : List ℕ} {o : ℕ} {r : DR.Refusal} (T : passed (tableFault s) �
         plain = both .1;
       }
 
-pub few-shares : {s : List ℕ} {o : ℕ} → Maskable s o → sharesOf o ≤ 31
-few-shares {o = o} M = omega (arith, order-range o (M .order) .1)
+-- 8 or the sizes by the formula, from what the code has computed: n shares, and the gates' totals
+module _ (o i g q : ℕ) {n : ℕ} {c : DC.Counts} {r : DT.Totals} (en : n ≡ sharesOf o) (T : TotalsSay c n r) where
+  all : TotalsSay c (sharesOf o) r
+  all = subst (λ (m : ℕ). TotalsSay c m r) en T
 
--- from what the code has read: n shares, i inputs, q outputs, and the gates' totals
-module _ {s : List ℕ} {o n i q : ℕ} {r : DT.Totals} (M : Maskable s o)
-    (en : n ≡ sharesOf o) (ei : i ≡ word s 0) (eq : q ≡ word s 4) (T : TotalsSay (tableOf s) n r) where
-  plan-wires : wires (maskedTable isw o (tableOf s)) ≡ n * i + r .wires
-  plan-wires = masked-wires isw o (tableOf s) ∙ rw (inputs-of s, ← en, ← ei, T .wires)
+  by-wires : n * i + r .wires ≡ figuresBy o i q c .wires
+  by-wires = λ j. en j * i + all .wires j
 
-  plan-tape : tapeLong isw o (tableOf s) ≡ 2 * o * i + r .draws
-  plan-tape = masked-tape isw-lawful o (tableOf s) ∙ rw (inputs-of s, ← en, ← ei, T .draws)
+  by-many : {b d : Bool} → ltb 65535 (n * i + r .wires) ≡ b → ltb 65535 (n * q) ≡ d → tooManyBy o i q c ≡ (b || d)
+  by-many x y = sym (λ j. ltb 65535 (by-wires j) || ltb 65535 (en j * q)) ∙ (λ j. x j || y j)
 
-  plan-outputs : sharesOf o * length (tableOf s .outputs) ≡ n * q
-  plan-outputs = rw (outputs-of-length s, ← en, ← eq)
+  by-eight : {z : DR.Refusal} → tooManyBy o i q c ≡ true → Refused (fault 8 0) z → PlannedBy o i g q c (Planned.Refused z)
+  by-eight e R = record {
+    fault = (λ j. record { number = R .number j; place = R .place j }) ∙ sym (ap (λ (b : Bool). refusedIf b 8) e);
+    sizes = sym (ap (λ (b : Bool). cond b noPlan (planBy o i g q c)) e);
+  }
 
-  -- the code's tests are those of 8
-  eighth : {b d : Bool} → ltb 65535 (n * i + r .wires) ≡ b → ltb 65535 (n * q) ≡ d → plainFault isw s o ≡ refusedIf (b || d) 8
-  unfolding plainFault
-  eighth x y = rw (M .table, M .order, M .plain, plan-wires, plan-outputs, x, y)
-
-  eight : {z : DR.Refusal} → plainFault isw s o ≡ fault 8 0 → Refused (fault 8 0) z → PlanSays (plainFault isw s o) s o (Planned.Refused z)
-  eight {z} e R = refuses (rw e R) (λ k. let w : _≡_ {A = ℕ} 8 0 = sym (R .number) ∙ k in omega (arith, w))
-
-  pub many-wires :
-      {z : DR.Refusal} → Refused (fault 8 0) z → 65535 < n * i + r .wires
-      → PlanSays (plainFault isw s o) s o (Planned.Refused z)
-  many-wires R h = eight (eighth (lt-ltb 65535 _ h) refl) R
+  pub many-wires : {z : DR.Refusal} → Refused (fault 8 0) z → 65535 < n * i + r .wires → PlannedBy o i g q c (Planned.Refused z)
+  many-wires R h = by-eight (by-many (lt-ltb 65535 _ h) refl) R
 
   pub many-outputs :
       {z : DR.Refusal} → Refused (fault 8 0) z → n * i + r .wires ≤ 65535 → 65535 < n * q
-      → PlanSays (plainFault isw s o) s o (Planned.Refused z)
-  many-outputs R h k = eight (eighth (le-ltb 65535 _ h) (lt-ltb 65535 _ k)) R
+      → PlannedBy o i g q c (Planned.Refused z)
+  many-outputs R h k = by-eight (by-many (le-ltb 65535 _ h) (lt-ltb 65535 _ k)) R
 
   pub plan-ready :
-      {g : ℕ} → g ≡ word s 2 → n * i + r .wires ≤ 65535 → n * q ≤ 65535
-      → PlanSays (plainFault isw s o) s o
+      n * i + r .wires ≤ 65535 → n * q ≤ 65535
+      → PlannedBy o i g q c
       (Planned.Ready
       (record {
         order = o;
@@ -179,22 +197,67 @@ module _ {s : List ℕ} {o n i q : ℕ} {r : DT.Totals} (M : Maskable s o)
         wires = n * i + r .wires;
         tape = 2 * o * i + r .draws;
       }))
-  plan-ready eg h k =
-      let none = eighth (le-ltb 65535 _ h) (le-ltb 65535 _ k) in
+  plan-ready h k =
+      let e = by-many (le-ltb 65535 _ h) (le-ltb 65535 _ k) in
       record {
-        fault = sym none;
-        order = rw none;
-        sizes = λ _.
+        fault = sym (ap (λ (b : Bool). refusedIf b 8) e);
+        sizes = (λ j.
             record {
-              none = none;
-              inputs = ei ∙ sym (inputs-of s);
-              gates = eg ∙ sym (gates-of-length s);
-              outputs = eq ∙ sym (outputs-of-length s);
-              shares = en;
-              wires = sym plan-wires;
-              tape = sym plan-tape;
-            };
+              order = o;
+              inputs = i;
+              gates = g;
+              outputs = q;
+              shares = en j;
+              wires = by-wires j;
+              tape = 2 * o * i + all .draws j;
+            })
+            ∙ sym (ap (λ (b : Bool). cond b noPlan (planBy o i g q c)) e);
       }
+
+-- what was planned by the formula, from the sizes that the table states and its counts, is what the table comes to
+pub planned-counted :
+    {s : List ℕ} {o i g q : ℕ} {c : DC.Counts} {r : DN.Planned} → Maskable s o → i ≡ word s 0 → g ≡ word s 2 → q ≡ word s 4
+    → c ≡ countsOf (tableOf s .gates) → PlannedBy o i g q c r → PlanSays (plainFault isw s o) s o r
+planned-counted {s} {o} {i} {g} {q} {c} {r} M ei eg eq ec P =
+    let t = tableOf s in
+    let inputs : i ≡ t .inputs = ei ∙ sym (inputs-of s) in
+    let gates : g ≡ length (t .gates) = eg ∙ sym (gates-of-length s) in
+    let outputs : q ≡ length (t .outputs) = eq ∙ sym (outputs-of-length s) in
+    let eight = eight-counted isw s o (M .table) (M .order) (M .plain) in
+    by-case (manyOf o t) eight
+    (P .fault ∙ (λ j. refusedIf (tooManyBy o (inputs j) (outputs j) (ec j)) 8))
+    (P .sizes
+    ∙ (λ j. cond (tooManyBy o (inputs j) (outputs j) (ec j)) noPlan (planBy o (inputs j) (gates j) (outputs j) (ec j))))
+  where
+    whole : DP.Plan
+    whole = planBy o (tableOf s .inputs) (length (tableOf s .gates)) (length (tableOf s .outputs)) (countsOf (tableOf s .gates))
+
+    by-case :
+        (b : Bool) → plainFault isw s o ≡ refusedIf b 8 → plannedFault r ≡ refusedIf b 8 → plannedSizes r ≡ cond b noPlan whole
+        → PlanSays (plainFault isw s o) s o r
+    by-case true e f z =
+        subst (λ (x : Fault). PlanSays x s o r) (sym e)
+        (record {
+          fault = f;
+          order = ap (λ (p : DP.Plan). p .order) z;
+          sizes = λ h. let no : _≡_ {A = ℕ} 0 1 = cc in absurd (omega (arith, no));
+        })
+    by-case false e f z =
+        subst (λ (x : Fault). PlanSays x s o r) (sym e)
+        (record {
+          fault = f;
+          order = ap (λ (p : DP.Plan). p .order) z;
+          sizes = λ h. subst (λ (p : DP.Plan). PlanReady s p) (sym z)
+              (record {
+                none = e;
+                inputs = refl;
+                gates = refl;
+                outputs = refl;
+                shares = refl;
+                wires = sym (wires-counted isw o (tableOf s));
+                tape = sym (tape-counted isw o (tableOf s) isw-lawful);
+              });
+        })
 
 -- what an answer says, by its case
 pub planned-as :
@@ -231,17 +294,13 @@ tape-below o t =
       total-below (λ k. draws k (sharesOf o)) (λ k. cost k (sharesOf o)) (λ k. draws-below k (sharesOf o)) (t .gates),
     )
 
-masked-inputs : (o : ℕ) (t : Table) → maskedTable isw o t .inputs ≡ sharesOf o * t .inputs
-unfolding maskedTable
-masked-inputs o t = refl
-
 -- what holds of a plan
 module _ {s : List ℕ} {p : DP.Plan} (R : PlanReady s p) where
   pub plan-passed : PlainPassed isw s (p .order)
   plan-passed = plain-passed isw s (p .order) (rw (R .none))
 
   pub plan-inputs : p .shares * p .inputs ≡ maskedTable isw (p .order) (tableOf s) .inputs
-  plan-inputs = rw (R .shares, R .inputs) (sym (masked-inputs (p .order) (tableOf s)))
+  plan-inputs = rw (R .shares, R .inputs) (sym (masked-inputs isw (p .order) (tableOf s)))
 
   few-outputs : p .shares * p .outputs ≡ sharesOf (p .order) * length (tableOf s .outputs)
   few-outputs = rw (R .shares, R .outputs)

@@ -1,12 +1,13 @@
 // What a plain table and an order come to: refusals 1 to 8, or the sizes of the masked table.
 ghost use mathlib.Core.Path.{_≡_};
 ghost use Prim.Native.Nat.{_≤_};
-ghost use Rattle.tables.specs.Tables.{tableOf, randomFault};
+ghost use Rattle.tables.specs.Tables.{tableOf, randomFault, total};
+ghost use Rattle.tables.specs.Counted.{ofKind};
 ghost use Rattle.tables.specs.Says.{Refused};
 ghost use Rattle.tables.specs.Inside.{HasGates};
 ghost use Rattle.masks.specs.Gadgets.{isw};
 ghost use Rattle.masks.specs.Says.{plainFault};
-ghost use Rattle.sizing.specs.Plans.{TotalsSay, Maskable, PlanSays, PlanFits, planBytes};
+ghost use Rattle.sizing.specs.Plans.{FewGates, TotalsSay, Countable, PlannedBy, PlanSays, PlanFits, planBytes};
 
 // The order and the sizes of a plain table that 1 to 8 accept at it, and its masked table's wires and tape bits.
 pub struct Plan {
@@ -31,12 +32,12 @@ struct Totals {
     draws: usize,
 }
 
-// Refusal 7 at the first random gate, or no refusal.
-fn random_fault(table: &[u8], gates: usize) -> tables::Refusal
-    requires { ⌜ HasGates (now table) gates ⌝ }
+// Refusal 7 at the first random gate, or no refusal, where so many gates are random.
+fn random_fault(table: &[u8], gates: usize, randoms: usize) -> tables::Refusal
+    requires { ⌜ HasGates (now table) gates × (randoms ≡ total (ofKind 3) (tableOf (now table) .gates)) ⌝ }
     ensures { λ r. ⌜ Refused (randomFault 0 (tableOf (now (table .entry)) .gates)) r ⌝ }
 {
-    if tables::count_kind(table, gates, 3) == 0 {
+    if randoms == 0 {
         return tables::refuse(0, 0);
     }
     let mut g = 0;
@@ -50,33 +51,34 @@ fn random_fault(table: &[u8], gates: usize) -> tables::Refusal
     tables::refuse(0, 0)
 }
 
-// What the gates of a plain table cost and draw at n shares.
-fn gate_totals(table: &[u8], gates: usize, n: usize) -> Totals
-    requires { ⌜ HasGates (now table) gates × (n ≤ 31) ⌝ }
-    ensures { λ r. ⌜ TotalsSay (tableOf (now (table .entry))) n r ⌝ }
+// What so many gates of each kind cost and draw at n shares.
+fn gate_totals(counts: tables::Counts, n: usize) -> Totals
+    requires { ⌜ FewGates counts × (n ≤ 31) ⌝ }
+    ensures { λ r. ⌜ TotalsSay counts n r ⌝ }
 {
-    let nots = tables::count_kind(table, gates, 0);
-    let xors = tables::count_kind(table, gates, 1);
-    let ands = tables::count_kind(table, gates, 2);
+    let ands = counts.ands;
     Totals {
-        wires: nots * masks::gate_cost(0, n)
-            + xors * masks::gate_cost(1, n)
+        wires: counts.nots * masks::gate_cost(0, n)
+            + counts.xors * masks::gate_cost(1, n)
             + ands * masks::gate_cost(2, n),
         draws: ands * masks::gate_draws(2, n),
     }
 }
 
-// 8, or the sizes, for a table and an order that 1 to 7 accept.
-fn plan_sizes(table: &[u8], order: u8) -> Planned
-    requires { ⌜ Maskable (now table) order ⌝ }
-    ensures { λ r. ⌜ PlanSays (plainFault isw (now (table .entry)) order) (now (table .entry)) order r ⌝ }
+// 8, or the sizes, by the formula: from the order, the stated sizes and the gates of each kind alone.
+fn plan_sizes(
+    order: u8,
+    inputs: usize,
+    gates: usize,
+    outputs: usize,
+    counts: tables::Counts,
+) -> Planned
+    requires { ⌜ Countable order inputs outputs counts ⌝ }
+    ensures { λ r. ⌜ PlannedBy order inputs gates outputs counts r ⌝ }
 {
-    let inputs = tables::field(table, 0);
-    let gates = tables::field(table, 2);
-    let outputs = tables::field(table, 4);
     let order = order as usize;
     let shares = 2 * order + 1;
-    let all = gate_totals(table, gates, shares);
+    let all = gate_totals(counts, shares);
     let wires = shares * inputs + all.wires;
     if wires > 65535 {
         return Planned::Refused(tables::refuse(8, 0));
@@ -103,13 +105,16 @@ pub fn plan_table(table: &[u8], order: u8) -> Planned
     if found.number != 0 {
         return Planned::Refused(found);
     }
+    let inputs = tables::field(table, 0);
     let gates = tables::field(table, 2);
-    let random = random_fault(table, gates);
+    let outputs = tables::field(table, 4);
+    let counts = counts::count_kinds(table, gates);
+    let random = random_fault(table, gates, counts.randoms);
     let first = tables::first_of(masks::order_fault(order), random);
     if first.number != 0 {
         return Planned::Refused(first);
     }
-    plan_sizes(table, order)
+    plan_sizes(order, inputs, gates, outputs, counts)
 }
 
 // How many bytes the masked table of a plan has.

@@ -8,7 +8,7 @@ pub mod Put
 pub mod Ran
 pub mod Bad
 pub mod Loops
-pub mod Counts
+pub mod Total
 pub mod Answers
 pub mod RunFault
 pub mod Cut

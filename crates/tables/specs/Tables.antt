@@ -193,11 +193,3 @@ randomFault i (g ∷ gs) = cond (isRandom (g .kind)) (fault 7 i) (randomFault (s
 unfoldable pub total : (Kind → ℕ) → List Gate → ℕ
 total f [] = 0
 total f (g ∷ gs) = f (g .kind) + total f gs
-
--- 1 for the kind with byte b, 0 to 3, and 0 for every other: its total counts the gates of a kind
-abbrev pub ofKind : ℕ → Kind → ℕ
-ofKind b NOT = cond (eqb b 0) 1 0
-ofKind b XOR = cond (eqb b 1) 1 0
-ofKind b AND = cond (eqb b 2) 1 0
-ofKind b RANDOM = cond (eqb b 3) 1 0
-ofKind b (UNKNOWN k) = 0

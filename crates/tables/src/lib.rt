@@ -3,7 +3,8 @@ ghost use mathlib.Core.Path.{_≡_};
 ghost use Prim.Native.Nat.{_+_, _≤_, _<_};
 ghost use lib.ListN.{length, getD};
 ghost use Rattle.tables.specs.Refusals.{Fault, fault, orElse, refusedIf};
-ghost use Rattle.tables.specs.Tables.{kindOf, gateOf, word, two, tableOf, total, ofKind};
+ghost use Rattle.tables.specs.Tables.{kindOf, gateOf, word, two, tableOf};
+ghost use Rattle.tables.specs.Counted.{ofKind};
 ghost use Rattle.tables.specs.Says.{Refused};
 ghost use Rattle.tables.specs.Inside.{putAt, HasGates, HasOutputs, GateIs};
 
@@ -29,6 +30,14 @@ pub struct GateFields {
     pub kind: u8,
     pub left: usize,
     pub right: usize,
+}
+
+// How many gates there are of each kind.
+pub struct Counts {
+    pub nots: usize,
+    pub xors: usize,
+    pub ands: usize,
+    pub randoms: usize,
 }
 
 // A refusal by its number and place, or none where both are 0.
@@ -136,7 +145,7 @@ pub fn output_at(table: &[u8], gates: usize, outputs: usize, o: usize) -> usize
 }
 
 // 1 where a byte is a kind, else 0: a number, so that a sum over kinds needs no branch.
-pub fn is_kind(byte: u8, kind: u8) -> u32
+pub fn is_kind(byte: u8, kind: u8) -> u8
     requires { ⌜ kind ≤ 3 ⌝ }
     ensures { λ r. ⌜ (r ≡ ofKind kind (kindOf byte)) × (r ≤ 1) ⌝ }
 {
@@ -144,19 +153,4 @@ pub fn is_kind(byte: u8, kind: u8) -> u32
         return 1;
     }
     0
-}
-
-// How many gates of a table are of a kind.
-pub fn count_kind(table: &[u8], gates: usize, kind: u8) -> usize
-    requires { ⌜ HasGates (now table) gates × (kind ≤ 3) ⌝ }
-    ensures { λ r. ⌜ (r ≡ total (ofKind kind) (tableOf (now (table .entry)) .gates)) × (r ≤ gates) ⌝ }
-{
-    let mut count: u32 = 0;
-    let mut g = 0;
-    while g < gates {
-        let x = gate_at(table, gates, g);
-        count += is_kind(x.kind, kind);
-        g += 1;
-    }
-    count as usize
 }

@@ -78,7 +78,7 @@ returns c =
     let n = s .args .n in
     rw (c .before .before .is-kind .ensures .0, c .before .is-kind2 .ensures .0, c .is-kind3 .ensures .0)
     (rw (c .before .before .before .pair-count .ensures)
-    (omega (arith, by-kind (λ k. cost k n) refl (λ k. refl) (kindOf (s .args .kind)))))
+    (omega (arith, by-kind (λ k. cost k n) (λ k. refl) (kindOf (s .args .kind)))))
 
 pub gate-cost-spec : {M : Type 1} → statement M
 gate-cost-spec =

@@ -1,7 +1,7 @@
 -- `tables::is_kind` meets its contract: one law for each way the test ends.
 -- Assumes nothing.
 use native.Mathlib.Omega.{arith}
-use Rattle.tables.proofs.Counts.{kind-same, kind-other}
+use Rattle.tables.proofs.Total.{kind-same, kind-other}
 use Rattle.tables.proofs.is_kind.Statement.{statement}
 use Rattle.tables.proofs.is_kind.Tie as tie
 

@@ -1,16 +1,18 @@
 -- Totals over the gates: counting the gates of a kind, and figures that are the kinds' own.
 -- Assumes nothing.
 use mathlib.Core.Path.{_≡_, refl, ap}
-use mathlib.Core.Bool.{false}
+use mathlib.Core.Bool.{Bool, true, false, cond}
 use mathlib.Core.List.{List, [], _∷_}
 use Prim.Native.Nat.{ℕ, zero, suc, _+_, _*_, _≤_, _<_}
 use native.Mathlib.Omega.{arith}
-use lib.ListN.{length, drop, drop-of-length-le}
+use lib.Dec.{eqb}
+use lib.ListN.{length, getD, take, drop, drop-of-length-le}
 use lib.Seq.{drop-cons}
 use borrow.Author.Tests.{ne-eqb}
 use Rattle.tables.specs.Refusals.{none}
 use Rattle.tables.specs.Tables.{Kind, NOT, XOR, AND, RANDOM, UNKNOWN, kindOf, Gate, noGate, Table, gateOf}
-use Rattle.tables.specs.Tables.{isRandom, randomFault, total, ofKind}
+use Rattle.tables.specs.Tables.{isRandom, randomFault, total}
+use Rattle.tables.specs.Counted.{ofKind}
 use Rattle.tables.specs.Runs.{drawn, randoms}
 
 -- a byte that is a kind, and one that is not
@@ -39,24 +41,14 @@ pub total-none : (f : Kind → ℕ) (t : Table) (i : ℕ) → length (t .gates) 
 unfolding total
 total-none f t i h = ap {A = List Gate} {B = ℕ} (total f) (drop-of-length-le (t .gates) {i = i} h)
 
--- before gate i: the count so far and that of the gates left make the whole
-pub record Counting (b : ℕ) (t : Table) (i c : ℕ) : Type 0 where
-  pub few : c ≤ i
-  pub sum : c + total (ofKind b) (drop i (t .gates)) ≡ total (ofKind b) (t .gates)
-
-pub counting-start : (b : ℕ) (t : Table) → Counting b t 0 0
-counting-start b t = record { few = omega arith; sum = omega arith }
-
-module _ {b : ℕ} {t : Table} {i c : ℕ} (C : Counting b t i c) where
-  pub counting-turn :
-      {v : ℕ} → i < length (t .gates) → v ≡ ofKind b (gateOf t i .kind) → v ≤ 1 → Counting b t (suc i) (c + v)
-  counting-turn h e few = record {
-    few = omega (arith, C .few);
-    sum = omega (arith, C .sum, total-next (ofKind b) t i h, e);
-  }
-
-  pub counting-end : length (t .gates) ≤ i → c ≡ total (ofKind b) (t .gates)
-  counting-end h = omega (arith, C .sum, total-none (ofKind b) t i h)
+-- the total of the gates before number i, and of one more
+pub total-take :
+    (f : Kind → ℕ) (gs : List Gate) (i : ℕ) → i < length gs
+    → total f (take (suc i) gs) ≡ total f (take i gs) + f (getD gs i noGate .kind)
+unfolding total
+total-take f [] i h = absurd (omega arith)
+total-take f (g ∷ gs) zero h = omega arith
+total-take f (g ∷ gs) (suc i) h = omega (arith, total-take f gs i (omega arith))
 
 -- totals of figures that are equal, or bounded, kind by kind
 pub total-same : (f g : Kind → ℕ) → ((k : Kind) → f k ≡ g k) → (gs : List Gate) → total f gs ≡ total g gs
@@ -101,3 +93,18 @@ count-plain i (g ∷ gs) e =
     not-random AND h = refl
     not-random RANDOM h = absurd (omega (arith, h))
     not-random (UNKNOWN k) h = refl
+
+-- no kind has more gates than there are
+pub count-small : (b : ℕ) (gs : List Gate) → total (ofKind b) gs ≤ length gs
+count-small b gs = omega (arith, total-small (ofKind b) 1 at-most-one gs)
+  where
+    one : (t : Bool) → cond t 1 0 ≤ 1
+    one true = omega arith
+    one false = omega arith
+
+    at-most-one : (k : Kind) → ofKind b k ≤ 1
+    at-most-one NOT = one (eqb b 0)
+    at-most-one XOR = one (eqb b 1)
+    at-most-one AND = one (eqb b 2)
+    at-most-one RANDOM = one (eqb b 3)
+    at-most-one (UNKNOWN k) = omega arith

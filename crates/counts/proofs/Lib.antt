@@ -1,0 +1,2 @@
+-- Laws that the proofs of counts cite.
+mod Counting
