@@ -9,13 +9,19 @@ const ABOUT: &str = "\
 Microseconds a call, the median of many: this library's, then those of the separate implementation
 in Rust. A ratio above 1.00 is marked. Copy is the time of copying the bytes that the call reads and
 writes, as the limit to compare with. Wires are those of the masked table, in encode and decode the
-share bits. Growth is the time for each wire at the largest size against the smallest. An AND takes
-24, 75, 750 and 3,286 wires at order 1, 2, 7 and 15: at 15 the smallest tables have none.";
+share bits, in the last three calls those of the plain table. Growth is the time for each wire at
+the largest size against the smallest. An AND takes 24, 75, 750 and 3,286 wires at order 1, 2, 7 and
+15: at 15 the smallest tables have none.";
 
-/// The call of a row that compares the library's map with two of its runs.
+/// The calls of rows that compare two of the library's own calls.
 pub const MAP_AGAINST_RUNS: &str = "map / 2 runs";
-/// A map may cost so many times two runs of the masked table.
-const MAP_GOAL: f64 = 3.0;
+pub const FORECAST_AGAINST_CHECK: &str = "forecast / check";
+
+/// What such a row should not exceed, and how its largest ratio is told.
+const OWN: [(&str, f64, &str, &str); 2] = [
+    (MAP_AGAINST_RUNS, 3.0, "A map", "two runs of the masked table"),
+    (FORECAST_AGAINST_CHECK, 1.2, "A forecast", "a check of the same table"),
+];
 
 /// One call at one size; no order for a call that takes none.
 #[derive(Clone, PartialEq)]
@@ -50,9 +56,14 @@ impl Row {
         self.call.contains(',')
     }
 
+    /// Whether both sides are the library's.
+    fn is_own(&self) -> bool {
+        OWN.iter().any(|own| own.0 == self.call)
+    }
+
     /// The ratio that a row should not exceed.
     fn goal(&self) -> f64 {
-        if self.call == MAP_AGAINST_RUNS { MAP_GOAL } else { 1.0 }
+        OWN.iter().find(|own| own.0 == self.call).map_or(1.0, |own| own.1)
     }
 }
 
@@ -121,8 +132,8 @@ pub fn print(rows: &[Row], layouts: usize) {
     println!(
         "Each time is the median over {layouts} places in memory to which the code was linked.\n"
     );
-    println!("call          order  wires      ours      Rust      copy  ratio  growth");
-    let (mut above, mut largest_growth, mut map_ratio) = (0, 0_f64, None);
+    println!("call             order  wires      ours      Rust      copy  ratio  growth");
+    let (mut above, mut largest_growth) = (0, 0_f64);
     for (at, row) in rows.iter().enumerate() {
         let before = at.checked_sub(1).map(|before| &rows[before]);
         if before.is_some_and(|b| b.call != row.call && !(b.is_largest() && row.is_largest())) {
@@ -130,26 +141,27 @@ pub fn print(rows: &[Row], layouts: usize) {
         }
         let growth = growth(rows, at);
         largest_growth = largest_growth.max(growth.unwrap_or(0.0));
-        if row.call == MAP_AGAINST_RUNS {
-            map_ratio = Some(map_ratio.map_or(row.ratio(), |most: f64| most.max(row.ratio())));
-        } else if row.ratio() > 1.0 {
+        if !row.is_own() && row.ratio() > 1.0 {
             above += 1;
         }
         println!("{}", text(row, growth));
     }
-    let ratios = rows.iter().filter(|row| row.call != MAP_AGAINST_RUNS).count();
+    let ratios = rows.iter().filter(|row| !row.is_own()).count();
     println!(
         "\n{above} of {ratios} ratios are above 1.00. The largest growth is {largest_growth:.2}."
     );
-    if let Some(ratio) = map_ratio {
-        println!("A map costs at most {ratio:.2} times two runs of the masked table (goal: 3).");
+    for (call, goal, one, other) in OWN {
+        let ratios = rows.iter().filter(|row| row.call == call).map(Row::ratio);
+        if let Some(most) = ratios.reduce(f64::max) {
+            println!("{one} costs at most {most:.2} times {other} (goal: {goal}).");
+        }
     }
 }
 
 /// The growth of a call, at its largest size, from its smallest, which comes two rows before.
 fn growth(rows: &[Row], at: usize) -> Option<f64> {
     let (small, large) = (&rows[at.checked_sub(2)?], &rows[at]);
-    let grows = small.same_call(large) && large.call != MAP_AGAINST_RUNS;
+    let grows = small.same_call(large) && !large.is_own();
     grows.then(|| large.a_wire() / small.a_wire())
 }
 
@@ -162,7 +174,7 @@ fn text(row: &Row, growth: Option<f64>) -> String {
     let mark =
         if ratio > row.goal() { format!("<-- above {:.2}", row.goal()) } else { String::new() };
     let text = format!(
-        "{call:<13} {order:>5} {wires:>6} {ours:>9.2} {theirs:>9.2} {copy:>9.3} {ratio:>6.2} \
+        "{call:<16} {order:>5} {wires:>6} {ours:>9.2} {theirs:>9.2} {copy:>9.3} {ratio:>6.2} \
          {growth:>7} {mark}"
     );
     text.trim_end().to_string()

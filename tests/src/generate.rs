@@ -161,18 +161,24 @@ struct Plain {
     inputs: usize,
 }
 
-/// Once in `rarity`, the sizes are near a limit.
+/// Once in `rarity`, the sizes are near a limit, and once there are some hundred gates.
 fn plain(rng: &mut Rng, flaws: &Flaws, rarity: usize) -> Plain {
     let order = sound_order(rng);
-    let circuit = if rng.once_in(rarity) {
-        near_limit(rng, order)
-    } else {
-        let most_gates = match order {
-            1..4 => 10,
-            4..8 => 5,
-            _ => 3,
-        };
-        small_circuit(rng, most_gates, &[NOT, XOR, AND])
+    let circuit = match rng.below(rarity) {
+        0 => near_limit(rng, order),
+        1 => {
+            let gates = rng.within(100, 1_000);
+            let kinds: Vec<u8> = (0..gates).map(|_| rng.pick(&[NOT, XOR, AND])).collect();
+            circuit(rng, 3, &kinds, 3)
+        }
+        _ => {
+            let most_gates = match order {
+                1..4 => 10,
+                4..8 => 5,
+                _ => 3,
+            };
+            small_circuit(rng, most_gates, &[NOT, XOR, AND])
+        }
     };
     let table = table(rng, &circuit, flaws);
     let sizes = model::forecast(&table, order)
@@ -281,7 +287,7 @@ fn small_circuit(rng: &mut Rng, most_gates: usize, kinds: &[u8]) -> Circuit {
 }
 
 /// A sound circuit of given sizes and kinds; late wires are taken more often.
-fn circuit(rng: &mut Rng, inputs: usize, kinds: &[u8], outputs: usize) -> Circuit {
+pub fn circuit(rng: &mut Rng, inputs: usize, kinds: &[u8], outputs: usize) -> Circuit {
     fn earlier(rng: &mut Rng, wires: usize) -> u16 {
         let wire =
             if rng.once_in(2) { rng.below(wires) } else { wires - 1 - rng.below(wires.min(4)) };
@@ -353,9 +359,7 @@ fn near_limit(rng: &mut Rng, order: u8) -> Circuit {
             let xors = (rest / n).saturating_sub(rng.below(3));
             rest -= xors * n;
             let mut kinds = [vec![AND; ands], vec![XOR; xors], vec![NOT; rest]].concat();
-            for at in (1..kinds.len()).rev() {
-                kinds.swap(at, rng.below(at + 1));
-            }
+            rng.shuffle(&mut kinds);
             circuit(rng, inputs, &kinds, 2)
         }
     }

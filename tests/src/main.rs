@@ -22,7 +22,7 @@ use std::{env, fs};
 use compare::case::{Call, Case};
 use compare::compare::{Tally, compare};
 use compare::masks::{Model, Outcome};
-use compare::properties::check_mapping;
+use compare::properties::{check_counts, check_mapping};
 use compare::rng::Rng;
 use compare::{examples, exhaustive, generate, model, sampled};
 
@@ -149,11 +149,15 @@ fn compare_generated(
     Ok(())
 }
 
-/// Compares one case, and looks closer at an accepted map.
+/// Compares one case, and looks closer at an accepted map and at a forecast that 1 to 7 let pass.
 fn compare_case(case: &Case) -> Result<Outcome, String> {
     let (outcome, buffers) = compare(case, &Model, &Archive)?;
-    if let (Case::Map(map), 0) = (case, outcome.number) {
-        check_mapping(&Archive, map, outcome.values[0], &buffers)?;
+    match (case, outcome.number) {
+        (Case::Map(map), 0) => check_mapping(&Archive, map, outcome.values[0], &buffers)?,
+        (Case::Forecast { table, order }, 0 | 8) => {
+            check_counts(&Archive, table, *order, outcome)?;
+        }
+        _ => {}
     }
     Ok(outcome)
 }

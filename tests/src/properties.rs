@@ -1,7 +1,12 @@
-//! What must hold of an accepted map, told from the outputs of one implementation alone.
+//! What must hold of an accepted map, and of a forecast, told from the outputs of one implementation
+//! alone.
 
 use crate::case::{Lent, MapCase};
+use crate::circuit::Circuit;
+use crate::generate::circuit;
 use crate::masks::{Masks, Outcome};
+use crate::model::{AND, MOST, NOT, XOR};
+use crate::rng::Rng;
 
 fn ensure(holds: bool, what: &str) -> Result<(), String> {
     if holds { Ok(()) } else { Err(what.into()) }
@@ -88,4 +93,45 @@ fn check_run(
     let outcome = masks.run(&case.table, secrets, &[], &mut values, &mut plain_outputs);
     ensure(outcome.number == 0, "running refuses the plain table")?;
     ensure(decoded == plain_outputs, "the outputs do not decode to those of the plain table")
+}
+
+/// Checks what was forecast of a table that 1 to 7 accept against the counts of its gates: it is
+/// what they come to, and another table of the same counts, with its gates in another order and
+/// other operands and outputs, has the same forecast.
+pub fn check_counts(
+    masks: &impl Masks,
+    table: &[u8],
+    order: u8,
+    forecast: Outcome,
+) -> Result<(), String> {
+    let Circuit { inputs, gates, outputs } = Circuit::read(table);
+    let (inputs, outputs) = (usize::from(inputs), outputs.len());
+    let mut kinds: Vec<u8> = gates.iter().map(|gate| gate.0).collect();
+    let counts = [NOT, XOR, AND].map(|kind| kinds.iter().filter(|&&other| other == kind).count());
+    ensure(
+        forecast == by_counts(order, inputs, outputs, counts),
+        "the forecast is not what the counts come to",
+    )?;
+    let mut rng = Rng::new(table.iter().map(|&byte| u64::from(byte)).sum());
+    rng.shuffle(&mut kinds);
+    let other = circuit(&mut rng, inputs, &kinds, outputs).bytes();
+    ensure(
+        forecast == masks.forecast(&other, order),
+        "a table of the same counts has another forecast",
+    )
+}
+
+/// The four figures, or 8, from the order, the inputs, the outputs and the NOTs, XORs and ANDs.
+fn by_counts(order: u8, inputs: usize, outputs: usize, counts: [usize; 3]) -> Outcome {
+    let t = usize::from(order);
+    let n = 2 * t + 1;
+    let pairs = n * (n - 1) / 2;
+    let [nots, xors, ands] = counts;
+    let gates = nots + xors * n + ands * (n * n + 5 * pairs);
+    let wires = n * inputs + gates;
+    if wires > MOST || n * outputs > MOST {
+        return Outcome::refused(8, 0);
+    }
+    let figures = [n, wires, 2 * t * inputs + ands * pairs, 6 + 5 * gates + 2 * n * outputs];
+    Outcome::accepted(figures.map(|figure| figure as u32))
 }

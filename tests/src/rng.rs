@@ -36,6 +36,13 @@ impl Rng {
         choices[self.below(choices.len())]
     }
 
+    /// Puts the items into another order.
+    pub fn shuffle<T>(&mut self, items: &mut [T]) {
+        for last in (1..items.len()).rev() {
+            items.swap(last, self.below(last + 1));
+        }
+    }
+
     /// So many bits, one byte each.
     pub fn bits(&mut self, count: usize) -> Vec<u8> {
         let mut bits = Vec::with_capacity(count);
