@@ -74,7 +74,8 @@ struct masks_marks {
 /* Checks a gate table. Value: its wires. Refusals 1 to 5. Stack: under 1 KiB. */
 struct masks_answer masks_check(const uint8_t *table, size_t table_len);
 
-/* The sizes of the table that masking writes. Refusals 1 to 8. Stack: under 1 KiB. */
+/* The sizes of the table that masking writes: the order, the numbers of inputs and outputs and the number of gates of each kind
+ * alone decide them. Refusals 1 to 8. Stack: under 1 KiB. */
 struct masks_sizes masks_forecast(const uint8_t *table, size_t table_len, uint8_t order);
 
 /* Masks a plain table at an order. Value: the bytes written to out. Refusals 1 to 9. Stack: under 400 KiB. */
