@@ -1,2 +1,3 @@
 -- Laws that the proofs of reading bits cite.
 mod Scan
+mod Spare

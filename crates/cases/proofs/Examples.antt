@@ -12,11 +12,12 @@ use Rattle.tables.specs.Refusals.{fault, badBit}
 use Rattle.tables.specs.Tables.{tableOf, tableFault, gatesFrom, wordsFrom, gatesFault, outputsFault, randomFault, total}
 use Rattle.tables.specs.Tables.{kindBytes, pairBytes, wordBytes, tableBytes}
 use Rattle.tables.specs.Runs.{run, runFrom, readAll}
+use Rattle.tables.specs.Packing.{numberOf, digitsOf, packFrom, packed, unpacked, tapeOf, spare, spareFault}
 use Rattle.masks.specs.Shares.{upFrom, inTurn, pairsFrom, tri, pairAt, row}
 use Rattle.masks.specs.Wires.{adding, andWires, inputOrigins, masked}
 use Rattle.masks.specs.Wires.{sharesAfter, outputShares, maskedTable, origins, tapeLong}
 use Rattle.masks.specs.Codes.{xorAll, encode, decodeFrom, decode, maskedRun}
-use Rattle.masks.specs.Says.{plainFault}
+use Rattle.masks.specs.Says.{plainFault, encodeFault}
 use Rattle.text.specs.Text.{digits, lineOf}
 use Rattle.forecasting.specs.Lines.{lineFault, forecastLine}
 use Rattle.maps.specs.Maps.{ofEach, freeFrom, freeShare, flipped, inputFlips, mapGates, mappedAt}
@@ -36,7 +37,8 @@ unfolding badBit tableOf tableFault gatesFrom wordsFrom gatesFault outputsFault 
     wordBytes tableBytes run runFrom readAll total upFrom inTurn pairsFrom tri pairAt row adding andWires
     inputOrigins masked sharesAfter outputShares maskedTable origins tapeLong xorAll encode decodeFrom decode
     maskedRun plainFault digits lineOf lineFault forecastLine ofEach freeFrom freeShare flipped inputFlips
-    mapGates mappedAt badProbe supplyFault probesFault roomFault mapFault
+    mapGates mappedAt badProbe supplyFault probesFault roomFault mapFault numberOf digitsOf packFrom packed unpacked
+    tapeOf spare spareFault encodeFault
 m-cases =
     record {
       cost-at-1 = refl;
@@ -71,4 +73,17 @@ m-cases =
       outputs-no-gates = refl;
       not-gates = refl;
       not-outputs = refl;
+      packed-tape = refl;
+      unpacked-tape = refl;
+      encoder-part = refl;
+      run-part = refl;
+      packed-run-outputs = refl;
+      packed-7 = refl;
+      packed-29 = refl;
+      packed-outputs-29 = refl;
+      packed-equal-secrets = refl;
+      two-bytes = refl;
+      no-byte = refl;
+      unused-bit = refl;
+      whole-tape-encoded = refl;
     }

@@ -1,21 +1,23 @@
 -- The M cases of document 01, "Table of examples", as one table of statements about the definitions, with the costs of an AND,
--- the forecast line, the table without gates and a masked NOT.
+-- the forecast line, the table without gates and a masked NOT; and those with tapes in packed form too (Card 4).
 -- Assumes nothing.
 use mathlib.Core.Path.{_≡_}
 use mathlib.Core.List.{List, [], _∷_}
 use Prim.Native.Nat.{ℕ, _-_}
-use lib.ListN.{getD}
+use lib.ListN.{getD, take, drop}
 use Rattle.tables.specs.Refusals.{Fault, none, fault}
 use Rattle.tables.specs.Tables.{gate, NOT, XOR, AND, RANDOM, Table, tableOf, tableFault}
 use Rattle.tables.specs.Runs.{outputsOf}
+use Rattle.tables.specs.Packing.{packed, tapeOf}
 use Rattle.masks.specs.Shares.{sharesOf, tri}
 use Rattle.masks.specs.Gadgets.{isw}
 use Rattle.masks.specs.Wires.{marks, cost, maskedTable}
 use Rattle.masks.specs.Codes.{decode, maskedRun}
-use Rattle.masks.specs.Says.{plainFault}
+use Rattle.masks.specs.Says.{plainFault, encodeFault}
 use Rattle.forecasting.specs.Lines.{forecastLine}
 use Rattle.maps.specs.Maps.{freeShare, mapped}
 use Rattle.maps.specs.Says.{mapFault}
+use Rattle.maps.specs.Packed.{packedRun, packedMap}
 
 -- "02 00 01 00 01 00, 02, 00 00 01 00, 02 00": two inputs, one AND of them, output
 abbrev pub andBytes : List ℕ
@@ -52,9 +54,23 @@ sharesOut xs ts = outputsOf (maskedTable isw 1 theAnd) (valuesOf xs ts)
 abbrev pub tapeTo : List ℕ → List ℕ → List ℕ
 tapeTo ys ps = mapped isw (marks isw) 1 theAnd secrets ys tape ps
 
--- mapping with the order 1 and the probes ps, into buffers of just the right length
+-- "The tape 1 0 0 1 1 0 1 becomes the byte 59 in hexadecimal"
+abbrev pub tapeByte : List ℕ
+tapeByte = 89 ∷ []
+
+-- the same of packed tapes
+abbrev pub packedOut : List ℕ → List ℕ → List ℕ
+packedOut xs s = outputsOf (maskedTable isw 1 theAnd) (packedRun isw 1 theAnd xs s)
+
+abbrev pub packedTo : List ℕ → List ℕ → List ℕ
+packedTo ys ps = packedMap isw (marks isw) 1 theAnd secrets ys tapeByte ps
+
+-- mapping with the order 1, a packed tape and the probes ps, into buffers of just the right length
+abbrev pub mappedFault : List ℕ → List ℕ → Fault
+mappedFault s ps = mapFault isw andBytes 1 secrets toSecrets s ps 1 30 30
+
 abbrev pub probed : List ℕ → Fault
-probed ps = mapFault isw andBytes 1 secrets toSecrets tape ps 7 30 30
+probed ps = mappedFault tapeByte ps
 
 pub record MCases : Type 0 where
   -- "An AND costs n² + 5n(n−1)/2 wires, of which n(n−1)/2 are random: 24 and 3 at t = 1; 75 and 10 at t = 2; 3,286 and
@@ -114,3 +130,20 @@ pub record MCases : Type 0 where
   -- "NOT: one new wire, the NOT of share 1. Shares 2 to n are the operand's wires"
   pub not-gates : maskedTable isw 1 theNot .gates ≡ gate NOT 0 0 ∷ []
   pub not-outputs : maskedTable isw 1 theNot .outputs ≡ 3 ∷ 1 ∷ 2 ∷ []
+  -- Card 4: "The tape 1 0 0 1 1 0 1 becomes the byte 59 in hexadecimal"
+  pub packed-tape : packed tape ≡ tapeByte
+  pub unpacked-tape : tapeOf 7 tapeByte ≡ tape
+  -- "Encoding and running each take their own part of the tape, packed for itself": 09 and 05 in hexadecimal
+  pub encoder-part : packed (take 4 tape) ≡ 9 ∷ []
+  pub run-part : packed (drop 4 tape) ≡ 5 ∷ []
+  -- the M cases with tapes, packed
+  pub packed-run-outputs : packedOut secrets tapeByte ≡ 1 ∷ 1 ∷ 1 ∷ []
+  pub packed-7 : packedTo toSecrets (7 ∷ []) ≡ tapeByte
+  pub packed-29 : packedTo toSecrets (29 ∷ []) ≡ 72 ∷ []
+  pub packed-outputs-29 : packedOut toSecrets (72 ∷ []) ≡ 0 ∷ 1 ∷ 1 ∷ []
+  pub packed-equal-secrets : packedTo secrets (29 ∷ []) ≡ tapeByte
+  -- "refusal 10 then means the wrong number of bytes, and 11 a set unused bit, whose place is that byte, counted after the secrets"
+  pub two-bytes : mappedFault (89 ∷ 0 ∷ []) [] ≡ fault 10 0
+  pub no-byte : mappedFault [] [] ≡ fault 10 0
+  pub unused-bit : mappedFault (217 ∷ []) [] ≡ fault 11 4
+  pub whole-tape-encoded : encodeFault 1 secrets tapeByte 6 ≡ fault 11 2

@@ -1,9 +1,10 @@
 // A pair of shares in both runs of the map: its five wires, and the random bit that the second run takes.
 ghost use mathlib.Core.Path.{_≡_};
 ghost use mathlib.Core.List.{[], _∷_, map};
-ghost use Prim.Native.Nat.{_≤_};
-ghost use lib.ListN.{getD};
+ghost use Prim.Native.Nat.{_≤_, _<_};
+ghost use lib.ListN.{length, getD, set};
 ghost use Rattle.tables.specs.Runs.{xor};
+ghost use Rattle.tables.specs.Packing.{unpacked};
 ghost use Rattle.tables.specs.Inside.{ranOn, RunsTo};
 ghost use Rattle.masks.specs.Gadgets.{allFive, differs, isw};
 ghost use Rattle.maps.specs.Both.{BothFlip, BothReady};
@@ -38,41 +39,45 @@ fn product_differs(one: &[u8], other: &[u8], left: usize, right: usize) -> u8
     requires { ⌜ BitAt (now one) left × BitAt (now one) right × BitAt (now other) left × BitAt (now other) right ⌝ }
     ensures { λ r. ⌜ (r ≡ differs (λ p. getD (now (one .entry)) p 0) (λ p. getD (now (other .entry)) p 0) left right) × (r ≤ 1) ⌝ }
 {
-    (one[left] * one[right] + other[left] * other[right]) % 2
+    (one[left] & one[right]) ^ (other[left] & other[right])
 }
 
-// The random bit of a pair of shares i and j in the second run, where its bit in the first is known: a pair without the free
-// share k keeps it.
-fn mapped_bit(
+// Flips the bit of a pair of shares i < j in the mapped tape where the second run needs it, and answers what was flipped: where i is
+// not the free share k, no product is looked at.
+fn flip_pair(
     k: usize,
     i: usize,
     j: usize,
-    bit: u8,
     one: &[u8],
     other: &[u8],
     ai: usize,
     bj: usize,
     aj: usize,
     bi: usize,
+    mapped: &mut [u8],
+    at: usize,
 ) -> u8
-    requires { ⌜ (bit ≤ 1) × PairBits (now one) ai bj aj bi × PairBits (now other) ai bj aj bi ⌝ }
+    requires { ⌜ PairBits (now one) ai bj aj bi × PairBits (now other) ai bj aj bi × (at < length (unpacked (now mapped))) ⌝ }
     ensures { λ r. ⌜ (r
-        ≡ xor bit
-        (isw .flip k i j
+        ≡ isw .flip k i j
         (differs (λ p. getD (now (one .entry)) p 0) (λ p. getD (now (other .entry)) p 0) ai bj)
-        (differs (λ p. getD (now (one .entry)) p 0) (λ p. getD (now (other .entry)) p 0) aj bi)))
-        × (r ≤ 1) ⌝ }
+        (differs (λ p. getD (now (one .entry)) p 0) (λ p. getD (now (other .entry)) p 0) aj bi))
+        × (r ≤ 1)
+        × (unpacked (now (mapped .exit))
+        ≡ set (unpacked (now (mapped .entry))) at (xor (getD (unpacked (now (mapped .entry))) at 0) r)) ⌝ }
 {
-    if (i != k) & (j != k) {
-        return bit;
+    if i != k {
+        return 0;
     }
     let p = product_differs(one, other, ai, bj);
     let q = product_differs(one, other, aj, bi);
-    (bit + pair_flip(k, i, j, p, q)) % 2
+    let flip = pair_flip(k, i, j, p, q);
+    bits::flip_bit(mapped, at, flip);
+    flip
 }
 
-// A pair of shares i and j in both runs, from wire w on: its random bit is that of the tape at a place, and the second run's is
-// put there into the mapped tape.
+// A pair of shares i and j in both runs, from wire w on: its random bit is that of the tape at a place, and what it flips is flipped
+// there in the mapped tape.
 pub fn map_pair(
     k: usize,
     i: usize,
@@ -88,17 +93,16 @@ pub fn map_pair(
     one: &mut [u8],
     other: &mut [u8],
 )
-    requires { ⌜ BothReady w 5 at 1 (now tape) (now mapped) (now one) (now other) × PairBefore w ai bj aj bi ⌝ }
+    requires { ⌜ BothReady w 5 at 1 (unpacked (now tape)) (unpacked (now mapped)) (now one) (now other) × PairBefore w ai bj aj bi ⌝ }
     ensures { λ _. ⌜ BothFlip (map (isw .gates w ai bj aj bi) allFive)
         (isw .flip k i j
         (differs (λ p. getD (now (one .entry)) p 0) (λ p. getD (now (other .entry)) p 0) ai bj)
         (differs (λ p. getD (now (one .entry)) p 0) (λ p. getD (now (other .entry)) p 0) aj bi) ∷ [])
-        (now (tape .entry)) at w
-        (now (mapped .entry)) (now (mapped .exit)) (now (one .entry)) (now (one .exit)) (now (other .entry)) (now (other .exit)) ⌝ }
+        (unpacked (now (tape .entry))) at w
+        (unpacked (now (mapped .entry))) (unpacked (now (mapped .exit))) (now (one .entry)) (now (one .exit)) (now (other .entry)) (now (other .exit)) ⌝ }
 {
     let bit = bits::tape_bit(tape, at);
-    let second = mapped_bit(k, i, j, bit, one, other, ai, bj, aj, bi);
-    mapped[at] = second;
+    let flip = flip_pair(k, i, j, one, other, ai, bj, aj, bi, mapped, at);
     run_pair(one, w, ai, bj, aj, bi, bit);
-    run_pair(other, w, ai, bj, aj, bi, second);
+    run_pair(other, w, ai, bj, aj, bi, bit ^ flip);
 }

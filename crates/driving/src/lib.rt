@@ -31,7 +31,7 @@ pub fn run_xor(run: &mut [u8], w: usize, left: usize, right: usize)
     requires { ⌜ RunsTo w 1 (now run) × (left < w) × (right < w) ⌝ }
     ensures { λ _. ⌜ now (run .exit) ≡ ranOn (gate XOR left right ∷ []) [] w (now (run .entry)) ⌝ }
 {
-    run[w] = (run[left] + run[right]) % 2;
+    run[w] = run[left] ^ run[right];
 }
 
 // An AND on wire w.
@@ -39,7 +39,7 @@ pub fn run_and(run: &mut [u8], w: usize, left: usize, right: usize)
     requires { ⌜ RunsTo w 1 (now run) × (left < w) × (right < w) ⌝ }
     ensures { λ _. ⌜ now (run .exit) ≡ ranOn (gate AND left right ∷ []) [] w (now (run .entry)) ⌝ }
 {
-    run[w] = run[left] * run[right];
+    run[w] = run[left] & run[right];
 }
 
 // An XOR share by share, from wire w on.

@@ -1,7 +1,7 @@
 -- Encoding bit by bit: what is left of one secret's shares while its tape bits are copied, and of all shares between
 -- two secrets.
 -- Assumes nothing.
-use mathlib.Core.Path.{_≡_, refl, ap, _∙_}
+use mathlib.Core.Path.{_≡_, refl, sym, ap, _∙_}
 use mathlib.Core.List.{List, [], _∷_, _++_}
 use Prim.Native.Nat.{ℕ, suc, _+_, _*_, _≤_, _<_}
 use native.Mathlib.Nat.{add-zero, add-suc}
@@ -10,15 +10,16 @@ use native.Mathlib.Omega.{arith}
 use lib.Bits.{bitXor}
 use lib.ListN.{length, getD, take, drop, set, length-set, length-drop, drop-of-length-le}
 use lib.Seq.{length-take-le, drop-cons, drop-drop}
-use Rattle.tables.specs.Runs.{Bits, xor}
+use Rattle.tables.specs.Runs.{xor}
 use Rattle.tables.specs.Says.{over}
 use Rattle.tables.specs.Inside.{putAt}
-use Rattle.tables.proofs.Lists.{part, part-next, part-end}
+use Rattle.tables.proofs.Lists.{part, part-next, part-end, part-take}
 use Rattle.tables.proofs.Put.{Writing, writing-start, writing-front, writing-fits, writing-piece, writing-byte}
 use Rattle.tables.proofs.Put.{writing-long, writing-end, over-length}
 use Rattle.masks.specs.Shares.{sharesOf}
 use Rattle.masks.specs.Codes.{xorAll, encode}
-use Rattle.masks.proofs.Codes.{bit-xor, group, group-length, encode-cons, encode-length}
+use Rattle.tables.proofs.Run.{bit-xor}
+use Rattle.masks.proofs.Codes.{group, group-length, encode-cons, encode-length}
 
 -- the shares of one secret, and of the first of several
 one-length : (o x : ℕ) (ts : List ℕ) → 2 * o ≤ length ts → length (encode o (x ∷ []) ts) ≡ sharesOf o
@@ -30,6 +31,13 @@ encode-next :
     → encode o (x ∷ xs) ts ≡ encode o (x ∷ []) ts ++ encode o xs (drop (2 * o) ts)
 unfolding encode
 encode-next o x xs ts = encode-cons o x xs ts
+
+-- the shares of one secret take their bits from the front of a longer tape
+one-front :
+    (o x from k : ℕ) (us : List ℕ) → from + 2 * o ≤ k
+    → encode o (x ∷ []) (drop from us) ≡ encode o (x ∷ []) (drop from (take k us))
+unfolding encode
+one-front o x from k us h = ap (group x) (sym (part-take (2 * o) from k us h))
 
 -- while the tape bits of the secret x are copied: the rest of its group is left; `last` is what the copied bits give
 pub record Copying (o x : ℕ) (ts : List ℕ) (from : ℕ) (b₀ : List ℕ) (at s last : ℕ) (b : List ℕ) : Type 0 where
@@ -57,14 +65,13 @@ module _ {o : ℕ} {ts : List ℕ} {from at : ℕ} {b₀ : List ℕ} (tape : fro
 
   module _ {x s last : ℕ} {b : List ℕ} (C : Copying o x ts from b₀ at s last b) where
     pub copying-turn :
-        {bit : ℕ} → s < 2 * o → Bits ts → bit ≡ getD ts (from + s) 0
+        {bit : ℕ} → s < 2 * o → (bit ≡ getD ts (from + s) 0) × (bit ≤ 1)
         → Copying o x ts from b₀ at (s + 1) (bitXor last bit) (set b (at + s) bit)
     unfolding xorAll
-    copying-turn {bit} h bits e =
-        let low : bit ≤ 1 = rw e (bits (from + s)) in
-        let sum : bitXor last bit ≡ xor last bit = bit-xor last bit (C .bit) low in
+    copying-turn {bit} h e =
+        let sum : bitXor last bit ≡ xor last bit = bit-xor last bit (C .bit) (e .1) in
         let rest = drop (suc s) (part (2 * o) from ts) in
-        let next : drop s (part (2 * o) from ts) ≡ bit ∷ rest = part-next (2 * o) from s ts tape h ∙ rw e in
+        let next : drop s (part (2 * o) from ts) ≡ bit ∷ rest = part-next (2 * o) from s ts tape h ∙ rw (e .0) in
         rw (add-one, sum)
         record {
           within = omega arith;
@@ -84,6 +91,7 @@ module _ {o : ℕ} {ts : List ℕ} {from at : ℕ} {b₀ : List ℕ} (tape : fro
 -- between two secrets: the encoding of those from i on is left, from tape bit `from` on
 pub record Encoding (o : ℕ) (xs ts b₀ : List ℕ) (i from at : ℕ) (b : List ℕ) : Type 0 where
   pub tape : from + 2 * o * length (drop i xs) ≡ length ts
+  pub later : from ≤ at
   pub rest : Writing (over (encode o xs ts) b₀) at (encode o (drop i xs) (drop from ts)) b
 
 module _ (o : ℕ) (xs ts b : List ℕ) (tape : length ts ≡ 2 * o * length xs) (room : sharesOf o * length xs ≤ length b) where
@@ -91,7 +99,7 @@ module _ (o : ℕ) (xs ts b : List ℕ) (tape : length ts ≡ 2 * o * length xs)
   encode-fits = omega (arith, encode-length o xs ts tape)
 
   pub encoding-start : Encoding o xs ts b 0 0 0 b
-  encoding-start = record { tape = omega arith; rest = writing-front (encode o xs ts) b encode-fits }
+  encoding-start = record { tape = omega arith; later = omega arith; rest = writing-front (encode o xs ts) b encode-fits }
 
 module _ {o i from at : ℕ} {xs ts b₀ b : List ℕ} (E : Encoding o xs ts b₀ i from at b) where
   pub encoding-long : length ts ≡ 2 * o * length xs → sharesOf o * length xs ≤ length b₀ → length b ≡ length b₀
@@ -125,12 +133,17 @@ module _ {o i from at : ℕ} {xs ts b₀ b : List ℕ} (E : Encoding o xs ts b�
     encoding-fits = (omega (arith, tape-left), omega (arith, size, writing-fits (E .rest) one rest split))
 
     pub encoding-turn :
-        {b′ : List ℕ} → b′ ≡ putAt at one b → Encoding o xs ts b₀ (i + 1) (from + 2 * o) (at + (2 * o + 1)) b′
-    encoding-turn w =
+        (us : List ℕ) {k : ℕ} {b′ : List ℕ} → ts ≡ take k us → length ts ≡ k
+        → b′ ≡ putAt at (encode o (x ∷ []) (drop from us)) b
+        → Encoding o xs ts b₀ (i + 1) (from + 2 * o) (at + (2 * o + 1)) b′
+    encoding-turn us {k} front long w =
+        let same : encode o (x ∷ []) (drop from us) ≡ one =
+        one-front o x from k us (omega (arith, tape-left)) ∙ ap (λ (l : List ℕ). encode o (x ∷ []) (drop from l)) (sym front) in
         rw (add-one i)
         record {
           tape = omega (arith, tape-left);
-          rest = writing-piece (E .rest) one rest split w (omega (arith, size));
+          later = omega (arith, E .later);
+          rest = writing-piece (E .rest) one rest split (w ∙ ap (λ (l : List ℕ). putAt at l b) same) (omega (arith, size));
         }
 
   pub encoding-end : length xs ≤ i → b ≡ over (encode o xs ts) b₀

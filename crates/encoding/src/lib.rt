@@ -4,6 +4,7 @@ ghost use mathlib.Core.List.{[], _∷_};
 ghost use Prim.Native.Nat.{_+_, _*_, _≤_, _<_};
 ghost use lib.ListN.{length, drop};
 ghost use Rattle.tables.specs.Runs.{Bits};
+ghost use Rattle.tables.specs.Packing.{unpacked, tapeOf};
 ghost use Rattle.tables.specs.Says.{over, Refused};
 ghost use Rattle.tables.specs.Inside.{putAt};
 ghost use Rattle.masks.specs.Codes.{encode};
@@ -27,22 +28,26 @@ fn encode_fault(order: u8, secrets: &[u8], tape: &[u8], room: usize) -> tables::
     if shares > 65535 {
         return tables::refuse(8, 0);
     }
-    if tape.len() != bits * count {
+    let due = bits * count;
+    if tape.len() != bits::bytes_for(due) {
         return tables::refuse(10, 0);
     }
-    let bad = tables::first_of(bits::bits_fault(secrets, 0), bits::bits_fault(tape, count));
+    let bad = tables::first_of(
+        bits::bits_fault(secrets, 0),
+        bits::spare_fault(tape, due, count),
+    );
     tables::first_of(bad, tables::refuse_if(room < shares, 9))
 }
 
 // Writes the shares of one secret: 2t tape bits, and their XOR with the secret.
 fn encode_one(order: usize, secret: u8, tape: &[u8], from: usize, out: &mut [u8], at: usize)
-    requires { ⌜ (from + 2 * order ≤ length (now tape))
+    requires { ⌜ (from + 2 * order ≤ length (unpacked (now tape)))
         × (at + 2 * order < length (now out))
+        × (from ≤ at)
         × (order ≤ 15)
-        × (secret ≤ 1)
-        × Bits (now tape) ⌝ }
+        × (secret ≤ 1) ⌝ }
     ensures { λ _. ⌜ now (out .exit)
-        ≡ putAt at (encode order (secret ∷ []) (drop from (now (tape .entry)))) (now (out .entry)) ⌝ }
+        ≡ putAt at (encode order (secret ∷ []) (drop from (unpacked (now (tape .entry))))) (now (out .entry)) ⌝ }
 {
     let bits = 2 * order;
     let mut last = secret;
@@ -56,22 +61,23 @@ fn encode_one(order: usize, secret: u8, tape: &[u8], from: usize, out: &mut [u8]
     out[at + bits] = last;
 }
 
-// Writes the shares of every secret, one secret's after another's.
+// Writes the shares of every secret, one secret's after another's, with the first bits of the tape.
 pub fn encode_all(order: usize, secrets: &[u8], tape: &[u8], out: &mut [u8])
     requires { ⌜ (order ≤ 15)
-        × (length (now tape) ≡ 2 * order * length (now secrets))
+        × (2 * order * length (now secrets) ≤ 8 * length (now tape))
         × (sharesOf order * length (now secrets) ≤ length (now out))
-        × Bits (now secrets)
-        × Bits (now tape) ⌝ }
+        × Bits (now secrets) ⌝ }
     ensures { λ _. ⌜ now (out .exit)
-        ≡ over (encode order (now (secrets .entry)) (now (tape .entry))) (now (out .entry)) ⌝ }
+        ≡ over
+        (encode order (now (secrets .entry)) (tapeOf (2 * order * length (now (secrets .entry))) (now (tape .entry))))
+        (now (out .entry)) ⌝ }
 {
     let bits = 2 * order;
     let mut from = 0;
     let mut at = 0;
     let mut i = 0;
     while i < secrets.len() {
-        let secret = bits::tape_bit(secrets, i);
+        let secret = bits::secret_bit(secrets, i);
         encode_one(order, secret, tape, from, out, at);
         from += bits;
         at += bits + 1;
@@ -79,7 +85,7 @@ pub fn encode_all(order: usize, secrets: &[u8], tape: &[u8], out: &mut [u8])
     }
 }
 
-// Encodes secrets with 2t tape bits each: n share bits a secret.
+// Encodes secrets with 2t tape bits each, packed: n share bits a secret.
 pub fn encode_secrets(order: u8, secrets: &[u8], tape: &[u8], out: &mut [u8]) -> tables::Answer
     ensures { λ r. ⌜ EncodeSays
         order (now (secrets .entry)) (now (tape .entry)) (now (out .entry)) (now (out .exit)) r ⌝ }

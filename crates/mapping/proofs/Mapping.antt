@@ -11,6 +11,7 @@ use lib.ListN.{length}
 use Rattle.tables.specs.declared.Answer as DA
 use Rattle.tables.specs.declared.Refusal as DR
 use Rattle.tables.specs.Tables.{wires, tableOf}
+use Rattle.tables.specs.Packing.{bytesFor, tapeOf, spare}
 use Rattle.tables.proofs.Tests.{and-true}
 use Rattle.tables.proofs.Answers.{refused-fails, answered-refused, answered-none}
 use Rattle.masks.specs.Shares.{sharesOf}
@@ -27,7 +28,7 @@ use Rattle.maps.specs.Claims.{allBelow}
 use Rattle.maps.specs.Laws.{Free}
 use Rattle.maps.specs.Says.{mapFault, MapDone}
 use Rattle.maps.proofs.Faults.{MapGood, map-good}
-use Rattle.maps.proofs.Begun.{secrets-are, tape-is}
+use Rattle.maps.proofs.Begun.{secrets-are}
 use Rattle.maps.proofs.Free.{marks-two, few-carried, free-laws}
 use Rattle.rerunning.specs.Working.{WorkReady, WorkSays}
 
@@ -36,7 +37,8 @@ pub map-refused :
     (s : List ℕ) (o : ℕ) (xs ys ts ps : List ℕ) (a b c : ℕ) {x y z : List ℕ} {r : DN.Planned} {f : DR.Refusal} {q : DA.Answer}
     → PlanSays (mapFault isw s o xs ys ts ps a b c) s o r → r ≡ Planned.Refused f
     → q ≡ record { number = f .number; place = f .place; value = 0 }
-    → MapDone (mapFault isw s o xs ys ts ps a b c) isw (marks isw) (tableOf s) o xs ys ts ps x x y y z z q
+    → MapDone (mapFault isw s o xs ys ts ps a b c) isw (marks isw) (tableOf s) o xs ys (tapeOf (tapeLong isw o (tableOf s)) ts) ps
+    x x y y z z q
 map-refused s o xs ys ts ps a b c P is e =
     let R = planned-refused (planned-as P is) in
     let fails = refused-fails (R .0) (R .1) in
@@ -91,17 +93,16 @@ module _ (s : List ℕ) (o : ℕ) (xs ys ts ps : List ℕ) (a b c : ℕ) {r : DN
     work-ready ex ey ez =
         let first = secrets-are (tableOf s) xs (good .first) in
         let second = secrets-are (tableOf s) ys (good .second) in
-        let tape = tape-is isw o (tableOf s) ts (good .tape) in
         record {
           plan = plan .ready;
           from-1 = omega (arith, free-is, free .from-1);
           to-n = free-few;
           first = first .0 ∙ sym (plan .ready .inputs);
           second = second .0 ∙ sym (plan .ready .inputs);
-          tape = tape .0 ∙ sym tape-are;
+          tape = good .long ∙ ap (λ (l : ℕ). bytesFor l) (sym tape-are);
+          unused = ap (λ (l : ℕ). spare l ts) tape-are ∙ good .unused;
           first-bits = first .1;
           second-bits = second .1;
-          tape-bits = tape .1;
           mapped = omega (arith, good .mapped, tape-are);
           one = omega (arith, good .one, wires-are);
           other = omega (arith, good .other, wires-are);
@@ -109,7 +110,8 @@ module _ (s : List ℕ) (o : ℕ) (xs ys ts ps : List ℕ) (a b c : ℕ) {r : DN
 
     pub map-done :
         {x x′ y y′ z z′ : List ℕ} → WorkSays s (p .order) k xs ys ts x x′ y y′ z z′
-        → MapDone (mapFault isw s o xs ys ts ps a b c) isw (marks isw) (tableOf s) o xs ys ts ps x x′ y y′ z z′
+        → MapDone (mapFault isw s o xs ys ts ps a b c) isw (marks isw) (tableOf s) o xs ys
+        (tapeOf (tapeLong isw o (tableOf s)) ts) ps x x′ y y′ z z′
         (record { number = 0; place = 0; value = k })
     map-done W =
         let U = rw (plan .order, free-is) at W in

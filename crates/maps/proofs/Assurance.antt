@@ -4,33 +4,38 @@
 use mathlib.Core.Path.{_≡_, refl, sym, ap, ap₂, _∙_, subst}
 use mathlib.Core.Bool.{Bool, true, cond}
 use mathlib.Core.List.{List, [], _∷_}
-use Prim.Native.Nat.{ℕ, _*_, _<_}
+use Prim.Native.Nat.{ℕ, _+_, _*_, _<_}
+use native.Mathlib.Omega.{arith}
 use borrow.Author.Tests.{eq-eqb}
 use lib.Dec.{leb}
-use lib.ListN.{length, take, drop, List·getD-append}
-use lib.Seq.{take-at}
+use lib.ListN.{length, take, drop, length-drop, List·getD-append}
+use lib.Seq.{length-take-le, take-at}
 use Rattle.tables.specs.declared.Answer as DA
 use Rattle.tables.specs.Refusals.{Fault, passed}
 use Rattle.tables.specs.Tables.{Table, wires, tableOf, tableBytes, word}
-use Rattle.tables.specs.Runs.{run, readAll, outputsOf}
+use Rattle.tables.specs.Runs.{Bits, run, readAll, outputsOf, randoms}
+use Rattle.tables.specs.Packing.{bytesFor, packed, tapeOf}
 use Rattle.tables.specs.Says.{Answered, Writes, over, afterCall, runFault}
 use Rattle.tables.proofs.Tests.{and-true}
-use Rattle.tables.proofs.Lists.{All}
+use Rattle.tables.proofs.Lists.{All, bits-take, bits-drop}
+use Rattle.tables.proofs.Packing.{packed-length}
 use Rattle.tables.proofs.Run.{read-length}
 use Rattle.tables.proofs.Format.{outputs-written}
 use Rattle.masks.specs.Gadgets.{isw}
-use Rattle.masks.specs.Wires.{marks, maskedTable}
+use Rattle.masks.specs.Wires.{marks, maskedTable, tapeLong}
 use Rattle.masks.specs.Codes.{encode, decode, maskedRun}
 use Rattle.masks.specs.Says.{plainFault}
 use Rattle.masks.proofs.Lawful.{isw-lawful}
 use Rattle.masks.proofs.Hiding.{isw-hiding}
 use Rattle.masks.proofs.Passed.{plain-passed}
-use Rattle.maps.specs.Maps.{ofEach, single, freeShare, mapped}
-use Rattle.maps.specs.Claims.{allBelow, isTape, areSecrets, allTapes, same, howMany, timesGiven}
+use Rattle.maps.specs.Maps.{single, freeShare, mapped}
+use Rattle.maps.specs.Claims.{allBelow, isTape, areSecrets, same}
+use Rattle.maps.specs.Packed.{allPacked, timesPacked}
 use Rattle.maps.specs.Says.{mapFault}
 use Rattle.maps.specs.Assurance.{Lent, written, Way, timesRead, Assurance}
-use Rattle.maps.proofs.Bits.{all-below}
-use Rattle.maps.proofs.Count.{many-same}
+use Rattle.maps.proofs.Bits.{bits-all, all-below}
+use Rattle.maps.proofs.Count.{bits-of, many-same}
+use Rattle.maps.proofs.Packed.{tape-again, hides-packed}
 use Rattle.maps.proofs.Faults.{map-good}
 use Rattle.maps.proofs.Begun.{tape-is, secrets-are, values-long}
 use Rattle.maps.proofs.Computing.{computes}
@@ -80,23 +85,47 @@ module _ (s : List ℕ) (o : ℕ) (plain : passed (plainFault isw s o) ≡ true)
   read-back : tableOf m ≡ maskedTable isw o t
   read-back = ap tableOf is ∙ demands .written-back s o plain .read-back
 
-  encoded : written (w .shares) (w .encoded) ≡ encode o xs (take (2 * o * length xs) ts)
-  encoded = wrote _ _ (w .shares) (w .encoded) (w .encode-says) (w .encode-ok)
+  -- the two parts of the tape, each packed for itself
+  abbrev k : ℕ
+  k = 2 * o * length xs
 
-  run-is : run (tableOf m) (written (w .shares) (w .encoded)) (drop (2 * o * length xs) ts) ≡ values
-  unfolding maskedRun
-  run-is =
-      ap₂ (λ (u : Table) (l : List ℕ). run u l (drop (2 * o * length xs) ts)) read-back encoded
-      ∙ ap (λ (k : ℕ). run (maskedTable isw o t) (encode o xs (take k ts)) (drop k ts)) front
+  tape-long : length ts ≡ k + randoms (tableOf m .gates)
+  tape-long =
+      tape-is isw o t ts ht .0
+      ∙ demands .written-back s o plain .tape
+      ∙ ap₂ (λ (i : ℕ) (l : List ℕ). i + randoms (tableOf l .gates)) (sym front) (sym is)
+
+  tape-bits : Bits ts
+  tape-bits = tape-is isw o t ts ht .1
+
+  front-part : tapeOf k (packed (take k ts)) ≡ take k ts
+  front-part =
+      tape-again k (take k ts)
+      (length-take-le k ts (omega (arith, tape-long)), bits-all (take k ts) (bits-take k ts tape-bits))
+
+  rest-part : tapeOf (randoms (tableOf m .gates)) (packed (drop k ts)) ≡ drop k ts
+  rest-part =
+      tape-again (randoms (tableOf m .gates)) (drop k ts)
+      (length-drop k ts ∙ omega (arith, tape-long), bits-all (drop k ts) (bits-drop k ts tape-bits))
+
+  encoded : written (w .shares) (w .encoded) ≡ encode o xs (take k ts)
+  encoded = wrote _ _ (w .shares) (w .encoded) (w .encode-says) (w .encode-ok) ∙ ap (encode o xs) front-part
 
   abbrev raw : List ℕ
-  raw = run (tableOf m) (written (w .shares) (w .encoded)) (drop (2 * o * length xs) ts)
+  raw = run (tableOf m) (written (w .shares) (w .encoded)) (tapeOf (randoms (tableOf m .gates)) (packed (drop k ts)))
+
+  run-is : raw ≡ values
+  unfolding maskedRun
+  run-is =
+      ap (run (tableOf m) (written (w .shares) (w .encoded))) rest-part
+      ∙ ap₂ (λ (u : Table) (l : List ℕ). run u l (drop k ts)) read-back encoded
+      ∙ ap (λ (i : ℕ). run (maskedTable isw o t) (encode o xs (take i ts)) (drop i ts)) front
 
   abbrev fault-of : Fault
   fault-of =
       runFault m
       (written (w .shares) (w .encoded))
-      (drop (2 * o * length xs) ts)
+      (packed (drop k ts))
       (length (w .values .before))
       (length (w .outputs .before))
 
@@ -144,12 +173,12 @@ module _ (s : List ℕ) (o : ℕ) (plain : passed (plainFault isw s o) ≡ true)
       ∙ ap (decode o) masked-outputs
       ∙ computes isw-lawful o t (plain-passed isw s o plain .plain) .same-outputs xs ts hx ht
 
--- the table written runs as the masked table does, so that as many tapes give each pattern
+-- the table written runs as the masked table does, so that as many packed tapes give each pattern
 times-are :
-    (s : List ℕ) (o : ℕ) (m zs ts ps pattern : List ℕ) → passed (plainFault isw s o) ≡ true
-    → m ≡ tableBytes (maskedTable isw o (tableOf s)) → areSecrets (tableOf s) zs ≡ true → isTape isw o (tableOf s) ts ≡ true
-    → timesRead o m (length ts) zs ps pattern ≡ timesGiven isw single o (tableOf s) zs ps pattern
-times-are s o m zs ts ps pattern plain is hz ht =
+    (s : List ℕ) (o : ℕ) (m zs ps pattern : List ℕ) → passed (plainFault isw s o) ≡ true
+    → m ≡ tableBytes (maskedTable isw o (tableOf s)) → areSecrets (tableOf s) zs ≡ true
+    → timesRead o m (tapeLong isw o (tableOf s)) zs ps pattern ≡ timesPacked isw single o (tableOf s) zs ps pattern
+times-are s o m zs ps pattern plain is hz =
     let t = tableOf s in
     let front : 2 * o * length zs ≡ 2 * o * t .inputs = ap (λ (y : ℕ). 2 * o * y) (secrets-are t zs hz .0) in
     let run-is : (us : List ℕ)
@@ -158,15 +187,14 @@ times-are s o m zs ts ps pattern plain is hz ht =
     ap₂ (λ (k : ℕ) (l : List ℕ). run (tableOf l) (encode o zs (take k us)) (drop k us)) front is
     ∙ demands .written-back s o plain .same-run zs us in
     many-same _ _
-    (λ us. ap₂ (λ (vs qs : List ℕ). same (readAll vs qs) pattern) (run-is us) (sym (each-single ps)))
-    (allTapes (length ts))
-    ∙ ap (λ (l : ℕ). howMany (λ us. same (readAll (maskedRun isw o t zs us) (ofEach single ps)) pattern) (allTapes l))
-    (tape-is isw o t ts ht .0)
+    (λ us. ap₂ (λ (vs qs : List ℕ). same (readAll vs qs) pattern) (run-is (tapeOf (tapeLong isw o t) us)) (sym (each-single ps)))
+    (allPacked (tapeLong isw o t))
 
 -- the law
 pub assurance : Assurance
 assurance s o xs ys ts ps c =
     let t = tableOf s in
+    let l = tapeLong isw o t in
     let f =
     mapFault isw s o xs ys ts ps (length (c .tape .before)) (length (c .one .before)) (length (c .other .before)) in
     let ok = answered-0 f (freeShare isw (marks isw) o t ps) (c .mapping) (c .map-says .answer) (c .map-ok) .0 in
@@ -175,39 +203,43 @@ assurance s o xs ys ts ps c =
     let m = written (c .table) (c .masked) in
     let is : m ≡ tableBytes (maskedTable isw o t) =
     wrote _ _ (c .table) (c .masked) (c .mask-says) (c .mask-ok) in
-    let ms = mapped isw (marks isw) o t xs ys ts ps in
+    let bs = tapeOf l ts in
+    let ms = mapped isw (marks isw) o t xs ys bs ps in
     let hides = hides isw-hiding t o (covers-single isw-lawful t o) p in
-    let tape-ms = hides .a-tape xs ys ts ps (h .first) (h .second) (h .tape) (h .probes) in
-    let same-long : length ms ≡ length ts = tape-is isw o t ms tape-ms .0 ∙ sym (tape-is isw o t ts (h .tape) .0) in
-    let us : take (length ts) (c .tape .after) ≡ ms =
-    ap (take (length ts)) (left-0 f ms (c .tape .before) (c .tape .after) ok (c .map-says .mapped-tape))
-    ∙ over-front ms (c .tape .before) (length ts) same-long in
-    let tape-us : isTape isw o t (take (length ts) (c .tape .after)) ≡ true =
-    subst (λ (l : List ℕ). isTape isw o t l ≡ true) (sym us) tape-ms in
+    let tape-ms = hides .a-tape xs ys bs ps (h .first) (h .second) (h .tape) (h .probes) in
+    let of-ms = bits-of isw o t ms tape-ms in
+    let same-long : length (packed ms) ≡ length ts =
+    packed-length ms ∙ ap (λ (n : ℕ). bytesFor n) (of-ms .0) ∙ sym (h .long) in
+    let back : take (length ts) (c .tape .after) ≡ packed ms =
+    ap (take (length ts)) (left-0 f (packed ms) (c .tape .before) (c .tape .after) ok (c .map-says .mapped-tape))
+    ∙ over-front (packed ms) (c .tape .before) (length ts) same-long in
+    let us : tapeOf l (take (length ts) (c .tape .after)) ≡ ms = ap (tapeOf l) back ∙ tape-again l ms of-ms in
+    let tape-us : isTape isw o t (tapeOf l (take (length ts) (c .tape .after))) ≡ true =
+    subst (λ (v : List ℕ). isTape isw o t v ≡ true) (sym us) tape-ms in
     let below = and-true (leb (length ps) o) (allBelow (wires (maskedTable isw o t)) ps) (h .probes) .1 in
     let us-run = ap (maskedRun isw o t ys) us in
     let fill : (b : Lent) (vs : List ℕ) (n : ℕ) → b .after ≡ afterCall f vs (b .before) → length vs ≡ n → take n (b .after) ≡ vs =
-    λ b vs n l e. ap (take n) (left-0 f vs (b .before) (b .after) ok l) ∙ over-front vs (b .before) n e in
+    λ b vs n e long. ap (take n) (left-0 f vs (b .before) (b .after) ok e) ∙ over-front vs (b .before) n long in
     record {
       same-read =
           read-values s o (h .plain) m ys _ is (h .second) tape-us (c .second) ps below
-          ∙ ap (λ (l : List ℕ). readAll l ps) us-run
-          ∙ subst (λ (qs : List ℕ). readAll (maskedRun isw o t ys ms) qs ≡ readAll (maskedRun isw o t xs ts) qs) (each-single ps)
-          (hides .same-read xs ys ts ps (h .first) (h .second) (h .tape) (h .probes))
-          ∙ sym (read-values s o (h .plain) m xs ts is (h .first) (h .tape) (c .first) ps below);
+          ∙ ap (λ (v : List ℕ). readAll v ps) us-run
+          ∙ subst (λ (qs : List ℕ). readAll (maskedRun isw o t ys ms) qs ≡ readAll (maskedRun isw o t xs bs) qs) (each-single ps)
+          (hides .same-read xs ys bs ps (h .first) (h .second) (h .tape) (h .probes))
+          ∙ sym (read-values s o (h .plain) m xs bs is (h .first) (h .tape) (c .first) ps below);
       as-many = λ pattern.
-          times-are s o m xs ts ps pattern (h .plain) is (h .first) (h .tape)
-          ∙ hides .as-many xs ys ps pattern (h .first) (h .second) (h .probes)
-          ∙ sym (times-are s o m ys ts ps pattern (h .plain) is (h .second) (h .tape));
+          times-are s o m xs ps pattern (h .plain) is (h .first)
+          ∙ hides-packed hides .as-many xs ys ps pattern (h .first) (h .second) (h .probes)
+          ∙ sym (times-are s o m ys ps pattern (h .plain) is (h .second));
       first-run =
-          fill (c .one) (maskedRun isw o t xs ts) _ (c .map-says .first-run)
-          (values-count s o (h .plain) m xs ts is (h .first) (h .tape) (c .first))
-          ∙ sym (values-written s o (h .plain) m xs ts is (h .first) (h .tape) (c .first));
+          fill (c .one) (maskedRun isw o t xs bs) _ (c .map-says .first-run)
+          (values-count s o (h .plain) m xs bs is (h .first) (h .tape) (c .first))
+          ∙ sym (values-written s o (h .plain) m xs bs is (h .first) (h .tape) (c .first));
       second-run =
           fill (c .other) (maskedRun isw o t ys ms) _ (c .map-says .second-run)
           (ap length (sym us-run) ∙ values-count s o (h .plain) m ys _ is (h .second) tape-us (c .second))
           ∙ sym us-run
           ∙ sym (values-written s o (h .plain) m ys _ is (h .second) tape-us (c .second));
-      first-decoded = decoded s o (h .plain) m xs ts is (h .first) (h .tape) (c .first);
+      first-decoded = decoded s o (h .plain) m xs bs is (h .first) (h .tape) (c .first);
       second-decoded = decoded s o (h .plain) m ys _ is (h .second) tape-us (c .second);
     }

@@ -5,7 +5,7 @@ use mathlib.Core.Bool.{Bool, true, false}
 use mathlib.Core.List.{List, [], _∷_}
 use Prim.Native.Nat.{ℕ, suc, _<_}
 use lib.Dec.{eqb, ltb, leb}
-use borrow.Author.Tests.{leb-true, le-leb, ltb-true, eqb-true, eq-eqb}
+use borrow.Author.Tests.{leb-true, le-leb, ltb-true, lt-ltb, eqb-true, eq-eqb}
 use Rattle.tables.proofs.Tests.{and-true, and-intro}
 use Rattle.tables.specs.Runs.{Bits}
 use Rattle.tables.proofs.Lists.{bits-nil, bits-cons, All}
@@ -27,6 +27,11 @@ all-below w [] h = tt
 all-below w (p ∷ ps) h =
     let both = and-true (ltb p w) (allBelow w ps) h in
     (ltb-true p w (both .0), all-below w ps (both .1))
+
+pub below-all : (w : ℕ) (ps : List ℕ) → All (λ p. p < w) ps → allBelow w ps ≡ true
+unfolding All
+below-all w [] a = refl
+below-all w (p ∷ ps) a = and-intro (ltb p w) (allBelow w ps) (lt-ltb p w (a .0)) (below-all w ps (a .1))
 
 same-refl : (xs : List ℕ) → same xs xs ≡ true
 same-refl [] = refl

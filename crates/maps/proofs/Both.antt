@@ -4,27 +4,29 @@ use mathlib.Core.Path.{_≡_, refl, sym, ap, ap₂, _∙_, subst, subst₂}
 use mathlib.Core.List.{List, [], _∷_, _++_}
 use Prim.Native.Nat.{ℕ, _+_, _≤_, _<_}
 use native.Mathlib.Omega.{arith}
-use lib.ListN.{length, getD, take, drop, set, length-append, length-drop}
-use lib.Seq.{length-take-le, drop-cons, take-add, drop-drop}
+use lib.ListN.{length, getD, take, set, length-append}
+use lib.Seq.{drop-cons}
 use Rattle.tables.specs.Tables.{Gate}
 use Rattle.tables.specs.Runs.{Bits, xor, randoms}
-use Rattle.tables.specs.Inside.{putAt, ranOn, RunsTo}
-use Rattle.tables.proofs.Lists.{bits-take, bits-drop}
-use Rattle.tables.proofs.Put.{put-length, put-append, put-nil, put-set}
+use Rattle.tables.specs.Inside.{ranOn, RunsTo}
 use Rattle.tables.proofs.Ran.{runs-less, ran-nil, ran-length, ran-bits, ran-append}
 use Rattle.maps.specs.Maps.{flipped}
-use Rattle.maps.specs.Both.{BothRan, BothFlip, BothReady, bitsFor}
+use Rattle.maps.specs.Both.{BothRan, BothFlip, BothReady, bitsFor, flipsAt}
 use Rattle.maps.proofs.Inputs.{flipped-length, flipped-append, flipped-bits}
+use Rattle.maps.proofs.FlipsAt.{bits-for-long, bits-for-append, bits-for-bits, flipped-long}
+use Rattle.maps.proofs.FlipsAt.{flips-at-length, flips-at-nil, flips-at-append, flips-at-one}
 
 -- the gates gs are left to run on: then the buffers are M, A and B
 pub record BothLeft (gs : List Gate) (rs ss ts : List ℕ) (at w : ℕ) (M A B m a b : List ℕ) : Type 0 where
   pub both : BothRan gs rs ss at w m M a A b B
   pub ready : BothReady w (length gs) at (length ss) ts m a b
+  pub alike : length rs ≡ length ss
 
 pub left-start :
     {gs : List Gate} {rs ss ts : List ℕ} {at w : ℕ} {m a b : List ℕ} → BothReady w (length gs) at (length ss) ts m a b
-    → BothLeft gs rs ss ts at w (putAt at ss m) (ranOn gs rs w a) (ranOn gs ss w b) m a b
-left-start R = record { both = record { mapped = refl; one = refl; other = refl }; ready = R }
+    → length rs ≡ length ss
+    → BothLeft gs rs ss ts at w (flipsAt at (flipped rs ss) m) (ranOn gs rs w a) (ranOn gs ss w b) m a b
+left-start R e = record { both = record { mapped = refl; one = refl; other = refl }; ready = R; alike = e }
 
 -- one run after a piece
 run-after :
@@ -51,8 +53,15 @@ module _ (gs hs : List Gate) (rs rs′ ss ss′ : List ℕ) {ts : List ℕ} {at 
   more-bits : length (ss ++ ss′) ≡ length ss + length ss′
   more-bits = length-append ss ss′
 
-  put-fits : at + length ss ≤ length m
-  put-fits = omega (arith, L .ready .room, more-bits)
+  -- the two runs' bits differ in as many places
+  differ-long : length (flipped rs ss) ≡ length ss
+  differ-long = flipped-length rs ss ∙ exact ∙ sym exact′
+
+  differ-more : flipped (rs ++ rs′) (ss ++ ss′) ≡ flipped rs ss ++ flipped rs′ ss′
+  differ-more = flipped-append rs rs′ ss ss′ (exact ∙ sym exact′)
+
+  differ-fits : at + length (flipped rs ss) ≤ length m
+  differ-fits = omega (arith, L .ready .room, more-bits, differ-long)
 
   -- one of the runs
   run-left :
@@ -65,10 +74,14 @@ module _ (gs hs : List Gate) (rs rs′ ss ss′ : List ℕ) {ts : List ℕ} {at 
   pub left-more : BothLeft hs rs′ ss′ ts (at + length ss) (w + length gs) M A B m′ a′ b′
   left-more =
       let R = L .ready in
-      let room : length m′ ≡ length m = ap length (ran .mapped) ∙ put-length at ss m put-fits in
+      let room : length m′ ≡ length m = ap length (ran .mapped) ∙ flips-at-length at (flipped rs ss) m differ-fits in
       record {
         both = record {
-          mapped = L .both .mapped ∙ sym (rw (ran .mapped) (put-append at ss ss′ m put-fits));
+          mapped =
+              L .both .mapped
+              ∙ ap (λ (fs : List ℕ). flipsAt at fs m) differ-more
+              ∙ sym (flips-at-append at (flipped rs ss) (flipped rs′ ss′) m differ-fits)
+              ∙ ap₂ (λ (n : ℕ) (l : List ℕ). flipsAt (at + n) (flipped rs′ ss′) l) differ-long (sym (ran .mapped));
           one = run-left rs rs′ exact (R .one) (ran .one) (L .both .one);
           other = run-left ss ss′ exact′ (R .other) (ran .other) (L .both .other);
         };
@@ -77,8 +90,10 @@ module _ (gs hs : List Gate) (rs rs′ ss ss′ : List ℕ) {ts : List ℕ} {at 
           other = run-after gs ss w (length hs) (ran .other) bits′ (subst (λ (c : ℕ). RunsTo w c b) more-gates (R .other));
           tape = omega (arith, R .tape, more-bits);
           room = omega (arith, R .room, more-bits);
+          few = omega (arith, R .few, more-bits);
           bits = R .bits;
         };
+        alike = omega (arith, L .alike, length-append rs rs′, more-bits, exact, exact′);
       }
 
 pub both-less :
@@ -89,16 +104,18 @@ both-less c′ d′ R h k =
       other = runs-less c′ (R .other) h;
       tape = omega (arith, R .tape);
       room = omega (arith, R .room);
+      few = omega (arith, R .few);
       bits = R .bits;
     }
 
 -- nothing is left
 pub left-end :
-    {rs ts : List ℕ} {at w : ℕ} {M A B m a b : List ℕ} → BothLeft [] rs [] ts at w M A B m a b
+    {ts : List ℕ} {at w : ℕ} {M A B m a b : List ℕ} → BothLeft [] [] [] ts at w M A B m a b
     → (m ≡ M) × (a ≡ A) × (b ≡ B)
-left-end {rs} {ts} {at} {w} {M} {A} {B} {m} {a} {b} L = (
-  sym (L .both .mapped ∙ put-nil at m),
-  sym (L .both .one ∙ ran-nil rs w a (omega (arith, L .ready .one .room))),
+unfolding flipped
+left-end {ts} {at} {w} {M} {A} {B} {m} {a} {b} L = (
+  sym (L .both .mapped ∙ flips-at-nil at m),
+  sym (L .both .one ∙ ran-nil [] w a (omega (arith, L .ready .one .room))),
   sym (L .both .other ∙ ran-nil [] w b (omega (arith, L .ready .other .room))),
 )
 
@@ -107,7 +124,9 @@ pub left-long :
     {gs : List Gate} {rs ss ts : List ℕ} {at w : ℕ} {M A B m a b : List ℕ} → BothLeft gs rs ss ts at w M A B m a b
     → (length m ≡ length M) × (length a ≡ length A) × (length b ≡ length B)
 left-long {gs} {rs} {ss} {ts} {at} {w} {M} {A} {B} {m} {a} {b} L = (
-  sym (ap length (L .both .mapped) ∙ put-length at ss m (L .ready .room)),
+  sym
+      (ap length (L .both .mapped)
+      ∙ flips-at-length at (flipped rs ss) m (omega (arith, L .ready .room, L .alike, flipped-length rs ss))),
   sym (ap length (L .both .one) ∙ ran-length gs rs w a (L .ready .one .room)),
   sym (ap length (L .both .other) ∙ ran-length gs ss w b (L .ready .other .room)),
 )
@@ -116,24 +135,6 @@ left-long {gs} {rs} {ss} {ts} {at} {w} {M} {A} {B} {m} {a} {b} L = (
 pub record FlipsLeft (gs : List Gate) (fs ts : List ℕ) (at w : ℕ) (M A B m a b : List ℕ) : Type 0 where
   pub left : BothLeft gs (bitsFor fs at ts) (flipped (bitsFor fs at ts) fs) ts at w M A B m a b
   pub fits : at + length fs ≤ length ts
-
-pub bits-for-long : (fs : List ℕ) (at : ℕ) (ts : List ℕ) → at + length fs ≤ length ts → length (bitsFor fs at ts) ≡ length fs
-bits-for-long fs at ts h = length-take-le (length fs) (drop at ts) (omega (arith, length-drop at ts))
-
-pub flipped-long :
-    (fs : List ℕ) (at : ℕ) (ts : List ℕ) → at + length fs ≤ length ts → length (flipped (bitsFor fs at ts) fs) ≡ length fs
-flipped-long fs at ts h = flipped-length (bitsFor fs at ts) fs ∙ bits-for-long fs at ts h
-
-bits-for-append :
-    (fs es : List ℕ) (at : ℕ) (ts : List ℕ)
-    → bitsFor (fs ++ es) at ts ≡ bitsFor fs at ts ++ bitsFor es (at + length fs) ts
-bits-for-append fs es at ts =
-    ap (λ (c : ℕ). take c (drop at ts)) (length-append fs es)
-    ∙ take-add (length fs) (length es) (drop at ts)
-    ∙ rw drop-drop
-
-pub bits-for-bits : (fs : List ℕ) (at : ℕ) (ts : List ℕ) → Bits ts → Bits (bitsFor fs at ts)
-bits-for-bits fs at ts h = bits-take (length fs) (drop at ts) (bits-drop at ts h)
 
 -- flips of a piece, and of those after it
 module _ (gs hs : List Gate) (fs es : List ℕ) {all : List Gate} {every ts : List ℕ} {at w : ℕ} {M A B m a b m′ a′ b′ : List ℕ}
@@ -172,7 +173,7 @@ module _ (gs hs : List Gate) (fs es : List ℕ) {all : List Gate} {every ts : Li
 
 -- the buffers once the gates have run on
 abbrev pub tapeAfter : List ℕ → List ℕ → ℕ → List ℕ → List ℕ
-tapeAfter fs ts at m = putAt at (flipped (bitsFor fs at ts) fs) m
+tapeAfter fs ts at m = flipsAt at (flipped (bitsFor fs at ts) (flipped (bitsFor fs at ts) fs)) m
 
 abbrev pub oneAfter : List Gate → List ℕ → List ℕ → ℕ → ℕ → List ℕ → List ℕ
 oneAfter gs fs ts at w a = ranOn gs (bitsFor fs at ts) w a
@@ -185,7 +186,10 @@ pub flips-start :
     → FlipsLeft gs fs ts at w (tapeAfter fs ts at m) (oneAfter gs fs ts at w a) (otherAfter gs fs ts at w b) m a b
 flips-start {gs} {fs} {ts} {at} {w} {m} {a} {b} R =
     record {
-      left = left-start (subst (λ (d : ℕ). BothReady w (length gs) at d ts m a b) (sym (flipped-long fs at ts (R .tape))) R);
+      left =
+          left-start
+          (subst (λ (d : ℕ). BothReady w (length gs) at d ts m a b) (sym (flipped-long fs at ts (R .tape))) R)
+          (sym (flipped-length (bitsFor fs at ts) fs));
       fits = R .tape;
     }
 
@@ -215,22 +219,29 @@ module _ (gs hs : List Gate) (fs es : List ℕ) {ts : List ℕ} {at w : ℕ} {m 
         other = second .other ∙ sym (left .other);
       }
 
--- gates that draw one bit
+-- gates that draw one bit, which is flipped by f
 pub both-one :
-    (gs : List Gate) (f x y at w : ℕ) (ts m : List ℕ) {a a′ b b′ : List ℕ} → at < length ts → at < length m → x ≡ getD ts at 0
-    → y ≡ xor x f → a′ ≡ ranOn gs (x ∷ []) w a → b′ ≡ ranOn gs (y ∷ []) w b
-    → BothFlip gs (f ∷ []) ts at w m (set m at y) a a′ b b′
+    (gs : List Gate) (f x y at w : ℕ) (ts m : List ℕ) {r : ℕ} {m′ a a′ b b′ : List ℕ} → at < length ts → at < length m
+    → (x ≡ getD ts at 0) × (x ≤ 1) → (r ≡ f) × (r ≤ 1) × (m′ ≡ set m at (xor (getD m at 0) r)) → y ≡ xor x r
+    → a′ ≡ ranOn gs (x ∷ []) w a → b′ ≡ ranOn gs (y ∷ []) w b
+    → BothFlip gs (f ∷ []) ts at w m m′ a a′ b b′
 unfolding flipped
-both-one gs f x y at w ts m h k first second one other =
+both-one gs f x y at w ts m {r} h k first flip second one other =
     let here : bitsFor (f ∷ []) at ts ≡ x ∷ [] =
-    ap (take 1) (drop-cons ts at 0 h) ∙ ap (λ (v : ℕ). v ∷ []) (sym first) in
+    ap (take 1) (drop-cons ts at 0 h) ∙ ap (λ (v : ℕ). v ∷ []) (sym (first .0)) in
     let there : flipped (bitsFor (f ∷ []) at ts) (f ∷ []) ≡ y ∷ [] =
-    ap (λ (l : List ℕ). flipped l (f ∷ [])) here ∙ ap (λ (v : ℕ). v ∷ []) (sym second) in
-    rw (there, here) (record { mapped = put-set at y m k; one = one; other = other })
+    ap (λ (l : List ℕ). flipped l (f ∷ [])) here ∙ ap (λ (v : ℕ). v ∷ []) (sym (second ∙ ap (xor x) (flip .0))) in
+    let differ : xor x y ≡ r = omega (arith, second, first .1, flip .1) in
+    rw (there, here)
+    (record {
+      mapped = flip .2 ∙ flips-at-one at r m k ∙ ap (λ (v : ℕ). flipsAt at (v ∷ []) m) (sym differ);
+      one = one;
+      other = other;
+    })
 
 -- gates that draw none
 pub both-none :
     (gs : List Gate) (at w : ℕ) (ts m : List ℕ) {a a′ b b′ : List ℕ} → a′ ≡ ranOn gs [] w a → b′ ≡ ranOn gs [] w b
     → BothFlip gs [] ts at w m m a a′ b b′
 unfolding flipped
-both-none gs at w ts m one other = record { mapped = sym (put-nil at m); one = one; other = other }
+both-none gs at w ts m one other = record { mapped = sym (flips-at-nil at m); one = one; other = other }

@@ -8,14 +8,25 @@ use Prim.Native.Nat.{ℕ, zero, suc, _+_}
 use native.Mathlib.Omega.{arith}
 use lib.Dec.{eqb}
 use lib.ListN.{length}
-use borrow.Author.Tests.{eq-eqb}
-use Rattle.tables.proofs.Tests.{and-intro}
-use Rattle.maps.specs.Claims.{allBits, allTapes, same, howMany}
+use borrow.Author.Tests.{eqb-true, eq-eqb}
+use Rattle.tables.specs.Tables.{Table}
+use Rattle.tables.proofs.Tests.{and-true, and-intro}
+use Rattle.masks.specs.Gadgets.{Gadget}
+use Rattle.masks.specs.Wires.{tapeLong}
+use Rattle.maps.specs.Claims.{allBits, isTape, allTapes, same, howMany}
 use Rattle.maps.proofs.Bits.{all-bits, same-both}
 
 -- a tape of n bits
 abbrev pub BitsOf : ℕ → List ℕ → Type 0
 BitsOf n ts = (length ts ≡ n) × (allBits ts ≡ true)
+
+pub of-bits : (G : Gadget) (o : ℕ) (t : Table) (ts : List ℕ) → BitsOf (tapeLong G o t) ts → isTape G o t ts ≡ true
+of-bits G o t ts b = and-intro (eqb (length ts) (tapeLong G o t)) (allBits ts) (eq-eqb _ _ (b .0)) (b .1)
+
+pub bits-of : (G : Gadget) (o : ℕ) (t : Table) (ts : List ℕ) → isTape G o t ts ≡ true → BitsOf (tapeLong G o t) ts
+bits-of G o t ts h =
+    let a = and-true (eqb (length ts) (tapeLong G o t)) (allBits ts) h in
+    (eqb-true _ _ (a .0), a .1)
 
 -- the sum over all tapes of n bits
 unfoldable total : ℕ → (List ℕ → ℕ) → ℕ
@@ -27,14 +38,14 @@ unfolding howMany
 many-append f [] ys = omega arith
 many-append f (x ∷ xs) ys = omega (arith, many-append f xs ys)
 
-many-map :
+pub many-map :
     (f : List ℕ → Bool) (h : List ℕ → List ℕ) (xs : List (List ℕ))
     → howMany f (map h xs) ≡ howMany (λ ts. f (h ts)) xs
 unfolding howMany
 many-map f h [] = refl
 many-map f h (x ∷ xs) = omega (arith, many-map f h xs)
 
-many-all : (xs : List (List ℕ)) → howMany (λ ts. true) xs ≡ length xs
+pub many-all : (xs : List (List ℕ)) → howMany (λ ts. true) xs ≡ length xs
 unfolding howMany
 many-all [] = refl
 many-all (x ∷ xs) = omega (arith, many-all xs)
@@ -63,6 +74,13 @@ total-same (suc n) v u e =
     let zeros = total-same n (λ ts. v (0 ∷ ts)) (λ ts. u (0 ∷ ts)) (λ ts b. e (0 ∷ ts) (ap suc (b .0), b .1)) in
     let ones = total-same n (λ ts. v (1 ∷ ts)) (λ ts. u (1 ∷ ts)) (λ ts b. e (1 ∷ ts) (ap suc (b .0), b .1)) in
     omega arith
+
+-- tests that agree on the tapes count alike
+pub many-on :
+    (n : ℕ) (f g : List ℕ → Bool) → ((ts : List ℕ) → BitsOf n ts → f ts ≡ g ts)
+    → howMany f (allTapes n) ≡ howMany g (allTapes n)
+many-on n f g e =
+    many-total n f ∙ total-same n _ _ (λ ts b. ap (λ (x : Bool). cond x 1 0) (e ts b)) ∙ sym (many-total n g)
 
 total-zero : (n : ℕ) → total n (λ ts. 0) ≡ 0
 unfolding total
@@ -107,10 +125,8 @@ total-at (suc n) (suc (suc t) ∷ ts) v b = absurd (omega (arith, all-bits (suc 
 -- everything among them is a list of n bits
 pub tapes : (n : ℕ) → howMany (λ ts. eqb (length ts) n && allBits ts) (allTapes n) ≡ length (allTapes n)
 tapes n =
-    many-total n (λ ts. eqb (length ts) n && allBits ts)
-    ∙ total-same n _ (λ ts. 1)
-    (λ ts b. rw (and-intro (eqb (length ts) n) (allBits ts) (eq-eqb (length ts) n (b .0)) (b .1)))
-    ∙ sym (many-total n (λ ts. true))
+    many-on n _ (λ ts. true)
+    (λ ts b. and-intro (eqb (length ts) n) (allBits ts) (eq-eqb (length ts) n (b .0)) (b .1))
     ∙ many-all (allTapes n)
 
 -- every list of n bits stands exactly once among them

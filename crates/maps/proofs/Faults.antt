@@ -5,30 +5,29 @@ use mathlib.Core.Bool.{true, _&&_, _||_, not}
 use mathlib.Core.List.{List, [], _∷_, _++_}
 use Prim.Native.Nat.{ℕ, suc, _+_, _≤_}
 use native.Mathlib.Nat.{zero-add}
-use borrow.Author.Tests.{ltb-false, le-leb, not-false}
+use native.Mathlib.Omega.{arith}
+use borrow.Author.Tests.{ltb-false, le-leb, eqb-true, not-false}
 use lib.Dec.{eqb, ltb, leb}
 use lib.ListN.{length}
-use Rattle.tables.specs.Refusals.{Fault, none, passed, orElse, refusedIf, badBit}
+use Rattle.tables.specs.Refusals.{none, passed, orElse, refusedIf, badBit}
 use Rattle.tables.specs.Tables.{wires, tableOf}
+use Rattle.tables.specs.Packing.{bytesFor, tapeOf, spare, spareFault}
 use Rattle.tables.proofs.Tests.{and-true, and-intro, or-false, both-passed, not-refused, if-none, else-none}
 use Rattle.tables.proofs.Accept.{cond-passed}
 use Rattle.tables.proofs.Bad.{bad-append, bad-bits}
+use Rattle.tables.proofs.Packing.{tape-long, tape-bits}
 use Rattle.masks.specs.Gadgets.{Gadget}
 use Rattle.masks.specs.Wires.{maskedTable, tapeLong}
 use Rattle.masks.specs.Says.{plainFault}
 use Rattle.maps.specs.Claims.{allBits, allBelow, isTape, areSecrets, areProbes}
 use Rattle.maps.specs.Says.{badProbe, supplyFault, probesFault, roomFault, mapFault}
 use Rattle.maps.proofs.Bits.{bits-all}
+use Rattle.maps.proofs.TwoRuns.{is-tape}
 
--- the bits joined: "first secret, second secret, tape"
+-- the secrets joined: "first secret, second secret"
 pub bits-joined :
-    (xs ys ts : List ℕ)
-    → badBit 0 (xs ++ (ys ++ ts))
-    ≡ orElse (badBit 0 xs) (orElse (badBit (length xs) ys) (badBit (length xs + length ys) ts))
-bits-joined xs ys ts =
-    bad-append 0 xs (ys ++ ts)
-    ∙ ap {A = Fault} {B = Fault} (orElse (badBit 0 xs))
-    (ap (λ (n : ℕ). badBit n (ys ++ ts)) (zero-add (length xs)) ∙ bad-append (length xs) ys ts)
+    (xs ys : List ℕ) → badBit 0 (xs ++ ys) ≡ orElse (badBit 0 xs) (badBit (length xs) ys)
+bits-joined xs ys = bad-append 0 xs ys ∙ ap (λ (n : ℕ). orElse (badBit 0 xs) (badBit n ys)) (zero-add (length xs))
 
 good-bits : (i : ℕ) (bs : List ℕ) → passed (badBit i bs) ≡ true → allBits bs ≡ true
 good-bits i bs h = bits-all bs (bad-bits i bs h)
@@ -45,11 +44,17 @@ pub record MapGood (G : Gadget) (s : List ℕ) (o : ℕ) (xs ys ts ps : List ℕ
   pub plain : passed (plainFault G s o) ≡ true
   pub first : areSecrets (tableOf s) xs ≡ true
   pub second : areSecrets (tableOf s) ys ≡ true
-  pub tape : isTape G o (tableOf s) ts ≡ true
+  pub long : length ts ≡ bytesFor (tapeLong G o (tableOf s))
+  pub unused : spare (tapeLong G o (tableOf s)) ts ≡ 0
+  pub tape : isTape G o (tableOf s) (tapeOf (tapeLong G o (tableOf s)) ts) ≡ true
   pub probes : areProbes G o (tableOf s) ps ≡ true
-  pub mapped : tapeLong G o (tableOf s) ≤ a
+  pub mapped : bytesFor (tapeLong G o (tableOf s)) ≤ a
   pub one : wires (maskedTable G o (tableOf s)) ≤ b
   pub other : wires (maskedTable G o (tableOf s)) ≤ c
+
+no-spare : (i n : ℕ) (s : List ℕ) → passed (spareFault i n s) ≡ true → spare n s ≡ 0
+unfolding spareFault
+no-spare i n s h = eqb-true (spare n s) 0 (cond-passed (eqb (spare n s) 0) none 11 _ refl h .0)
 
 pub map-good :
     (G : Gadget) (s : List ℕ) (o : ℕ) (xs ys ts ps : List ℕ) (a b c : ℕ)
@@ -59,22 +64,25 @@ map-good G s o xs ys ts ps a b c h =
     let t = tableOf s in
     let w = wires (maskedTable G o t) in
     let l = tapeLong G o t in
-    let counts = eqb (length xs) (t .inputs) && (eqb (length ys) (t .inputs) && eqb (length ts) l) in
+    let counts = eqb (length xs) (t .inputs) && (eqb (length ys) (t .inputs) && eqb (length ts) (bytesFor l)) in
     let many = ltb o (length ps) in
-    let short = ltb a l || (ltb b w || ltb c w) in
+    let short = ltb a (bytesFor l) || (ltb b w || ltb c w) in
     let room = refusedIf short 9 in
     let probes = orElse (refusedIf many 12) (badProbe 0 w ps) in
-    let supply = orElse (refusedIf (not counts) 10) (badBit 0 (xs ++ (ys ++ ts))) in
+    let unused = spareFault (length xs + length ys) l ts in
+    let bad = orElse (badBit 0 (xs ++ ys)) unused in
+    let supply = orElse (refusedIf (not counts) 10) bad in
     let all = both-passed (plainFault G s o) (orElse supply (orElse probes room)) h in
     let parts = both-passed supply (orElse probes room) (all .1) in
     let later = both-passed probes room (parts .1) in
-    let supplied = both-passed (refusedIf (not counts) 10) (badBit 0 (xs ++ (ys ++ ts))) (parts .0) in
+    let supplied = both-passed (refusedIf (not counts) 10) bad (parts .0) in
     let probed = both-passed (refusedIf many 12) (badProbe 0 w ps) (later .0) in
     let one = and-true (eqb (length xs) (t .inputs)) _ (not-false counts (not-refused (not counts) 10 refl (supplied .0))) in
-    let two = and-true (eqb (length ys) (t .inputs)) (eqb (length ts) l) (one .1) in
-    let bits = both-passed (badBit 0 xs) _ (rw (bits-joined xs ys ts) at (supplied .1)) in
-    let more = both-passed (badBit (length xs) ys) (badBit (length xs + length ys) ts) (bits .1) in
-    let long = or-false (ltb a l) (ltb b w || ltb c w) (not-refused short 9 refl (later .1)) in
+    let two = and-true (eqb (length ys) (t .inputs)) (eqb (length ts) (bytesFor l)) (one .1) in
+    let good = both-passed (badBit 0 (xs ++ ys)) unused (supplied .1) in
+    let bits = both-passed (badBit 0 xs) (badBit (length xs) ys) (rw (bits-joined xs ys) at (good .0)) in
+    let bytes : length ts ≡ bytesFor l = eqb-true (length ts) (bytesFor l) (two .1) in
+    let long = or-false (ltb a (bytesFor l)) (ltb b w || ltb c w) (not-refused short 9 refl (later .1)) in
     let runs = or-false (ltb b w) (ltb c w) (long .1) in
     record {
       none =
@@ -83,13 +91,15 @@ map-good G s o xs ys ts ps a b c h =
           (else-none probes room (later .0) (if-none short 9 refl (later .1))));
       plain = all .0;
       first = and-intro (eqb (length xs) (t .inputs)) (allBits xs) (one .0) (good-bits 0 xs (bits .0));
-      second = and-intro (eqb (length ys) (t .inputs)) (allBits ys) (two .0) (good-bits (length xs) ys (more .0));
-      tape = and-intro (eqb (length ts) l) (allBits ts) (two .1) (good-bits (length xs + length ys) ts (more .1));
+      second = and-intro (eqb (length ys) (t .inputs)) (allBits ys) (two .0) (good-bits (length xs) ys (bits .1));
+      long = bytes;
+      unused = no-spare (length xs + length ys) l ts (good .1);
+      tape = is-tape G o t (tapeOf l ts) (tape-long l ts (omega (arith, bytes))) (tape-bits l ts);
       probes =
           and-intro (leb (length ps) o) (allBelow w ps)
           (le-leb (length ps) o (ltb-false o (length ps) (not-refused many 12 refl (probed .0))))
           (good-probes 0 w ps (probed .1));
-      mapped = ltb-false a l (long .0);
+      mapped = ltb-false a (bytesFor l) (long .0);
       one = ltb-false b w (runs .0);
       other = ltb-false c w (runs .1);
     }

@@ -1,23 +1,24 @@
 -- The tape bits of the inputs under the map: flipping is undone by flipping again, and as an input's flips add up to what its
 -- secrets differ by, the encodings of both secrets agree off the free share.
 -- Assumes nothing.
-use mathlib.Core.Path.{_≡_, refl, sym, ap, _∙_}
+use mathlib.Core.Path.{_≡_, refl, sym, ap, ap₂, _∙_}
 use mathlib.Core.Bool.{Bool, true, false, cond}
 use mathlib.Core.List.{List, [], _∷_, _++_}
 use Prim.Native.Nat.{ℕ, zero, suc, _+_, _*_, _%_, _≤_, _<_}
 use native.Mathlib.Nat.{mul-zero}
 use native.Mathlib.Omega.{arith}
 use lib.Dec.{eqb, ltb}
-use lib.ListN.{length, getD, take, drop, length-append, List·getD-append}
-use lib.Seq.{getD-at, take-at, drop-append-add}
-use borrow.Author.Tests.{ltb-true, ltb-false, eqb-true, eqb-false, ne-eqb}
+use lib.ListN.{length, getD, take, drop, length-append, length-drop, List·getD-append}
+use lib.Seq.{length-take-le, getD-at, take-at, drop-at, drop-append-add}
+use borrow.Author.Tests.{ltb-true, ltb-false, eqb-true, eqb-false, eq-eqb, ne-eqb}
 use Rattle.tables.specs.Runs.{xor, Bits}
 use Rattle.tables.proofs.Lists.{bits-cons, bits-take, bits-drop}
 use Rattle.masks.specs.Shares.{sharesOf, upFrom}
 use Rattle.masks.specs.Codes.{xorAll, encode}
-use Rattle.masks.proofs.Sum.{sumOf, up-length, up-at}
-use Rattle.masks.proofs.Codes.{xor-all, group, bitsOf, bits-long, encode-get}
+use Rattle.masks.proofs.Sum.{sumOf, up-length, up-at, up-append}
+use Rattle.masks.proofs.Codes.{xor-all, group, group-length, encode-cons, bitsOf, bits-long, encode-get}
 use Rattle.maps.specs.Maps.{flipped, inputFlips}
+use Rattle.maps.specs.Both.{eachFlip}
 
 pub flipped-length : (ts fs : List ℕ) → length (flipped ts fs) ≡ length ts
 unfolding flipped
@@ -76,6 +77,17 @@ flipped-twice (t ∷ ts) (f ∷ fs) h =
     let back : xor (xor t f) f ≡ t = omega arith in
     rw (back, flipped-twice ts fs (λ i. h (suc i)))
 
+-- where two tapes differ, the one is flipped into the other
+pub flipped-between : (ts us : List ℕ) → Bits us → length us ≡ length ts → flipped ts (flipped ts us) ≡ us
+unfolding flipped
+flipped-between [] [] h e = refl
+flipped-between [] (u ∷ us) h e = absurd (omega arith)
+flipped-between (t ∷ ts) [] h e = absurd (omega arith)
+flipped-between (t ∷ ts) (u ∷ us) h e =
+    let bit = h 0 in
+    let back : xor t (xor t u) ≡ u = omega arith in
+    rw (back, flipped-between ts us (λ i. h (suc i)) (omega arith))
+
 pub flipped-none : (ts fs : List ℕ) → Bits ts → ((i : ℕ) → getD fs i 0 ≡ 0) → flipped ts fs ≡ ts
 unfolding flipped
 flipped-none [] fs h none = refl
@@ -95,10 +107,10 @@ flipped-adds (t ∷ ts) [] e = absurd (omega arith)
 flipped-adds (t ∷ ts) (f ∷ fs) e = omega (arith, flipped-adds ts fs (omega arith))
 
 -- d at number k, and 0 elsewhere
-abbrev onlyAt : ℕ → ℕ → ℕ → ℕ
+abbrev pub onlyAt : ℕ → ℕ → ℕ → ℕ
 onlyAt k d s = cond (eqb s k) d 0
 
-only-not : (k d s : ℕ) → (s ≡ k → ⊥) → onlyAt k d s ≡ 0
+pub only-not : (k d s : ℕ) → (s ≡ k → ⊥) → onlyAt k d s ≡ 0
 only-not k d s n = rw (ne-eqb s k n)
 
 only-none : (k s : ℕ) → onlyAt k 0 s ≡ 0
@@ -130,6 +142,19 @@ only-adds (suc c) s k d h l = go (eqb s k) refl (only-adds c (suc s) k d)
     go false e f =
         let other = eqb-false s k e in
         omega (arith, f (omega arith) (omega arith))
+
+-- they are none where k is past, and where it is not reached
+pub only-after : (c s k d : ℕ) → k < s → (i : ℕ) → getD (upFrom c s (onlyAt k d)) i 0 ≡ 0
+unfolding upFrom
+only-after zero s k d h i = refl
+only-after (suc c) s k d h zero = only-not k d s (λ e. omega arith)
+only-after (suc c) s k d h (suc i) = only-after c (suc s) k d (omega arith) i
+
+pub only-before : (c s k d : ℕ) → s + c ≤ k → (i : ℕ) → getD (upFrom c s (onlyAt k d)) i 0 ≡ 0
+unfolding upFrom
+only-before zero s k d h i = refl
+only-before (suc c) s k d h zero = only-not k d s (λ e. omega arith)
+only-before (suc c) s k d h (suc i) = only-before c (suc s) k d (omega arith) i
 
 only-zero : (c s k i : ℕ) → getD (upFrom c s (onlyAt k 0)) i 0 ≡ 0
 unfolding upFrom
@@ -220,6 +245,41 @@ last-kept o k x y bs h l long hx hy =
     flipped-adds bs fs (long ∙ sym (flips-long o k x y)) in
     xor-all x bs hx ∙ omega arith ∙ sym (xor-all y (flipped bs fs) hy)
 
+xor-swap : (x y n : ℕ) → x ≤ 1 → (y + n) % 2 ≡ ((x + n) % 2 + (x + y) % 2) % 2
+xor-swap zero y n h = omega arith
+xor-swap (suc zero) y n h = omega arith
+xor-swap (suc (suc x)) y n h = absurd (omega arith)
+
+-- one input: the last share is flipped where it is share k
+last-flipped :
+    (o k x y : ℕ) (bs : List ℕ) → 1 ≤ k → k ≤ sharesOf o → x ≤ 1 → y ≤ 1 → Bits bs → length bs ≡ 2 * o
+    → xorAll y (flipped bs (flipsOf o k x y)) ≡ xor (xorAll x bs) (onlyAt k (xor x y) (1 + 2 * o))
+last-flipped o k x y bs h l hx hy hb long = go (ltb (2 * o) k) refl
+  where
+    go : (t : Bool) → ltb (2 * o) k ≡ t → xorAll y (flipped bs (flipsOf o k x y)) ≡ xor (xorAll x bs) (onlyAt k (xor x y) (1 + 2 * o))
+    go true e =
+        let last : 1 + 2 * o ≡ k = omega (arith, ltb-true (2 * o) k e) in
+        let none = flipped-none bs (flipsOf o k x y) hb (only-before (2 * o) 1 k (xor x y) (omega arith)) in
+        let all : onlyAt k (xor x y) (1 + 2 * o) ≡ xor x y = rw (eq-eqb (1 + 2 * o) k last) in
+        rw (none, all)
+        (xor-all y bs hy ∙ xor-swap x y (sumOf (λ b. b) bs) hx ∙ ap (λ (v : ℕ). xor v (xor x y)) (sym (xor-all x bs hx)))
+    go false e =
+        let off : onlyAt k (xor x y) (1 + 2 * o) ≡ 0 = only-not k (xor x y) (1 + 2 * o) (λ q. omega (arith, ltb-false (2 * o) k e)) in
+        sym (last-kept o k x y bs h (ltb-false (2 * o) k e) long hx hy) ∙ omega (arith, off, xor-all x bs hx)
+
+-- one input: share k of its group is flipped where the secrets differ, and no other
+pub group-flipped :
+    (o k x y : ℕ) (bs : List ℕ) → 1 ≤ k → k ≤ sharesOf o → x ≤ 1 → y ≤ 1 → Bits bs → length bs ≡ 2 * o
+    → group y (flipped bs (flipsOf o k x y)) ≡ flipped (group x bs) (upFrom (sharesOf o) 1 (onlyAt k (xor x y)))
+unfolding upFrom flipped
+group-flipped o k x y bs h l hx hy hb long =
+    let fs = flipsOf o k x y in
+    let f = onlyAt k (xor x y) in
+    let more : upFrom (sharesOf o) 1 f ≡ fs ++ (f (1 + 2 * o) ∷ []) =
+    ap (λ (c : ℕ). upFrom c 1 f) {x = sharesOf o} {y = 2 * o + 1} (omega arith) ∙ up-append (2 * o) 1 1 f in
+    ap (λ (v : ℕ). flipped bs fs ++ (v ∷ [])) (last-flipped o k x y bs h l hx hy hb long)
+    ∙ sym (ap (flipped (group x bs)) more ∙ flipped-append bs (xorAll x bs ∷ []) fs (f (1 + 2 * o) ∷ []) (long ∙ sym (flips-long o k x y)))
+
 -- one input: off share k the groups agree
 group-off :
     (o k x y : ℕ) (bs : List ℕ) → 1 ≤ k → k ≤ sharesOf o → x ≤ 1 → y ≤ 1 → Bits bs → length bs ≡ 2 * o
@@ -262,3 +322,42 @@ encode-off o k xs ys ts h l e hx hy ht long i s hi hs off =
     ∙ group-off o k (getD xs i 0) (getD ys i 0) (bitsOf o ts i) h l (hx i) (hy i) bits (bits-long o xs ts i long hi) s hs off
     ∙ ap (λ (bs : List ℕ). getD (group (getD ys i 0) bs) s 0) (sym (input-bits o k xs ys ts i e hi))
     ∙ sym (encode-get o ys us i us-long (omega arith) s hs)
+
+-- the inputs' bits, each 2t
+pub each-inputs : (o k : ℕ) (xs ys : List ℕ) → eachFlip (2 * o) k xs ys ≡ inputFlips o k xs ys
+unfolding eachFlip inputFlips
+each-inputs o k [] ys = refl
+each-inputs o k (x ∷ xs) [] = refl
+each-inputs o k (x ∷ xs) (y ∷ ys) = ap (λ (l : List ℕ). flipsOf o k x y ++ l) (each-inputs o k xs ys)
+
+-- the second encoding is the first with share k of each input flipped where the secrets differ
+pub encode-flipped :
+    (o k : ℕ) (xs ys ts : List ℕ) → 1 ≤ k → k ≤ sharesOf o → length ys ≡ length xs → Bits xs → Bits ys → Bits ts
+    → length ts ≡ 2 * o * length xs
+    → encode o ys (flipped ts (inputFlips o k xs ys)) ≡ flipped (encode o xs ts) (eachFlip (sharesOf o) k xs ys)
+unfolding encode eachFlip flipped inputFlips
+encode-flipped o k [] [] ts h l e hx hy ht long = refl
+encode-flipped o k [] (y ∷ ys) ts h l e hx hy ht long = absurd (omega arith)
+encode-flipped o k (x ∷ xs) [] ts h l e hx hy ht long = absurd (omega arith)
+encode-flipped o k (x ∷ xs) (y ∷ ys) ts h l e hx hy ht long =
+    let fs = flipsOf o k x y in
+    let es = inputFlips o k xs ys in
+    let bs = take (2 * o) ts in
+    let rest = drop (2 * o) ts in
+    let ups = upFrom (sharesOf o) 1 (onlyAt k (xor x y)) in
+    let bits-due : length bs ≡ 2 * o = length-take-le (2 * o) ts (omega arith) in
+    let front : take (2 * o) (flipped ts (fs ++ es)) ≡ flipped bs fs =
+    flipped-take (2 * o) ts (fs ++ es) ∙ ap (flipped bs) (take-at fs es (2 * o) (flips-long o k x y)) in
+    let back : drop (2 * o) (flipped ts (fs ++ es)) ≡ flipped rest es =
+    flipped-drop (2 * o) ts (fs ++ es) ∙ ap (flipped rest) (drop-at fs es (2 * o) (flips-long o k x y)) in
+    let one = group-flipped o k x y bs h l (hx 0) (hy 0) (bits-take (2 * o) ts ht) bits-due in
+    let others =
+    encode-flipped o k xs ys rest h l (omega arith) (λ i. hx (suc i)) (λ i. hy (suc i)) (bits-drop (2 * o) ts ht)
+    (length-drop (2 * o) ts ∙ omega arith) in
+    let same : length (group x bs) ≡ length ups = group-length x bs ∙ ap suc bits-due ∙ sym (up-length (sharesOf o) 1 _) in
+    encode-cons o y ys (flipped ts (fs ++ es))
+    ∙ ap₂ (λ (a b : List ℕ). group y a ++ encode o ys b) front back
+    ∙ ap₂ (λ (a b : List ℕ). a ++ b) one others
+    ∙ sym
+    (ap (λ (a : List ℕ). flipped a (ups ++ eachFlip (sharesOf o) k xs ys)) (encode-cons o x xs ts)
+    ∙ flipped-append (group x bs) (encode o xs rest) ups (eachFlip (sharesOf o) k xs ys) same)

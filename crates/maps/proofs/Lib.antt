@@ -1,6 +1,7 @@
 -- Laws of the map, and demands 2 and 3.
 pub mod Bits
 pub mod Count
+pub mod Packed
 pub mod Faults
 pub mod Free
 pub mod Inputs
@@ -14,5 +15,6 @@ pub mod Written
 pub mod Counted
 pub mod Whole
 pub mod Assurance
+pub mod FlipsAt
 pub mod Both
 pub mod MapGates

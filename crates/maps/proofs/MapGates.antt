@@ -9,7 +9,7 @@ use lib.ListN.{length, getD, take, drop, length-append, length-drop, length-map}
 use lib.Seq.{length-take-le, take-add, drop-drop, getD-take, take-at, drop-at}
 use Rattle.tables.specs.Tables.{Gate, total}
 use Rattle.tables.specs.Runs.{Bits, runFrom, randoms}
-use Rattle.tables.specs.Inside.{putAt, ranOn, RunsTo}
+use Rattle.tables.specs.Inside.{ranOn, RunsTo}
 use Rattle.tables.proofs.Lists.{bits-take, bits-drop}
 use Rattle.tables.proofs.Run.{run-prefix}
 use Rattle.tables.proofs.Ran.{ran-taken}
@@ -20,14 +20,14 @@ use Rattle.masks.proofs.Lawful.{Lawful}
 use Rattle.masks.proofs.Costs.{new-length, new-draws, masked-length}
 use Rattle.masks.proofs.Placed.{Placed, placed-step}
 use Rattle.maps.specs.Maps.{flipped, gateFlips, mapGates}
-use Rattle.maps.specs.Both.{BothRan, BothFlip, BothReady}
+use Rattle.maps.specs.Both.{BothRan, BothFlip, BothReady, flipsAt}
 use Rattle.maps.proofs.Inputs.{flipped-length, flipped-bits}
 use Rattle.maps.proofs.Flips.{gate-flips-length, gate-flips-local, map-step, map-gates-fixed, next-plain}
 use Rattle.maps.proofs.Both.{BothLeft, left-start, left-more, left-end, both-less}
 
 -- the random bits of the gates xs, from a place of a tape on
-abbrev bitsOf : ℕ → List Gate → ℕ → List ℕ → List ℕ
-bitsOf n xs at ts = take (total (λ kd. draws kd n) xs) (drop at ts)
+abbrev bitsFrom : ℕ → List Gate → ℕ → List ℕ → List ℕ
+bitsFrom n xs at ts = take (total (λ kd. draws kd n) xs) (drop at ts)
 
 -- the map's gates xs are left: from gate g and wire w on, where S lists the shares so far
 pub record GatesLeft (G : Gadget) (n k g w : ℕ) (S : List (List ℕ)) (xs : List Gate) (ts : List ℕ) (at : ℕ) (M A B m a b : List ℕ)
@@ -72,7 +72,7 @@ module _ {G : Gadget} (L : Lawful G) {n k g w : ℕ} {S : List (List ℕ)} {x : 
   first = take d (drop at ts)
 
   abbrev rest : List ℕ
-  rest = bitsOf n xs (at + d) ts
+  rest = bitsFrom n xs (at + d) ts
 
   flips-long : length flips ≡ d
   flips-long = gate-flips-length G (x .kind) n k l r (λ p. getD a p 0) (λ p. getD b p 0)
@@ -91,7 +91,7 @@ module _ {G : Gadget} (L : Lawful G) {n k g w : ℕ} {S : List (List ℕ)} {x : 
   unfolding total
   fits-next = omega (arith, P .fits)
 
-  bits-cut : bitsOf n (x ∷ xs) at ts ≡ first ++ rest
+  bits-cut : bitsFrom n (x ∷ xs) at ts ≡ first ++ rest
   unfolding total
   bits-cut = take-add d (total (λ kd. draws kd n) xs) (drop at ts) ∙ rw drop-drop
 
@@ -133,13 +133,13 @@ module _ {G : Gadget} (L : Lawful G) {n k g w : ℕ} {S : List (List ℕ)} {x : 
         sym (rw e (ran-taken these us w v room {v = w + cost (x .kind) n} (omega (arith, these-long))))
 
     second-cut :
-        mapGates G n k g w S (x ∷ xs) (bitsOf n (x ∷ xs) at ts) (take w a) (take w b)
+        mapGates G n k g w S (x ∷ xs) (bitsFrom n (x ∷ xs) at ts) (take w a) (take w b)
         ≡ flipped first flips
         ++ mapGates G n k (suc g) (w + cost (x .kind) n) (S ++ (newShares (x .kind) n w l ∷ [])) xs rest
         (take (w + cost (x .kind) n) a′)
         (take (w + cost (x .kind) n) b′)
     second-cut =
-        map-step L n k g w S x xs (bitsOf n (x ∷ xs) at ts) (take w a) (take w b)
+        map-step L n k g w S x xs (bitsFrom n (x ∷ xs) at ts) (take w a) (take w b)
         ∙ rw (
           bits-cut,
           take-at first rest d first-long,
@@ -181,7 +181,7 @@ module _ {G : Gadget} (L : Lawful G) (n k g w : ℕ) (S : List (List ℕ)) (xs :
   all = map driverOf (masked G n g w S xs)
 
   abbrev firsts : List ℕ
-  firsts = bitsOf n xs at ts
+  firsts = bitsFrom n xs at ts
 
   abbrev seconds : List ℕ
   seconds = mapGates G n k g w S xs firsts (take w a) (take w b)
@@ -189,21 +189,25 @@ module _ {G : Gadget} (L : Lawful G) (n k g w : ℕ) (S : List (List ℕ)) (xs :
   all-long : length all ≡ total (λ kd. cost kd n) xs
   all-long = length-map (masked G n g w S xs) driverOf ∙ masked-length G n g w S xs
 
+  firsts-long : length firsts ≡ total (λ kd. draws kd n) xs
+  firsts-long = length-take-le (total (λ kd. draws kd n) xs) (drop at ts) (omega (arith, R .tape, length-drop at ts))
+
   seconds-long : length seconds ≡ total (λ kd. draws kd n) xs
   seconds-long =
-      let long : length firsts ≡ total (λ kd. draws kd n) xs =
-      length-take-le (total (λ kd. draws kd n) xs) (drop at ts) (omega (arith, R .tape, length-drop at ts)) in
       let fixed = map-gates-fixed L n k g w S xs firsts (take w a) (take w b) some plain placed
       (length-take-le w a (omega (arith, R .one .room)))
       (length-take-le w b (omega (arith, R .other .room)))
-      long in
-      ap length (fixed .holds) ∙ flipped-length firsts _ ∙ long
+      firsts-long in
+      ap length (fixed .holds) ∙ flipped-length firsts _ ∙ firsts-long
 
   pub gates-start :
-      GatesLeft G n k g w S xs ts at (putAt at seconds m) (ranOn all firsts w a) (ranOn all seconds w b) m a b
+      GatesLeft G n k g w S xs ts at (flipsAt at (flipped firsts seconds) m) (ranOn all firsts w a) (ranOn all seconds w b) m a b
   gates-start =
       record {
-        left = left-start (subst₂ (λ (c d : ℕ). BothReady w c at d ts m a b) (sym all-long) (sym seconds-long) R);
+        left =
+            left-start
+            (subst₂ (λ (c d : ℕ). BothReady w c at d ts m a b) (sym all-long) (sym seconds-long) R)
+            (firsts-long ∙ sym seconds-long);
         exact = seconds-long;
         fits = R .tape;
         some = some;

@@ -6,13 +6,10 @@ use mathlib.Core.Bool.{true}
 use mathlib.Core.List.{List, _++_, map}
 use Prim.Native.Nat.{ℕ, _*_}
 use native.Mathlib.Omega.{arith}
-use lib.Dec.{eqb}
 use lib.ListN.{length, getD, take, drop}
 use lib.Seq.{take-at, drop-at}
-use borrow.Author.Tests.{eq-eqb}
 use Rattle.tables.specs.Tables.{Table}
 use Rattle.tables.specs.Runs.{runFrom, Bits}
-use Rattle.tables.proofs.Tests.{and-intro}
 use Rattle.tables.proofs.Accept.{Plain}
 use Rattle.masks.specs.Shares.{sharesOf}
 use Rattle.masks.specs.Gadgets.{Gadget}
@@ -22,9 +19,10 @@ use Rattle.masks.proofs.Lawful.{Lawful}
 use Rattle.masks.proofs.Placed.{placed-inputs}
 use Rattle.maps.specs.Maps.{flipped, inputFlips, mapGates, mappedAt}
 use Rattle.maps.specs.Laws.{gatesFlips, tapeFlips}
-use Rattle.maps.specs.Claims.{allBits, isTape, areSecrets}
+use Rattle.maps.specs.Claims.{isTape, areSecrets}
 use Rattle.maps.specs.Laws.{TwoRuns}
 use Rattle.maps.proofs.Bits.{bits-all}
+use Rattle.maps.proofs.Count.{of-bits}
 use Rattle.maps.proofs.Inputs.{flipped-length, flipped-bits, flipped-twice, flipped-none, input-flips-length}
 use Rattle.maps.proofs.Inputs.{input-flips-sym, input-flips-none, zero-append}
 use Rattle.maps.proofs.Begun.{run-is, secrets-are, tape-is, enough, tape-front-long, rest-long, shares-long, plain-inputs}
@@ -34,9 +32,7 @@ use Rattle.maps.proofs.Flips.{map-gates-fixed}
 pub is-tape :
     (G : Gadget) (o : ℕ) (t : Table) (ts : List ℕ) → length ts ≡ tapeLong G o t → Bits ts → isTape G o t ts ≡ true
 is-tape G o t ts long bits =
-    and-intro (eqb (length ts) (tapeLong G o t)) (allBits ts)
-    (eq-eqb (length ts) (tapeLong G o t) long)
-    (bits-all ts bits)
+    of-bits G o t ts (long, bits-all ts bits)
 
 -- swapping the secrets and their runs changes nothing
 tape-flips-sym :
@@ -129,7 +125,7 @@ module _ {G : Gadget} (L : Lawful G) (t : Table) (o k : ℕ) (P : Plain t) (xs y
   pub mapped-length : length (mappedAt G o t k xs ys ts) ≡ tapeLong G o t
   mapped-length = ap length (mapped-fixed .holds) ∙ flipped-length ts _ ∙ long
 
-  mapped-bits : Bits ts → Bits (mappedAt G o t k xs ys ts)
+  pub mapped-bits : Bits ts → Bits (mappedAt G o t k xs ys ts)
   mapped-bits bits = subst Bits (sym (mapped-fixed .holds)) (flipped-bits ts _ bits)
 
 -- equal secrets map a tape to itself

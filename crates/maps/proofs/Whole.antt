@@ -1,18 +1,18 @@
 -- Demands 2 and 3 and the further laws, for every accepted table and order: `demands` and `laws` are what a
--- visitor looks for; `decides` is Card 3's law.
+-- visitor looks for; `decides` is Card 3's law, `packed-demands` is demand 3 for packed tapes.
 -- Assumes nothing.
 use mathlib.Core.Path.{_≡_, refl, sym, ap, subst}
 use mathlib.Core.Bool.{true, false, _&&_}
 use mathlib.Core.List.{List, [], _∷_}
 use Prim.Native.Nat.{ℕ, _+_, _≤_, _<_}
 use native.Mathlib.Omega.{arith}
-use borrow.Author.Tests.{leb-true, eqb-true, eq-eqb}
-use lib.Dec.{leb, eqb}
+use borrow.Author.Tests.{leb-true}
+use lib.Dec.{leb}
 use lib.ListN.{length, getD}
 use Rattle.tables.specs.Refusals.{passed}
 use Rattle.tables.specs.Tables.{Table, wires, tableOf, tableFault, randomFault}
 use Rattle.tables.specs.Runs.{readAll}
-use Rattle.tables.proofs.Tests.{and-true, and-intro}
+use Rattle.tables.proofs.Tests.{and-true}
 use Rattle.tables.proofs.Lists.{All, all-append, all-map}
 use Rattle.tables.proofs.Accept.{Plain, accepted-plain}
 use Rattle.masks.specs.Shares.{sharesOf}
@@ -23,10 +23,12 @@ use Rattle.masks.specs.Says.{orderOk, originAt}
 use Rattle.masks.proofs.Lawful.{Lawful, isw-lawful}
 use Rattle.masks.proofs.Each.{each-at}
 use Rattle.maps.specs.Maps.{ofEach, single, carried, freeShare, mappedAt, mapped}
-use Rattle.maps.specs.Claims.{accepted, isTape, areSecrets, areProbes, allBelow, allBits, same, Hides, Demands}
+use Rattle.maps.specs.Claims.{accepted, isTape, areSecrets, areProbes, allBelow, same, Hides, Demands}
+use Rattle.maps.specs.Packed.{PackedDemands}
 use Rattle.maps.specs.Laws.{Free, Laws, CountsDecide}
 use Rattle.maps.proofs.Bits.{all-below}
-use Rattle.maps.proofs.Count.{BitsOf, tapes, once, same-count}
+use Rattle.maps.proofs.Count.{BitsOf, of-bits, bits-of, tapes, once, same-count}
+use Rattle.maps.proofs.Packed.{packs, hides-packed}
 use Rattle.maps.proofs.Free.{carriedCount, free-laws, few-carried, marks-two, uncarried-each}
 use Rattle.masks.proofs.Hiding.{Hiding, isw-hiding}
 use Rattle.maps.proofs.TwoRuns.{two-runs, mapped-tape, mapped-back}
@@ -119,14 +121,6 @@ module _
         below
         (uncarried-each (λ p. mk (originAt os p)) k ps (free .uncarried))))
 
-    of-bits : (ts : List ℕ) → BitsOf (tapeLong G o t) ts → isTape G o t ts ≡ true
-    of-bits ts b = and-intro (eqb (length ts) (tapeLong G o t)) (allBits ts) (eq-eqb _ _ (b .0)) (b .1)
-
-    bits-of : (ts : List ℕ) → isTape G o t ts ≡ true → BitsOf (tapeLong G o t) ts
-    bits-of ts h =
-        let a = and-true (eqb (length ts) (tapeLong G o t)) (allBits ts) h in
-        (eqb-true _ _ (a .0), a .1)
-
     pub hides : Hides G mk rd t o
     hides =
         record {
@@ -137,13 +131,14 @@ module _
               let k = freeShare G mk o t ps in
               let to : (zs ws ts : List ℕ) → areSecrets t zs ≡ true → areSecrets t ws ≡ true → BitsOf (tapeLong G o t) ts
               → BitsOf (tapeLong G o t) (mappedAt G o t k zs ws ts) =
-              λ zs ws ts hz hw b. bits-of (mappedAt G o t k zs ws ts) (mapped-tape (H .lawful) t o k P zs ws ts hz hw (of-bits ts b)) in
+              λ zs ws ts hz hw b.
+              bits-of G o t (mappedAt G o t k zs ws ts) (mapped-tape (H .lawful) t o k P zs ws ts hz hw (of-bits G o t ts b)) in
               same-count (tapeLong G o t) (mappedAt G o t k xs ys) (mappedAt G o t k ys xs) _ _
               (λ ts b. to xs ys ts hx hy b)
               (λ ts b. to ys xs ts hy hx b)
-              (λ ts b. mapped-back (H .lawful) t o k P xs ys ts hx hy (of-bits ts b))
-              (λ ts b. mapped-back (H .lawful) t o k P ys xs ts hy hx (of-bits ts b))
-              (λ ts b. ap (λ (l : List ℕ). same l pattern) (sym (same-read xs ys ts ps hx hy (of-bits ts b) hp)));
+              (λ ts b. mapped-back (H .lawful) t o k P xs ys ts hx hy (of-bits G o t ts b))
+              (λ ts b. mapped-back (H .lawful) t o k P ys xs ts hy hx (of-bits G o t ts b))
+              (λ ts b. ap (λ (l : List ℕ). same l pattern) (sym (same-read xs ys ts ps hx hy (of-bits G o t ts b) hp)));
         }
 
 accepted-is : (s : List ℕ) (o : ℕ) → accepted s o ≡ true → Plain (tableOf s)
@@ -159,6 +154,10 @@ demands =
       third = λ s o h. hides isw-hiding (tableOf s) o (covers-single isw-lawful (tableOf s) o) (accepted-is s o h);
       written-back = written;
     }
+
+-- demand 3 for packed tapes
+pub packed-demands : PackedDemands
+packed-demands = record { one-to-one = packs; third = λ s o h. hides-packed (demands .third s o h) }
 
 -- the counts decide the forecast
 pub decides : CountsDecide isw

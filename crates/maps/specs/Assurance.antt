@@ -1,6 +1,6 @@
 -- What the calls themselves do, as one law: whatever buffers and answers masking, mapping, encoding, running and decoding leave,
 -- if each was made as below and answered 0, then the probed wires have the same values in both runs, and in the runs of the
--- table that masking wrote as many tapes give each pattern of values for the one secret as for the other.
+-- table that masking wrote as many packed tapes give each pattern of values for the one secret as for the other.
 -- Nothing is said here of how the calls work: only their promises are used.
 -- Assumes nothing.
 use mathlib.Core.Path.{_≡_}
@@ -10,12 +10,14 @@ use lib.ListN.{length, take, drop}
 use Rattle.tables.specs.declared.Answer as DA
 use Rattle.tables.specs.Tables.{tableOf, word}
 use Rattle.tables.specs.Runs.{run, readAll, outputsOf}
+use Rattle.tables.specs.Packing.{packed, tapeOf}
 use Rattle.tables.specs.Says.{RunSays}
 use Rattle.masks.specs.Gadgets.{isw}
-use Rattle.masks.specs.Wires.{marks}
+use Rattle.masks.specs.Wires.{marks, tapeLong}
 use Rattle.masks.specs.Codes.{encode}
 use Rattle.masks.specs.Says.{MaskSays, EncodeSays, DecodeSays}
-use Rattle.maps.specs.Claims.{allTapes, same, howMany}
+use Rattle.maps.specs.Claims.{same, howMany}
+use Rattle.maps.specs.Packed.{allPacked}
 use Rattle.maps.specs.Says.{MapSays}
 
 -- a lent buffer before and after a call, and the call's answer
@@ -27,11 +29,12 @@ pub record Lent : Type 0 where
 abbrev pub written : Lent → DA.Answer → List ℕ
 written b r = take (r .value) (b .after)
 
--- one secret's way through the masked table m: encoded with the front of the tape, run with the rest, decoded
+-- one secret's way through the masked table m, with the bits ts of a tape: encoded with the front of them, run with the rest,
+-- decoded. "Encoding and running each take their own part of the tape, packed for itself"
 pub record Way (o : ℕ) (m xs ts : List ℕ) : Type 0 where
   pub shares : Lent
   pub encoded : DA.Answer
-  pub encode-says : EncodeSays o xs (take (2 * o * length xs) ts) (shares .before) (shares .after) encoded
+  pub encode-says : EncodeSays o xs (packed (take (2 * o * length xs) ts)) (shares .before) (shares .after) encoded
   pub encode-ok : encoded .number ≡ 0
   pub values : Lent
   pub outputs : Lent
@@ -39,7 +42,7 @@ pub record Way (o : ℕ) (m xs ts : List ℕ) : Type 0 where
   pub run-says :
       RunSays m
       (written shares encoded)
-      (drop (2 * o * length xs) ts)
+      (packed (drop (2 * o * length xs) ts))
       (values .before)
       (values .after)
       (outputs .before)
@@ -52,7 +55,8 @@ pub record Way (o : ℕ) (m xs ts : List ℕ) : Type 0 where
   pub decode-says : DecodeSays o (take (word m 4) (outputs .after)) (bits .before) (bits .after) decoded
   pub decode-ok : decoded .number ≡ 0
 
--- the calls: masking wrote m; mapping wrote the mapped tape and both runs; each secret went its way, y with the mapped tape
+-- the calls: masking wrote m; mapping wrote the mapped tape and both runs; each secret went its way, y with the mapped tape.
+-- "the map takes the whole tape as one"
 pub record Calls (s : List ℕ) (o : ℕ) (xs ys ts ps : List ℕ) : Type 0 where
   pub table : Lent
   pub masked : DA.Answer
@@ -72,17 +76,17 @@ pub record Calls (s : List ℕ) (o : ℕ) (xs ys ts ps : List ℕ) : Type 0 wher
       (other .after)
       mapping
   pub map-ok : mapping .number ≡ 0
-  pub first : Way o (written table masked) xs ts
-  pub second : Way o (written table masked) ys (take (length ts) (tape .after))
+  pub first : Way o (written table masked) xs (tapeOf (tapeLong isw o (tableOf s)) ts)
+  pub second : Way o (written table masked) ys (tapeOf (tapeLong isw o (tableOf s)) (take (length ts) (tape .after)))
 
--- how many of the tapes of l bits give a pattern where ps are read in the run of the table m on the secret xs: encoded with the
--- front of the tape, run with the rest
+-- how many of the packed tapes of l bits give a pattern where ps are read in the run of the table m on the secret xs: encoded
+-- with the front of the tape's bits, run with the rest
 abbrev pub timesRead : ℕ → List ℕ → ℕ → List ℕ → List ℕ → List ℕ → ℕ
 timesRead o m l xs ps pattern =
     let k = 2 * o * length xs in
     howMany
-    (λ us. same (readAll (run (tableOf m) (encode o xs (take k us)) (drop k us)) ps) pattern)
-    (allTapes l)
+    (λ us. same (readAll (run (tableOf m) (encode o xs (take k (tapeOf l us))) (drop k (tapeOf l us))) ps) pattern)
+    (allPacked l)
 
 -- what then holds of the bytes that the calls left
 pub record Assured (s : List ℕ) (o : ℕ) (xs ys ts ps : List ℕ) (c : Calls s o xs ys ts ps) : Type 0 where
@@ -91,8 +95,8 @@ pub record Assured (s : List ℕ) (o : ℕ) (xs ys ts ps : List ℕ) (c : Calls 
   -- "each pattern comes from as many tapes for one key as for the other", in the runs of the table that masking wrote
   pub as-many :
       (pattern : List ℕ)
-      → timesRead o (written (c .table) (c .masked)) (length ts) xs ps pattern
-      ≡ timesRead o (written (c .table) (c .masked)) (length ts) ys ps pattern
+      → timesRead o (written (c .table) (c .masked)) (tapeLong isw o (tableOf s)) xs ps pattern
+      ≡ timesRead o (written (c .table) (c .masked)) (tapeLong isw o (tableOf s)) ys ps pattern
   -- the buffers that mapping filled are those two runs
   pub first-run : take (c .first .ran .value) (c .one .after) ≡ written (c .first .values) (c .first .ran)
   pub second-run : take (c .second .ran .value) (c .other .after) ≡ written (c .second .values) (c .second .ran)

@@ -6,7 +6,6 @@ use mathlib.Core.List.{List, [], _∷_, _++_, map}
 use Prim.Native.Nat.{ℕ, zero, suc, _+_, _*_, _/_, _%_, _≤_, _<_}
 use native.Mathlib.Nat.{zero-add, mul-zero, mul-le-mul-left, div-eq-of-eq-mul-right}
 use native.Mathlib.Omega.{arith}
-use lib.Bits.{bitXor}
 use lib.ListN.{length, getD, take, drop, length-append, length-drop, List·getD-append}
 use lib.Seq.{length-take-le, append-snoc, drop-drop, getD-drop, take-at, drop-at, drop-append-add, drop-cons}
 use Rattle.tables.specs.Runs.{xor, Bits}
@@ -14,14 +13,6 @@ use Rattle.tables.proofs.Lists.{All, bits-nil, bits-cons, bits-append, bits-tak
 use Rattle.masks.specs.Shares.{sharesOf}
 use Rattle.masks.specs.Codes.{xorAll, encode, decodeFrom, decode}
 use Rattle.masks.proofs.Sum.{sumOf, sum-append}
-
--- the XOR of two bits, as code computes it
-pub bit-xor : (a b : ℕ) → a ≤ 1 → b ≤ 1 → bitXor a b ≡ xor a b
-bit-xor zero b h k = omega arith
-bit-xor (suc zero) zero h k = refl
-bit-xor (suc zero) (suc zero) h k = refl
-bit-xor (suc zero) (suc (suc b)) h k = absurd (omega arith)
-bit-xor (suc (suc a)) b h k = absurd (omega arith)
 
 pub xor-all : (v : ℕ) (bs : List ℕ) → v ≤ 1 → xorAll v bs ≡ (v + sumOf (λ b. b) bs) % 2
 unfolding xorAll sumOf

@@ -3,7 +3,7 @@
 -- Assumes nothing.
 use mathlib.Core.Path.{_≡_}
 use mathlib.Core.Bool.{Bool, _&&_, _||_, not, cond}
-use mathlib.Core.List.{List, _++_}
+use mathlib.Core.List.{List}
 use Prim.Native.Nat.{ℕ, suc, _*_, _/_, _%_}
 use lib.Dec.{eqb, ltb, leb}
 use lib.ListN.{length, getD}
@@ -12,6 +12,7 @@ use Rattle.masks.specs.declared.Sizes as DS
 use Rattle.masks.specs.declared.Marks as DM
 use Rattle.tables.specs.Refusals.{Fault, passed, orElse, refusedIf, badBit}
 use Rattle.tables.specs.Tables.{Table, wires, tableOf, tableFault, randomFault, tableBytes}
+use Rattle.tables.specs.Packing.{bytesFor, tapeOf, spareFault}
 use Rattle.tables.specs.Says.{Writes}
 use Rattle.masks.specs.Shares.{sharesOf}
 use Rattle.masks.specs.Gadgets.{Gadget}
@@ -63,20 +64,24 @@ maskFault G s o room = orElse (plainFault G s o) (refusedIf (ltb room (length (m
 abbrev pub MaskSays : Gadget → List ℕ → ℕ → List ℕ → List ℕ → DA.Answer → Type 0
 MaskSays G s o b b′ r = Writes (maskFault G s o (length b)) (maskedBytes G s o) b b′ r
 
--- encoding: 6, 8 ("share bits alone"), 10, 11, 9
+-- encoding with a packed tape: 6, 8 ("share bits alone"), 10, 11, 9
 unfoldable pub encodeFault : ℕ → List ℕ → List ℕ → ℕ → Fault
 encodeFault o xs ts room =
+    let l = 2 * o * length xs in
     orElse
     (orderFault o)
     (orElse
     (refusedIf (ltb 65535 (sharesOf o * length xs)) 8)
     (orElse
-    (refusedIf (not (eqb (length ts) (2 * o * length xs))) 10)
-    (orElse (badBit 0 (xs ++ ts)) (refusedIf (ltb room (sharesOf o * length xs)) 9))))
+    (refusedIf (not (eqb (length ts) (bytesFor l))) 10)
+    (orElse
+    (orElse (badBit 0 xs) (spareFault (length xs) l ts))
+    (refusedIf (ltb room (sharesOf o * length xs)) 9))))
 
 -- encoding answers the bits written: "it writes n share bits a secret"
 abbrev pub EncodeSays : ℕ → List ℕ → List ℕ → List ℕ → List ℕ → DA.Answer → Type 0
-EncodeSays o xs ts b b′ r = Writes (encodeFault o xs ts (length b)) (encode o xs ts) b b′ r
+EncodeSays o xs ts b b′ r =
+    Writes (encodeFault o xs ts (length b)) (encode o xs (tapeOf (2 * o * length xs) ts)) b b′ r
 
 -- decoding: 6, 8, 10 ("a multiple of n"), 11, 9
 unfoldable pub decodeFault : ℕ → List ℕ → ℕ → Fault

@@ -22,7 +22,8 @@ use Rattle.masks.proofs.Lawful.{Lawful}
 use Rattle.maps.specs.Maps.{flipped, pairFlip}
 use Rattle.maps.specs.Both.{BothFlip, BothReady, bitsFor}
 use Rattle.maps.proofs.Flips.{pairs-flips-local}
-use Rattle.maps.proofs.Both.{BothLeft, left-end, left-long, FlipsLeft, flips-more, flips-start, flipped-long, tapeAfter, oneAfter, otherAfter}
+use Rattle.maps.proofs.FlipsAt.{flipped-long}
+use Rattle.maps.proofs.Both.{BothLeft, left-end, left-long, FlipsLeft, flips-more, flips-start, tapeAfter, oneAfter, otherAfter}
 use Rattle.pieces.specs.Layout.{pairGates}
 use Rattle.pairing.specs.Pairing.{sharePairs}
 

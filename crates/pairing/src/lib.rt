@@ -1,5 +1,6 @@
 // All pairs of shares in both runs of the map.
 ghost use Prim.Native.Nat.{_+_, _-_, _*_, _≤_, _<_, suc};
+ghost use Rattle.tables.specs.Packing.{unpacked};
 ghost use Rattle.masks.specs.Shares.{pairs, tri};
 ghost use Rattle.maps.specs.Both.{BothReady};
 ghost use Rattle.driving.specs.Driving.{SharesBefore};
@@ -20,9 +21,9 @@ fn map_share(
     other: &mut [u8],
 )
     requires { ⌜ (i < n) × SharesBefore n w a b
-        × BothReady w (5 * (n - suc i)) at (n - suc i) (now tape) (now mapped) (now one) (now other) ⌝ }
-    ensures { λ _. ⌜ PairsRan n k a b (sharePairs n i) (now (tape .entry)) at w
-        (now (mapped .entry)) (now (mapped .exit)) (now (one .entry)) (now (one .exit)) (now (other .entry)) (now (other .exit)) ⌝ }
+        × BothReady w (5 * (n - suc i)) at (n - suc i) (unpacked (now tape)) (unpacked (now mapped)) (now one) (now other) ⌝ }
+    ensures { λ _. ⌜ PairsRan n k a b (sharePairs n i) (unpacked (now (tape .entry))) at w
+        (unpacked (now (mapped .entry))) (unpacked (now (mapped .exit))) (now (one .entry)) (now (one .exit)) (now (other .entry)) (now (other .exit)) ⌝ }
 {
     let ai = pieces::share_wire(a, i);
     let bi = pieces::share_wire(b, i);
@@ -65,9 +66,9 @@ pub fn map_pairs(
     other: &mut [u8],
 )
     requires { ⌜ SharesBefore n w a b × (w + 5 * tri n ≤ 65535)
-        × BothReady w (5 * tri n) at (tri n) (now tape) (now mapped) (now one) (now other) ⌝ }
-    ensures { λ _. ⌜ PairsRan n k a b (pairs n) (now (tape .entry)) at w
-        (now (mapped .entry)) (now (mapped .exit)) (now (one .entry)) (now (one .exit)) (now (other .entry)) (now (other .exit)) ⌝ }
+        × BothReady w (5 * tri n) at (tri n) (unpacked (now tape)) (unpacked (now mapped)) (now one) (now other) ⌝ }
+    ensures { λ _. ⌜ PairsRan n k a b (pairs n) (unpacked (now (tape .entry))) at w
+        (unpacked (now (mapped .entry))) (unpacked (now (mapped .exit))) (now (one .entry)) (now (one .exit)) (now (other .entry)) (now (other .exit)) ⌝ }
 {
     let mut v = w;
     let mut next = at;

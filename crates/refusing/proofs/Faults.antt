@@ -10,6 +10,7 @@ use borrow.Author.Tests.{eq-eqb, ne-eqb, lt-ltb, le-ltb}
 use Rattle.tables.specs.declared.Refusal as DR
 use Rattle.tables.specs.Refusals.{Fault, fault, none, orElse, badBit}
 use Rattle.tables.specs.Tables.{wires, tableOf}
+use Rattle.tables.specs.Packing.{bytesFor, spareFault}
 use Rattle.tables.specs.Says.{Refused}
 use Rattle.tables.proofs.Tests.{first-passed, first-refused}
 use Rattle.tables.proofs.Answers.{refused-same, refused-passed, refused-fails}
@@ -36,19 +37,18 @@ module _ (i l : ℕ) (xs ys ts : List ℕ) where
     second-wrong h = rw (eq-eqb (length xs) i e, ne-eqb (length ys) i h)
 
     module _ (f : length ys ≡ i) where
-      pub tape-wrong : (length ts ≡ l → ⊥) → supplyFault i l xs ys ts ≡ fault 10 0
+      pub tape-wrong : (length ts ≡ bytesFor l → ⊥) → supplyFault i l xs ys ts ≡ fault 10 0
       unfolding supplyFault
       tape-wrong h =
-          rw (eq-eqb (length xs) i e, eq-eqb (length ys) i f, ne-eqb (length ts) l h)
+          rw (eq-eqb (length xs) i e, eq-eqb (length ys) i f, ne-eqb (length ts) (bytesFor l) h)
 
       pub counts-right :
-          length ts ≡ l
+          length ts ≡ bytesFor l
           → supplyFault i l xs ys ts
-          ≡ orElse (badBit 0 xs) (orElse (badBit (length xs) ys) (badBit (length xs + length ys) ts))
+          ≡ orElse (orElse (badBit 0 xs) (badBit (length xs) ys)) (spareFault (length xs + length ys) l ts)
       unfolding supplyFault
       counts-right g =
-          rw (eq-eqb (length xs) i e, eq-eqb (length ys) i f, eq-eqb (length ts) l g)
-          (bits-joined xs ys ts)
+          rw (eq-eqb (length xs) i e, eq-eqb (length ys) i f, eq-eqb (length ts) (bytesFor l) g, bits-joined xs ys)
 
 -- the probes: those before j are wires
 pub record Probing (ps : List ℕ) (w j : ℕ) : Type 0 where
@@ -85,23 +85,23 @@ probes-few o w ps h = rw (le-ltb o (length ps) h)
 
 -- the lengths lent
 module _ (l w a b c : ℕ) where
-  pub tape-short : a < l → roomFault l w a b c ≡ fault 9 0
+  pub tape-short : a < bytesFor l → roomFault l w a b c ≡ fault 9 0
   unfolding roomFault
-  tape-short h = rw (lt-ltb a l h)
+  tape-short h = rw (lt-ltb a (bytesFor l) h)
 
-  module _ (k : l ≤ a) where
+  module _ (k : bytesFor l ≤ a) where
     pub one-short : b < w → roomFault l w a b c ≡ fault 9 0
     unfolding roomFault
-    one-short h = rw (le-ltb a l k, lt-ltb b w h)
+    one-short h = rw (le-ltb a (bytesFor l) k, lt-ltb b w h)
 
     module _ (j : w ≤ b) where
       pub other-short : c < w → roomFault l w a b c ≡ fault 9 0
       unfolding roomFault
-      other-short h = rw (le-ltb a l k, le-ltb b w j, lt-ltb c w h)
+      other-short h = rw (le-ltb a (bytesFor l) k, le-ltb b w j, lt-ltb c w h)
 
       pub room-enough : w ≤ c → roomFault l w a b c ≡ none
       unfolding roomFault
-      room-enough h = rw (le-ltb a l k, le-ltb b w j, le-ltb c w h)
+      room-enough h = rw (le-ltb a (bytesFor l) k, le-ltb b w j, le-ltb c w h)
 
 -- the inputs and the tape bits of a plan are few
 pub plan-small : {s : List ℕ} {p : DP.Plan} → PlanReady s p → (p .inputs ≤ 65535) × (p .tape ≤ 65535)

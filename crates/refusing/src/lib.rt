@@ -5,7 +5,7 @@ ghost use Rattle.masks.specs.Gadgets.{isw};
 ghost use Rattle.sizing.specs.Plans.{PlanSays};
 ghost use Rattle.maps.specs.Says.{supplyFault, probesFault, roomFault, callFault, mapFault};
 
-// What is supplied to a plan: wrong counts, then a byte above 1 of both secrets and the tape joined.
+// What is supplied to a plan: wrong counts, then a byte above 1 of both secrets joined, then a set unused bit of the tape.
 fn supply_fault(p: sizing::Plan, first: &[u8], second: &[u8], tape: &[u8]) -> tables::Refusal
     requires { ⌜ (p .inputs ≤ 65535) × (p .tape ≤ 65535) ⌝ }
     ensures { λ r. ⌜ Refused (supplyFault (p .inputs) (p .tape) (now (first .entry)) (now (second .entry)) (now (tape .entry))) r ⌝ }
@@ -16,13 +16,13 @@ fn supply_fault(p: sizing::Plan, first: &[u8], second: &[u8], tape: &[u8]) -> ta
     if second.len() != p.inputs {
         return tables::refuse(10, 0);
     }
-    if tape.len() != p.tape {
+    if tape.len() != bits::bytes_for(p.tape) {
         return tables::refuse(10, 0);
     }
     let one = bits::bits_fault(first, 0);
     let other = bits::bits_fault(second, first.len());
-    let random = bits::bits_fault(tape, first.len() + second.len());
-    tables::first_of(one, tables::first_of(other, random))
+    let unused = bits::spare_fault(tape, p.tape, first.len() + second.len());
+    tables::first_of(tables::first_of(one, other), unused)
 }
 
 // The probes: more than the order, then one that is no wire of the masked table.
@@ -46,7 +46,7 @@ fn probes_fault(order: u8, wires: usize, probes: &[u32]) -> tables::Refusal
 fn room_fault(p: sizing::Plan, mapped: usize, one: usize, other: usize) -> tables::Refusal
     ensures { λ r. ⌜ Refused (roomFault (p .tape) (p .wires) mapped one other) r ⌝ }
 {
-    if mapped < p.tape {
+    if mapped < bits::bytes_for(p.tape) {
         return tables::refuse(9, 0);
     }
     if one < p.wires {

@@ -7,31 +7,37 @@ use mathlib.Core.List.{List}
 use Prim.Native.Nat.{ℕ, _≤_}
 use lib.ListN.{length}
 use Rattle.tables.specs.Tables.{tableOf}
+use Rattle.tables.specs.Packing.{bytesFor, packed, tapeOf, spare}
 use Rattle.tables.specs.Says.{over}
 use Rattle.tables.specs.Runs.{Bits}
 use Rattle.masks.specs.Gadgets.{isw}
+use Rattle.masks.specs.Wires.{tapeLong}
 use Rattle.masks.specs.Codes.{maskedRun}
 use Rattle.sizing.specs.declared.Plan as DP
 use Rattle.sizing.specs.Plans.{PlanReady}
 use Rattle.maps.specs.Maps.{mappedAt}
 
--- a plan, a share number k, both secrets, a tape, and room for the mapped tape and both runs
+-- a plan, a share number k, both secrets, a packed tape, and room for the mapped tape and both runs
 pub record WorkReady (s : List ℕ) (p : DP.Plan) (k : ℕ) (xs ys ts m a b : List ℕ) : Type 0 where
   pub plan : PlanReady s p
   pub from-1 : 1 ≤ k
   pub to-n : k ≤ p .shares
   pub first : length xs ≡ p .inputs
   pub second : length ys ≡ p .inputs
-  pub tape : length ts ≡ p .tape
+  pub tape : length ts ≡ bytesFor (p .tape)
+  pub unused : spare (p .tape) ts ≡ 0
   pub first-bits : Bits xs
   pub second-bits : Bits ys
-  pub tape-bits : Bits ts
-  pub mapped : p .tape ≤ length m
+  pub mapped : bytesFor (p .tape) ≤ length m
   pub one : p .wires ≤ length a
   pub other : p .wires ≤ length b
 
--- the mapped tape and both runs
+-- the mapped tape, packed, and both runs
 pub record WorkSays (s : List ℕ) (o k : ℕ) (xs ys ts m m′ a a′ b b′ : List ℕ) : Type 0 where
-  pub mapped : m′ ≡ over (mappedAt isw o (tableOf s) k xs ys ts) m
-  pub one : a′ ≡ over (maskedRun isw o (tableOf s) xs ts) a
-  pub other : b′ ≡ over (maskedRun isw o (tableOf s) ys (mappedAt isw o (tableOf s) k xs ys ts)) b
+  pub mapped : m′ ≡ over (packed (mappedAt isw o (tableOf s) k xs ys (tapeOf (tapeLong isw o (tableOf s)) ts))) m
+  pub one : a′ ≡ over (maskedRun isw o (tableOf s) xs (tapeOf (tapeLong isw o (tableOf s)) ts)) a
+  pub other :
+      b′
+      ≡ over
+      (maskedRun isw o (tableOf s) ys (mappedAt isw o (tableOf s) k xs ys (tapeOf (tapeLong isw o (tableOf s)) ts)))
+      b

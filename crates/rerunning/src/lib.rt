@@ -25,16 +25,7 @@ fn map_with(
 {
     let split = 2 * p.order * p.inputs;
     placing::locate(table, p, head, base, step);
-    flipping::begin_runs(
-        p.order,
-        k,
-        first,
-        second,
-        &tape[..split],
-        mapped,
-        one,
-        other,
-    );
+    flipping::begin_runs(p.order, k, first, second, tape, mapped, one, other);
     steps::map_gates(
         table,
         p,

@@ -4,7 +4,6 @@ use mathlib.Core.Path.{_≡_, sym, ap, _∙_}
 use mathlib.Core.Bool.{true, false, _&&_, _||_, not}
 use mathlib.Core.List.{List}
 use Prim.Native.Nat.{ℕ, _+_, _≤_}
-use native.Mathlib.Nat.{zero-add}
 use native.Mathlib.Omega.{arith}
 use lib.Dec.{eqb, ltb}
 use lib.ListN.{length}
@@ -14,10 +13,10 @@ use Rattle.tables.specs.declared.Counts as DC
 use Rattle.tables.specs.Tables.{wires, word, tableOf, tableFault}
 use Rattle.tables.specs.Counted.{countsOf}
 use Rattle.tables.specs.Runs.{randoms}
+use Rattle.tables.specs.Packing.{bytesFor, spareFault}
 use Rattle.tables.specs.Says.{suppliedFault, lentFault}
 use Rattle.tables.proofs.Tests.{and-true}
 use Rattle.tables.proofs.Accept.{inputs-of, gates-of-length, outputs-of-length, wires-of, accepted-few}
-use Rattle.tables.proofs.Bad.{bad-append}
 use Rattle.tables.proofs.Total.{count-randoms, count-small}
 
 -- two counts that are right
@@ -38,26 +37,27 @@ few-randoms s h e =
       accepted-few s h,
     )
 
-module _ (s xs rs : List ℕ) {n : ℕ} {c : DC.Counts} (inputs : n ≡ word s 0) (counts : c ≡ countsOf (tableOf s .gates)) where
+module _ (s xs rs : List ℕ) {n m : ℕ} {c : DC.Counts} (inputs : n ≡ word s 0) (counts : c ≡ countsOf (tableOf s .gates))
+    (bytes : m ≡ bytesFor (c .randoms)) where
   supplied-is :
       suppliedFault (tableOf s) xs rs
       ≡ orElse
-      (refusedIf (not (eqb (length xs) n && eqb (length rs) (c .randoms))) 10)
-      (orElse (badBit 0 xs) (badBit (length xs) rs))
+      (refusedIf (not (eqb (length xs) n && eqb (length rs) m)) 10)
+      (orElse (badBit 0 xs) (spareFault (length xs) (c .randoms) rs))
   unfolding suppliedFault
   supplied-is =
       let i : tableOf s .inputs ≡ n = inputs-of s ∙ sym inputs in
       let d : randoms (tableOf s .gates) ≡ c .randoms =
       sym (ap (λ (x : DC.Counts). x .randoms) counts ∙ count-randoms (tableOf s .gates)) in
-      rw (i, d, bad-append 0 xs rs, zero-add)
+      rw (i, d, bytes)
 
   pub supplied-wrong :
-      not (eqb (length xs) n && eqb (length rs) (c .randoms)) ≡ true → suppliedFault (tableOf s) xs rs ≡ fault 10 0
+      not (eqb (length xs) n && eqb (length rs) m) ≡ true → suppliedFault (tableOf s) xs rs ≡ fault 10 0
   supplied-wrong e = supplied-is ∙ rw e
 
   pub supplied-bits :
-      not (eqb (length xs) n && eqb (length rs) (c .randoms)) ≡ false
-      → suppliedFault (tableOf s) xs rs ≡ orElse (badBit 0 xs) (badBit (length xs) rs)
+      not (eqb (length xs) n && eqb (length rs) m) ≡ false
+      → suppliedFault (tableOf s) xs rs ≡ orElse (badBit 0 xs) (spareFault (length xs) (c .randoms) rs)
   supplied-bits e = supplied-is ∙ rw e
 
 pub lent-is :

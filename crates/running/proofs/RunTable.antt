@@ -1,22 +1,24 @@
 -- A run that no check refuses: what each step of it needs, and that the steps together leave the run's values and outputs.
 -- Assumes nothing.
-use mathlib.Core.Path.{_≡_, refl, ap, _∙_}
+use mathlib.Core.Path.{_≡_, refl, sym, ap, _∙_}
 use mathlib.Core.List.{List, [], _∷_, _++_}
-use Prim.Native.Nat.{ℕ, suc, _+_, _≤_, _<_}
+use Prim.Native.Nat.{ℕ, suc, _+_, _*_, _≤_, _<_}
 use native.Mathlib.Omega.{arith}
-use lib.ListN.{length, getD, take, drop, set, drop-of-length-le, List·getD-append}
+use lib.ListN.{length, getD, take, drop, set, take-append-drop, drop-of-length-le, List·getD-append}
 use lib.Seq.{take-append-seam, drop-cons}
 use Rattle.tables.specs.Tables.{Table, wires, word, tableOf}
-use Rattle.tables.specs.Runs.{runFrom, run, readAll, outputsOf}
+use Rattle.tables.specs.Runs.{runFrom, run, readAll, outputsOf, randoms}
+use Rattle.tables.specs.Packing.{unpacked, tapeOf}
 use Rattle.tables.specs.declared.Refusal as DR
 use Rattle.tables.specs.Refusals.{Fault}
 use Rattle.tables.specs.Says.{Refused, over, RunDone}
 use Rattle.tables.specs.Inside.{putAt}
-use Rattle.running.specs.Running.{RunReady, OutputsReady}
+use Rattle.running.specs.Running.{RunReady, OutputsReady, ranPacked}
 use Rattle.tables.proofs.Put.{put-zero, over-length, over-over, Writing, writing-front, writing-long, writing-inside}
 use Rattle.tables.proofs.Put.{writing-byte, writing-end}
 use Rattle.tables.proofs.Lists.{All, all-getD}
-use Rattle.tables.proofs.Run.{run-length, read-length}
+use Rattle.tables.proofs.Packing.{unpacked-length, unpacked-bits, tape-long}
+use Rattle.tables.proofs.Run.{run-length, run-prefix, read-length}
 use Rattle.tables.proofs.Accept.{accepted, inputs-of, gates-of-length, outputs-of-length, outputs-are, outputs-passed, has-outputs}
 use Rattle.tables.proofs.Answers.{refused-passed, answered-refused, answered-done, after-refused, after-passed}
 use Rattle.tables.proofs.RunFault.{RunGood}
@@ -70,17 +72,28 @@ module _ {s xs rs : List ℕ} (a b : List ℕ) (r : RunGood s xs rs (length a) (
   t = tableOf s
 
   abbrev ran : List ℕ
-  ran = run t xs rs
+  ran = ranPacked t xs rs
 
   pub inputs-fit : length xs ≤ length a
   inputs-fit = omega (arith, r .supplied .inputs, r .values)
 
   ran-length : length ran ≡ wires t
   unfolding run
-  ran-length = omega (arith, run-length (t .gates) rs xs, r .supplied .inputs)
+  ran-length = omega (arith, run-length (t .gates) (tapeOf (randoms (t .gates)) rs) xs, r .supplied .inputs)
 
   pub wires-are : {g : ℕ} → g ≡ word s 2 → length xs + g ≡ wires t
   wires-are e = omega (arith, r .supplied .inputs, gates-of-length s)
+
+  -- as many random bits as there are random gates
+  bits-due : randoms (t .gates) ≤ 8 * length rs
+  bits-due = omega (arith, r .supplied .random)
+
+  run-front : runFrom (t .gates) (unpacked rs) xs ≡ ran
+  unfolding run tapeOf
+  run-front =
+      let n = randoms (t .gates) in
+      ap (λ (l : List ℕ). runFrom (t .gates) l xs) (sym (take-append-drop n (unpacked rs)))
+      ∙ run-prefix (t .gates) (take n (unpacked rs)) (drop n (unpacked rs)) xs (tape-long n rs bits-due)
 
   -- the inputs are put, then the gates run
   module _ {v : List ℕ} (put : v ≡ putAt 0 xs a) where
@@ -90,21 +103,20 @@ module _ {s xs rs : List ℕ} (a b : List ℕ) (r : RunGood s xs rs (length a) (
     front : take (length xs) v ≡ xs
     front = rw put-over (take-append-seam xs (drop (length xs) a))
 
-    pub run-ready : {g : ℕ} → g ≡ word s 2 → RunReady s rs v (length xs) g
+    pub run-ready : {g : ℕ} → g ≡ word s 2 → RunReady s (unpacked rs) v (length xs) g
     run-ready e =
         record {
           accepted = r .accepted;
           inputs = r .supplied .inputs ∙ inputs-of s;
           gates = e;
-          random = omega (arith, r .supplied .random);
-          random-bits = r .supplied .random-bits;
+          random = omega (arith, bits-due, unpacked-length rs);
+          random-bits = unpacked-bits rs;
           room = omega (arith, ap length put-over, over-length xs a inputs-fit, wires-are e, r .values);
           input-bits = rw front (r .supplied .input-bits);
         }
 
-    pub run-values : {w : List ℕ} → w ≡ over (runFrom (t .gates) rs (take (length xs) v)) v → w ≡ over ran a
-    unfolding run
-    run-values e = e ∙ rw (front, put-over, over-over xs ran a (omega (arith, ran-length, r .supplied .inputs)))
+    pub run-values : {w : List ℕ} → w ≡ over (runFrom (t .gates) (unpacked rs) (take (length xs) v)) v → w ≡ over ran a
+    run-values e = e ∙ rw (front, run-front, put-over, over-over xs ran a (omega (arith, ran-length, r .supplied .inputs)))
 
   output-wires : All (λ o. o < length ran) (t .outputs)
   output-wires = rw ran-length (outputs-passed 0 (wires t) (t .outputs) (accepted s (r .accepted) .outputs))

@@ -10,14 +10,15 @@ use lib.ListN.{length, getD, take, drop, set, length-append, length-drop, take-a
 use lib.Seq.{length-take-le, getD-take, take-take, take-length, take-append-seam, drop-cons}
 use Rattle.running.specs.declared.Drawn as DD
 use Rattle.tables.specs.declared.GateFields as DG
-use Rattle.tables.specs.Tables.{kindOf, Gate, noGate, Table, gateOf, tableOf, known, operandsOf, total}
+use Rattle.tables.specs.Tables.{Kind, NOT, XOR, AND, RANDOM, UNKNOWN, kindOf, Gate, noGate, Table, gateOf, tableOf, known, operandsOf, total}
 use Rattle.tables.specs.Runs.{Bits, driven, drawn, runFrom, randoms}
 use Rattle.tables.specs.Says.{over}
 use Rattle.tables.specs.Inside.{putAt, HasGates, GateIs}
 use Rattle.running.specs.Running.{GateReady, GateSays, RunReady}
 use Rattle.tables.proofs.Put.{Writing, writing-kept, writing-byte, writing-end, over-length}
 use Rattle.tables.proofs.Run.{Solves, Earlier, driven-local, run-length, run-bits, run-solves}
-use Rattle.tables.proofs.Accept.{inputs-of, gates-are, accepted, has-gates, operands-below}
+use Rattle.tables.proofs.Accept.{inputs-of, gates-of-length, gates-are, accepted, accepted-few, has-gates}
+use Rattle.tables.proofs.Accept.{operands-below}
 use Rattle.tables.proofs.Format.{SoundGates, sound-earlier, passed-sound-gates}
 
 known-small : (k : ℕ) → known (kindOf k) ≡ true → k ≤ 3
@@ -26,6 +27,13 @@ known-small (suc zero) h = omega arith
 known-small (suc (suc zero)) h = omega arith
 known-small (suc (suc (suc zero))) h = omega arith
 known-small (suc (suc (suc (suc k)))) h = let z : _≡_ {A = ℕ} 0 1 = cc in omega arith
+
+drawn-small : (k : Kind) → drawn k ≤ 1
+drawn-small NOT = omega arith
+drawn-small XOR = omega arith
+drawn-small AND = omega arith
+drawn-small RANDOM = omega arith
+drawn-small (UNKNOWN k) = omega arith
 
 -- a run begins with what it was given
 run-front : (gs : List Gate) (rs vs : List ℕ) → take (length vs) (runFrom gs rs vs) ≡ vs
@@ -63,6 +71,7 @@ pub record Running (t : Table) (rs start : List ℕ) (n : ℕ) (vs : List ℕ) (
   pub writing : Writing (over (ranFrom t rs start n) start) (n + i) (drop (n + i) (ranFrom t rs start n)) vs
   pub solves : Solves (n + i) c (drop i (t .gates)) (λ d. getD rs d 0) (λ p. getD (ranFrom t rs start n) p 0)
   pub random : c + randoms (drop i (t .gates)) ≤ length rs
+  pub few : c + length (drop i (t .gates)) ≤ 65536
   pub sound : SoundGates (n + i) (drop i (t .gates))
 
 module _ {s rs vs : List ℕ} {n g : ℕ} (r : RunReady s rs vs n g) where
@@ -98,6 +107,7 @@ module _ {s rs vs : List ℕ} {n g : ℕ} (r : RunReady s rs vs n g) where
         writing = rw add-zero (writing-after n (ranFrom t rs vs n) vs front (omega (arith, ran-long)) ran-fits);
         solves = rw add-zero (run-solves n (t .gates) rs (take n vs) front-long (sound-earlier n (t .gates) sound));
         random = omega (arith, r .random);
+        few = omega (arith, gates-of-length s, accepted-few s (r .accepted));
         sound = rw add-zero sound;
       }
 
@@ -132,6 +142,9 @@ module _
   left-random : c + (drawn (this .kind) + randoms later) ≤ length rs
   unfolding total
   left-random = subst (λ (gs : List Gate). c + randoms gs ≤ length rs) gates-left (r .random)
+
+  left-few : c + suc (length later) ≤ 65536
+  left-few = omega (arith, r .few, ap length gates-left)
 
   -- both operands, also where they are not read
   pub earlier : (this .left < n + i) × (this .right < n + i)
@@ -185,6 +198,7 @@ module _
         writing = rw (ex, add-suc) (writing-byte (r .writing) (getD ran (n + i) 0) (drop (suc (n + i)) ran) ran-next);
         solves = rw (ec, add-suc) (left-solves .1);
         random = omega (arith, left-random);
+        few = omega (arith, left-few, drawn-small (this .kind));
         sound = rw add-suc (left-sound .1);
       }
 
@@ -203,6 +217,7 @@ module _
       left = value-bit (x .left) left-earlier;
       right = value-bit (x .right) right-earlier;
       random = λ e. random-there (sym (is .kind) ∙ ap kindOf e);
+      few = omega (arith, left-few);
     }
 
     pub gate-turn :

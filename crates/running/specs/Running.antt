@@ -9,16 +9,18 @@ use Prim.Native.Nat.{ℕ, _+_, _≤_, _<_}
 use lib.ListN.{length, getD, take}
 use Rattle.running.specs.declared.Drawn as DD
 use Rattle.tables.specs.Refusals.{passed}
-use Rattle.tables.specs.Tables.{kindOf, word, tableOf, tableFault}
-use Rattle.tables.specs.Runs.{Bits, driven, drawn, randoms}
+use Rattle.tables.specs.Tables.{Table, kindOf, word, tableOf, tableFault}
+use Rattle.tables.specs.Runs.{Bits, driven, drawn, run, randoms}
+use Rattle.tables.specs.Packing.{tapeOf}
 use Rattle.tables.specs.Inside.{HasOutputs}
 
--- a known kind, two bits, and a random bit where the kind takes one
+-- a known kind, two bits, and a random bit where the kind takes one; few bits were taken
 pub record GateReady (kind a b : ℕ) (rs : List ℕ) (at : ℕ) : Type 0 where
   pub known : kind ≤ 3
   pub left : a ≤ 1
   pub right : b ≤ 1
   pub random : kind ≡ 3 → at < length rs
+  pub few : at < 65536
 
 -- the value of a gate whose operands have the values a and b, and the number of the next random bit
 pub record GateSays (kind a b : ℕ) (rs : List ℕ) (at : ℕ) (r : DD.Drawn) : Type 0 where
@@ -41,3 +43,7 @@ pub record OutputsReady (s : List ℕ) (g q : ℕ) (vs out : List ℕ) : Type 0 
   pub stated : HasOutputs s g q
   pub wires : (o : ℕ) → o < q → getD (tableOf s .outputs) o 0 < length vs
   pub room : q ≤ length out
+
+-- a run with packed random bits
+abbrev pub ranPacked : Table → List ℕ → List ℕ → List ℕ
+ranPacked t xs rs = run t xs (tapeOf (randoms (t .gates)) rs)

@@ -4,9 +4,10 @@ ghost use mathlib.Core.Bool.{true};
 ghost use lib.ListN.{length, take};
 ghost use Rattle.tables.specs.Refusals.{passed};
 ghost use Rattle.tables.specs.Tables.{wires, tableOf, tableFault};
-ghost use Rattle.tables.specs.Runs.{run, runFrom, outputsOf};
+ghost use Rattle.tables.specs.Runs.{runFrom, outputsOf};
+ghost use Rattle.tables.specs.Packing.{unpacked};
 ghost use Rattle.tables.specs.Says.{Refused, over, suppliedFault, lentFault, runFault, RunSays};
-ghost use Rattle.running.specs.Running.{GateReady, GateSays, RunReady, OutputsReady};
+ghost use Rattle.running.specs.Running.{GateReady, GateSays, RunReady, OutputsReady, ranPacked};
 
 // A gate's value and the number of the next random bit.
 struct Drawn {
@@ -19,8 +20,8 @@ const TRUTH: u32 = 0x863;
 
 // What a gate drives, from its operands' values.
 fn gate_value(kind: u8, a: u8, b: u8, random: &[u8], at: usize) -> Drawn
-    requires { ⌜ GateReady kind a b (now random) at ⌝ }
-    ensures { λ r. ⌜ GateSays kind a b (now (random .entry)) at r ⌝ }
+    requires { ⌜ GateReady kind a b (unpacked (now random)) at ⌝ }
+    ensures { λ r. ⌜ GateSays kind a b (unpacked (now (random .entry))) at r ⌝ }
 {
     if kind == 3 {
         return Drawn {
@@ -37,12 +38,12 @@ fn gate_value(kind: u8, a: u8, b: u8, random: &[u8], at: usize) -> Drawn
 
 // Runs the gates over values that begin with the inputs.
 fn run_gates(table: &[u8], inputs: usize, gates: usize, random: &[u8], values: &mut [u8])
-    requires { ⌜ RunReady (now table) (now random) (now values) inputs gates ⌝ }
+    requires { ⌜ RunReady (now table) (unpacked (now random)) (now values) inputs gates ⌝ }
     ensures { λ _.
         ⌜
         now (values .exit)
         ≡ over
-        (runFrom (tableOf (now (table .entry)) .gates) (now (random .entry))
+        (runFrom (tableOf (now (table .entry)) .gates) (unpacked (now (random .entry)))
         (take inputs (now (values .entry))))
         (now (values .entry))
         ⌝ }
@@ -72,18 +73,19 @@ fn read_outputs(table: &[u8], gates: usize, outputs: usize, values: &[u8], out: 
     }
 }
 
-// The refusals of what a run of an accepted table is supplied with: wrong counts, then a byte above 1.
+// The refusals of what a run of an accepted table is supplied with: wrong counts, then an input above 1 or a set unused bit.
 fn supplied_fault(table: &[u8], inputs: &[u8], random: &[u8]) -> tables::Refusal
     requires { ⌜ passed (tableFault (now table)) ≡ true ⌝ }
     ensures { λ r. ⌜ Refused (suppliedFault (tableOf (now (table .entry))) (now (inputs .entry)) (now (random .entry))) r ⌝ }
 {
     let draws = counts::count_kinds(table, tables::field(table, 2)).randoms;
-    if !((inputs.len() == tables::field(table, 0)) & (random.len() == draws)) {
+    let bytes = bits::bytes_for(draws);
+    if !((inputs.len() == tables::field(table, 0)) & (random.len() == bytes)) {
         return tables::refuse(10, 0);
     }
     tables::first_of(
         bits::bits_fault(inputs, 0),
-        bits::bits_fault(random, inputs.len()),
+        bits::spare_fault(random, draws, inputs.len()),
     )
 }
 
@@ -130,10 +132,10 @@ fn write_run(
     ensures { λ r. ⌜
         (r ≡ wires (tableOf (now (table .entry))))
         × (now (values .exit)
-        ≡ over (run (tableOf (now (table .entry))) (now (inputs .entry)) (now (random .entry))) (now (values .entry)))
+        ≡ over (ranPacked (tableOf (now (table .entry))) (now (inputs .entry)) (now (random .entry))) (now (values .entry)))
         × (now (outputs .exit)
         ≡ over
-        (outputsOf (tableOf (now (table .entry))) (run (tableOf (now (table .entry))) (now (inputs .entry)) (now (random .entry))))
+        (outputsOf (tableOf (now (table .entry))) (ranPacked (tableOf (now (table .entry))) (now (inputs .entry)) (now (random .entry))))
         (now (outputs .entry)))
         ⌝ }
 {

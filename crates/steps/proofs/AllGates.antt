@@ -9,7 +9,7 @@ use lib.ListN.{length, getD, take, drop, drop-of-length-le}
 use lib.Seq.{drop-cons}
 use Rattle.tables.specs.declared.GateFields as DG
 use Rattle.tables.specs.Tables.{Kind, kindOf, Gate, noGate, Table, gateOf, tableOf, total}
-use Rattle.tables.specs.Inside.{putAt, ranOn, GateIs}
+use Rattle.tables.specs.Inside.{ranOn, GateIs}
 use Rattle.masks.specs.Gadgets.{isw}
 use Rattle.masks.specs.Wires.{driverOf, share, newWires, newShares, cost, draws, masked, inputShares, sharesAfter}
 use Rattle.masks.proofs.Lawful.{isw-lawful}
@@ -17,8 +17,8 @@ use Rattle.masks.proofs.Placed.{placed-at, placed-inputs, share-below}
 use Rattle.sizing.specs.declared.Plan as DP
 use Rattle.sizing.specs.Plans.{PlanReady}
 use Rattle.sizing.proofs.Planning.{plan-passed}
-use Rattle.maps.specs.Maps.{gateFlips, mapGates}
-use Rattle.maps.specs.Both.{BothFlip, BothReady}
+use Rattle.maps.specs.Maps.{flipped, gateFlips, mapGates}
+use Rattle.maps.specs.Both.{BothFlip, BothReady, flipsAt}
 use Rattle.maps.proofs.Begun.{plain-inputs}
 use Rattle.maps.proofs.Both.{left-long}
 use Rattle.maps.proofs.MapGates.{GatesLeft, gates-start, gates-ready, gates-more, gates-end}
@@ -51,8 +51,9 @@ secondBits t n k ts at x y =
 abbrev pub Going : Table → ℕ → ℕ → List ℕ → ℕ → List ℕ → List ℕ → List ℕ → ℕ → ℕ → ℕ → List ℕ → List ℕ → List ℕ → Type 0
 Going t n k ts at₀ m₀ x₀ y₀ g w at m x y =
     let w₀ = n * t .inputs in
+    let rs = firstBits t n ts at₀ in
     let ss = secondBits t n k ts at₀ x₀ y₀ in
-    Stepping t n k ts (putAt at₀ ss m₀) (ranOn (allGates t n) (firstBits t n ts at₀) w₀ x₀) (ranOn (allGates t n) ss w₀ y₀) g w at m x y
+    Stepping t n k ts (flipsAt at₀ (flipped rs ss) m₀) (ranOn (allGates t n) rs w₀ x₀) (ranOn (allGates t n) ss w₀ y₀) g w at m x y
 
 pub steps-start :
     {s : List ℕ} {p : DP.Plan} (k : ℕ) {w at : ℕ} {ts m x y : List ℕ} → PlanReady s p → w ≡ p .shares * p .inputs

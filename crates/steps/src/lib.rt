@@ -3,6 +3,7 @@ ghost use mathlib.Core.List.{_++_, map};
 ghost use Prim.Native.Nat.{_+_, _*_, _≤_, ℕ};
 ghost use lib.ListN.{getD};
 ghost use Rattle.tables.specs.Tables.{AND, tableOf, total};
+ghost use Rattle.tables.specs.Packing.{unpacked};
 ghost use Rattle.masks.specs.Shares.{inTurn, pairs, tri};
 ghost use Rattle.masks.specs.Gadgets.{isw};
 ghost use Rattle.masks.specs.Wires.{cost, draws};
@@ -28,15 +29,15 @@ fn map_and(
     other: &mut [u8],
 )
     requires { ⌜ SharesBefore n w a b × (w + cost AND n ≤ 65535)
-        × BothReady w (cost AND n) at (tri n) (now tape) (now mapped) (now one) (now other) ⌝ }
+        × BothReady w (cost AND n) at (tri n) (unpacked (now tape)) (unpacked (now mapped)) (now one) (now other) ⌝ }
     ensures { λ _. ⌜ BothFlip
         (inTurn 5 w (pairs n) (pairGates isw (shareWires n a) (shareWires n b))
         ++ rowsGates isw n w (w + 5 * tri n) (shareWires n a) (shareWires n b))
         (map
         (pairFlip isw k (shareWires n a) (shareWires n b) (λ p. getD (now (one .entry)) p 0) (λ p. getD (now (other .entry)) p 0))
         (pairs n))
-        (now (tape .entry)) at w
-        (now (mapped .entry)) (now (mapped .exit)) (now (one .entry)) (now (one .exit)) (now (other .entry)) (now (other .exit)) ⌝ }
+        (unpacked (now (tape .entry))) at w
+        (unpacked (now (mapped .entry))) (unpacked (now (mapped .exit))) (now (one .entry)) (now (one .exit)) (now (other .entry)) (now (other .exit)) ⌝ }
 {
     let v = w + 5 * masks::pair_count(n);
     pairing::map_pairs(k, n, w, a, b, tape, at, mapped, one, other);
@@ -63,12 +64,12 @@ fn map_gate(
 )
     requires { ⌜ Room (left + 1) (now head) (now base) (now step) × Room (right + 1) (now head) (now base) (now step)
         × StepReady kind n w (placesAt (now head) (now base) (now step) left) (placesAt (now head) (now base) (now step) right)
-        (now tape) at (now mapped) (now one) (now other) ⌝ }
+        (unpacked (now tape)) at (unpacked (now mapped)) (now one) (now other) ⌝ }
     ensures { λ _. ⌜ ((g : ℕ) → GateRan kind n k g w
         (placesAt (now (head .entry)) (now (base .entry)) (now (step .entry)) left)
         (placesAt (now (head .entry)) (now (base .entry)) (now (step .entry)) right)
-        (now (tape .entry)) at
-        (now (mapped .entry)) (now (mapped .exit)) (now (one .entry)) (now (one .exit)) (now (other .entry)) (now (other .exit))) ⌝ }
+        (unpacked (now (tape .entry))) at
+        (unpacked (now (mapped .entry))) (unpacked (now (mapped .exit))) (now (one .entry)) (now (one .exit)) (now (other .entry)) (now (other .exit))) ⌝ }
 {
     let a = placing::places_at(head, base, step, left);
     if kind == 0 {
@@ -103,9 +104,9 @@ pub fn map_gates(
 )
     requires { ⌜ PlanReady (now table) p × Located (tableOf (now table)) (p .shares) (now head) (now base) (now step)
         × BothReady (p .shares * tableOf (now table) .inputs) (total (λ kd. cost kd (p .shares)) (tableOf (now table) .gates)) at
-        (total (λ kd. draws kd (p .shares)) (tableOf (now table) .gates)) (now tape) (now mapped) (now one) (now other) ⌝ }
-    ensures { λ _. ⌜ GatesRan (p .shares) k (tableOf (now (table .entry))) (now (tape .entry)) at
-        (now (mapped .entry)) (now (mapped .exit)) (now (one .entry)) (now (one .exit)) (now (other .entry)) (now (other .exit)) ⌝ }
+        (total (λ kd. draws kd (p .shares)) (tableOf (now table) .gates)) (unpacked (now tape)) (unpacked (now mapped)) (now one) (now other) ⌝ }
+    ensures { λ _. ⌜ GatesRan (p .shares) k (tableOf (now (table .entry))) (unpacked (now (tape .entry))) at
+        (unpacked (now (mapped .entry))) (unpacked (now (mapped .exit))) (now (one .entry)) (now (one .exit)) (now (other .entry)) (now (other .exit)) ⌝ }
 {
     let n = p.shares;
     let gates = p.gates;

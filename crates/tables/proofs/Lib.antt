@@ -1,6 +1,7 @@
 -- Laws of the tables' definitions that callers above cite, by subject.
 pub mod Tests
 pub mod Lists
+pub mod Packing
 pub mod Run
 pub mod Accept
 pub mod Format

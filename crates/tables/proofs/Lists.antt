@@ -1,11 +1,12 @@
 -- Lists of bits and lists all of whose elements have a property.
 -- Assumes nothing.
 use mathlib.Core.List.{List, [], _∷_, _++_}
-use Prim.Native.Nat.{ℕ, zero, suc, _+_, _≤_, _<_}
+use Prim.Native.Nat.{ℕ, zero, suc, _+_, _-_, _≤_, _<_}
+use native.Mathlib.Nat.{zero-add, suc-add}
 use native.Mathlib.Omega.{arith}
-use mathlib.Core.Path.{_≡_, subst, _∙_}
+use mathlib.Core.Path.{_≡_, sym, ap, subst, _∙_}
 use lib.ListN.{length, getD, take, drop, length-drop, drop-of-length-le}
-use lib.Seq.{length-take-le, take-append-seam, drop-append-seam, drop-cons, getD-take, getD-drop}
+use lib.Seq.{length-take-le, drop-append-seam, drop-cons, getD-take, getD-drop, take-take, take-nil}
 use Rattle.tables.specs.Runs.{Bits}
 
 unfoldable pub All : {A : Type 0} → (A → Type 0) → List A → Type 0
@@ -50,9 +51,6 @@ bits-take zero xs h = bits-nil
 bits-take (suc n) [] h = h
 bits-take (suc n) (x ∷ xs) h = bits-cons x (take n xs) (h 0) (bits-take n xs (λ i. h (suc i)))
 
-pub bits-front : (xs ys : List ℕ) → Bits (xs ++ ys) → Bits xs
-bits-front xs ys h = subst (λ (l : List ℕ). Bits l) (take-append-seam xs ys) (bits-take (length xs) (xs ++ ys) h)
-
 pub bits-back : (xs ys : List ℕ) → Bits (xs ++ ys) → Bits ys
 bits-back xs ys h = subst (λ (l : List ℕ). Bits l) (drop-append-seam xs ys) (bits-drop (length xs) (xs ++ ys) h)
 
@@ -73,3 +71,17 @@ part-next n from j bs h hj =
 
 pub part-end : (n from : ℕ) (bs : List ℕ) → from + n ≤ length bs → drop n (part n from bs) ≡ []
 part-end n from bs h = drop-of-length-le (part n from bs) {i = n} (omega (arith, part-long n from bs h))
+
+-- what is left of the front of a list
+pub drop-take : (n m : ℕ) (xs : List ℕ) → drop n (take (n + m) xs) ≡ take m (drop n xs)
+drop-take zero m xs = ap (λ (k : ℕ). take k xs) (zero-add m)
+drop-take (suc n) m [] = ap (drop (suc n)) (take-nil (suc n + m)) ∙ sym (take-nil m)
+drop-take (suc n) m (x ∷ xs) = ap (λ (k : ℕ). drop (suc n) (take k (x ∷ xs))) (suc-add n m) ∙ drop-take n m xs
+
+-- a part of the front of a list
+pub part-take : (n from k : ℕ) (xs : List ℕ) → from + n ≤ k → part n from (take k xs) ≡ part n from xs
+part-take n from k xs h =
+    let m = k - from in
+    ap (λ (j : ℕ). part n from (take j xs)) {x = k} {y = from + m} (omega arith)
+    ∙ ap (take n) (drop-take from m xs)
+    ∙ take-take n m (drop from xs) (omega arith)

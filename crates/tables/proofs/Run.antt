@@ -5,11 +5,12 @@ use mathlib.Core.List.{List, [], _∷_, _++_}
 use Prim.Native.Nat.{ℕ, zero, suc, _+_, _-_, _*_, _≤_, _<_}
 use native.Mathlib.Nat.{add-assoc, add-zero}
 use native.Mathlib.Omega.{arith}
+use lib.Bits.{bitAnd, bitXor}
 use lib.ListN.{length, getD, drop, length-append, length-drop, List·getD-append}
 use lib.Seq.{drop-drop, getD-drop, getD-at, drop-append-le}
 use Rattle.tables.specs.Tables.{Kind, NOT, XOR, AND, RANDOM, UNKNOWN, Gate, Operands, none-read, left-read}
 use Rattle.tables.specs.Tables.{both-read, operandsOf, total}
-use Rattle.tables.specs.Runs.{Bits, driven, drawn, runFrom, readAll, randoms}
+use Rattle.tables.specs.Runs.{Bits, xor, driven, drawn, runFrom, readAll, randoms}
 use Rattle.tables.proofs.Lists.{bits-nil, bits-cons, bits-append, bits-drop}
 
 -- v has, from wire w on, the values that the gates drive; the next random bit is the bit c of r
@@ -46,6 +47,21 @@ pub bit-mul : (x y : ℕ) → x ≤ 1 → y ≤ 1 → x * y ≤ 1
 bit-mul zero y p q = omega arith
 bit-mul (suc zero) y p q = omega arith
 bit-mul (suc (suc x)) y p q = absurd (omega arith)
+
+-- the XOR and the AND of two bits, as code computes them
+pub bit-xor : (a b : ℕ) → a ≤ 1 → b ≤ 1 → bitXor a b ≡ xor a b
+bit-xor zero b h k = omega arith
+bit-xor (suc zero) zero h k = refl
+bit-xor (suc zero) (suc zero) h k = refl
+bit-xor (suc zero) (suc (suc b)) h k = absurd (omega arith)
+bit-xor (suc (suc a)) b h k = absurd (omega arith)
+
+pub bit-and : (a b : ℕ) → a ≤ 1 → b ≤ 1 → bitAnd a b ≡ a * b
+bit-and zero b h k = omega arith
+bit-and (suc zero) zero h k = refl
+bit-and (suc zero) (suc zero) h k = refl
+bit-and (suc zero) (suc (suc b)) h k = absurd (omega arith)
+bit-and (suc (suc a)) b h k = absurd (omega arith)
 
 driven-bit : (k : Kind) (l r b : ℕ) (v : ℕ → ℕ) → ((p : ℕ) → v p ≤ 1) → b ≤ 1 → driven k l r v b ≤ 1
 driven-bit NOT l r b v h hb = omega arith

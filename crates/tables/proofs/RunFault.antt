@@ -2,7 +2,7 @@
 -- Assumes nothing.
 use mathlib.Core.Path.{_≡_, refl}
 use mathlib.Core.Bool.{true, _&&_, _||_, not}
-use mathlib.Core.List.{List, _++_}
+use mathlib.Core.List.{List}
 use Prim.Native.Nat.{ℕ, _≤_}
 use lib.Dec.{eqb, ltb}
 use lib.ListN.{length}
@@ -10,30 +10,29 @@ use borrow.Author.Tests.{ltb-false, eqb-true, not-false}
 use Rattle.tables.specs.Refusals.{passed, orElse, refusedIf, badBit}
 use Rattle.tables.specs.Tables.{Table, wires, tableOf, tableFault}
 use Rattle.tables.specs.Runs.{Bits, randoms}
+use Rattle.tables.specs.Packing.{bytesFor, spareFault}
 use Rattle.tables.specs.Says.{suppliedFault, lentFault, runFault}
 use Rattle.tables.proofs.Tests.{and-true, or-false, both-passed, not-refused}
-use Rattle.tables.proofs.Lists.{bits-front, bits-back}
 use Rattle.tables.proofs.Bad.{bad-bits}
 
 -- what holds of what is supplied to a run where neither 10 nor 11 answers
 pub record Supplied (t : Table) (xs rs : List ℕ) : Type 0 where
   pub inputs : length xs ≡ t .inputs
-  pub random : length rs ≡ randoms (t .gates)
+  pub random : length rs ≡ bytesFor (randoms (t .gates))
   pub input-bits : Bits xs
-  pub random-bits : Bits rs
 
 supplied-good : (t : Table) (xs rs : List ℕ) → passed (suppliedFault t xs rs) ≡ true → Supplied t xs rs
 unfolding suppliedFault
 supplied-good t xs rs h =
-    let count = eqb (length xs) (t .inputs) && eqb (length rs) (randoms (t .gates)) in
-    let p = both-passed (refusedIf (not count) 10) (badBit 0 (xs ++ rs)) h in
-    let n = and-true _ _ (not-false count (not-refused (not count) 10 refl (p .0))) in
-    let good = bad-bits 0 (xs ++ rs) (p .1) in
+    let n = randoms (t .gates) in
+    let count = eqb (length xs) (t .inputs) && eqb (length rs) (bytesFor n) in
+    let unused = spareFault (length xs) n rs in
+    let p = both-passed (refusedIf (not count) 10) (orElse (badBit 0 xs) unused) h in
+    let c = and-true _ _ (not-false count (not-refused (not count) 10 refl (p .0))) in
     record {
-      inputs = eqb-true _ _ (n .0);
-      random = eqb-true _ _ (n .1);
-      input-bits = bits-front xs rs good;
-      random-bits = bits-back xs rs good;
+      inputs = eqb-true _ _ (c .0);
+      random = eqb-true _ _ (c .1);
+      input-bits = bad-bits 0 xs (both-passed (badBit 0 xs) unused (p .1) .0);
     }
 
 -- what holds of a run that no check refuses

@@ -12,6 +12,7 @@ use Rattle.tables.specs.declared.Refusal as DR
 use Rattle.tables.specs.Refusals.{Fault, passed, orElse, refusedIf, badBit}
 use Rattle.tables.specs.Tables.{Table, wires, tableOf, tableFault}
 use Rattle.tables.specs.Runs.{run, outputsOf, randoms}
+use Rattle.tables.specs.Packing.{bytesFor, tapeOf, spareFault}
 
 -- number and place are the fault's
 pub record Refused (f : Fault) (r : DR.Refusal) : Type 0 where
@@ -41,12 +42,13 @@ pub record Writes (f : Fault) (xs b b′ : List ℕ) (r : DA.Answer) : Type 0 wh
 pub record CheckSays (s : List ℕ) (r : DA.Answer) : Type 0 where
   pub answer : Answered (tableFault s) (wires (tableOf s)) r
 
--- what a run of a table is supplied with, its inputs and its random bits: 10, then 11
+-- what a run of a table is supplied with, its inputs and its random bits, packed: 10, then 11
 unfoldable pub suppliedFault : Table → List ℕ → List ℕ → Fault
 suppliedFault t xs rs =
+    let n = randoms (t .gates) in
     orElse
-    (refusedIf (not (eqb (length xs) (t .inputs) && eqb (length rs) (randoms (t .gates)))) 10)
-    (badBit 0 (xs ++ rs))
+    (refusedIf (not (eqb (length xs) (t .inputs) && eqb (length rs) (bytesFor n))) 10)
+    (orElse (badBit 0 xs) (spareFault (length xs) n rs))
 
 -- the lengths lent for the values and the outputs of a run: 9
 unfoldable pub lentFault : Table → ℕ → ℕ → Fault
@@ -62,6 +64,8 @@ pub record RunDone (f : Fault) (t : Table) (xs rs a a′ b b′ : List ℕ) (r :
   pub values : a′ ≡ afterCall f (run t xs rs) a
   pub outputs : b′ ≡ afterCall f (outputsOf t (run t xs rs)) b
 
--- running: the lent buffers a and b become a′ and b′
+-- running with packed random bits: the lent buffers a and b become a′ and b′
 abbrev pub RunSays : List ℕ → List ℕ → List ℕ → List ℕ → List ℕ → List ℕ → List ℕ → DA.Answer → Type 0
-RunSays s xs rs a a′ b b′ r = RunDone (runFault s xs rs (length a) (length b)) (tableOf s) xs rs a a′ b b′ r
+RunSays s xs rs a a′ b b′ r =
+    let t = tableOf s in
+    RunDone (runFault s xs rs (length a) (length b)) t xs (tapeOf (randoms (t .gates)) rs) a a′ b b′ r

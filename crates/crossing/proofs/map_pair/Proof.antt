@@ -3,7 +3,10 @@
 use mathlib.Core.List.{map}
 use Prim.Native.Nat.{ℕ}
 use native.Mathlib.Omega.{arith}
+use lib.Bits.{bitXor}
 use lib.ListN.{getD}
+use Rattle.tables.specs.Packing.{unpacked}
+use Rattle.tables.proofs.Run.{bit-xor}
 use Rattle.masks.specs.Gadgets.{allFive, differs, isw}
 use Rattle.maps.proofs.Both.{both-one}
 use Rattle.crossing.proofs.Five.{pair-bits}
@@ -14,29 +17,25 @@ use Rattle.crossing.proofs.map_pair.Tie as tie
 tape-bit-requires : tie.Need-tape-bit-requires
 tape-bit-requires c κs = omega (arith, c .before .before .before .before .pre .0 .tape)
 
-mapped-bit-requires : tie.Need-mapped-bit-requires
-mapped-bit-requires c κs =
-    let s = c .before .before .before .before .before .before .before in
-    let R = s .pre .0 in (
-      omega (arith, c .before .before .tape-bit .ensures, R .bits (s .args .at)),
-      pair-bits (R .one) (s .pre .1),
-      pair-bits (R .other) (s .pre .1),
-    )
-
-slice-write-mapped : tie.Need-slice-write-mapped
-slice-write-mapped c = omega (arith, c .before .before .before .before .before .before .before .before .pre .0 .room)
+flip-pair-requires : tie.Need-flip-pair-requires
+flip-pair-requires c κs =
+    let s = c .before .before .before .before .before .before .before .before in
+    let R = s .pre .0 in
+    (pair-bits (R .one) (s .pre .1), pair-bits (R .other) (s .pre .1), omega (arith, R .room))
 
 run-pair-requires : tie.Need-run-pair-requires
 run-pair-requires c κs =
-    let s = c .before .before .before .before .before .before .before .before .before in
-    let R = s .pre .0 in (R .one, s .pre .1, omega (arith, c .before .before .before .before .tape-bit .ensures, R .bits (s .args .at)))
+    let bit = c .before .before .before .before .before .before .before in
+    let s = bit .before .before .before .before .before in
+    (s .pre .0 .one, s .pre .1, bit .tape-bit .ensures .1)
 
 run-pair-requires-2 : tie.Need-run-pair-requires-2
 run-pair-requires-2 c κs =
-    let q = c .before .before .before .before .before in
-    let s = q .before .before .before .before .before .before .before .before in
-    let R = s .pre .0 in
-    (R .other, s .pre .1, omega (arith, q .mapped-bit .ensures .1, q .before .before .before .tape-bit .ensures, R .bits (s .args .at)))
+    let bit = c .before .before .before .before .before .before .before .before .before .before .before in
+    let s = bit .before .before .before .before .before in
+    let flip = c .before .before .before .before .before .before .before in
+    let sum = bit-xor _ _ (bit .tape-bit .ensures .1) (flip .flip-pair .ensures .1) in
+    (s .pre .0 .other, s .pre .1, omega (arith, sum))
 
 same-length : tie.Need-same-length
 same-length c = search needs
@@ -49,8 +48,8 @@ same-length-3 c = search needs
 
 returns : tie.Need-returns
 returns c =
-    let q = c .before .before .before .before .before .before .before .before in
-    let bit = q .before .before .before in
+    let flip = c .before .before .before .before .before .before .before .before .before .before in
+    let bit = flip .before .before .before .before in
     let s = bit .before .before .before .before .before in
     let a = s .args in
     let R = s .pre .0 in
@@ -59,15 +58,16 @@ returns c =
     both-one (map (isw .gates (a .w) (a .ai) (a .bj) (a .aj) (a .bi)) allFive)
     (isw .flip (a .k) (a .i) (a .j) (differs v u (a .ai) (a .bj)) (differs v u (a .aj) (a .bi)))
     (bit .tape-bit .result)
-    (q .mapped-bit .result)
+    (bitXor (bit .tape-bit .result) (flip .flip-pair .result))
     (a .at)
     (a .w)
-    (a .tape .now)
-    (a .mapped .now)
+    (unpacked (a .tape .now))
+    (unpacked (a .mapped .now))
     (omega (arith, R .tape))
     (omega (arith, R .room))
     (bit .tape-bit .ensures)
-    (q .mapped-bit .ensures .0)
+    (flip .flip-pair .ensures)
+    (bit-xor _ _ (bit .tape-bit .ensures .1) (flip .flip-pair .ensures .1))
     (c .before .before .before .before .before .before .run-pair .ensures)
     (c .before .before .run-pair2 .ensures)
 
@@ -76,8 +76,7 @@ map-pair-spec =
     tie.close
     (tie.spec
     tape-bit-requires
-    mapped-bit-requires
-    slice-write-mapped
+    flip-pair-requires
     run-pair-requires
     run-pair-requires-2
     same-length

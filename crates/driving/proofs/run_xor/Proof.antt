@@ -1,9 +1,11 @@
 -- `driving::run_xor` meets its contract: values so far are bits.
 -- Assumes nothing.
-use mathlib.Core.Path.{sym}
+use mathlib.Core.Path.{sym, ap, _∙_}
 use mathlib.Core.List.{[]}
 use native.Mathlib.Omega.{arith}
+use lib.ListN.{set}
 use Rattle.tables.specs.Tables.{XOR}
+use Rattle.tables.proofs.Run.{bit-xor}
 use Rattle.tables.proofs.Ran.{ran-one, runs-bit}
 use borrow.Author.Needs.{needs}
 use Rattle.driving.proofs.run_xor.Statement.{statement}
@@ -15,11 +17,6 @@ slice-read-run c = search needs
 slice-read-run-2 : tie.Need-slice-read-run-2
 slice-read-run-2 c = search needs
 
-add-run : tie.Need-add-run
-add-run c =
-    let s = c .before .before in
-    omega (arith, runs-bit (s .pre .0) (s .args .left) (s .pre .1), runs-bit (s .pre .0) (s .args .right) (s .pre .2))
-
 slice-write-run : tie.Need-slice-write-run
 slice-write-run c = search needs
 
@@ -29,11 +26,13 @@ same-length c = search needs
 returns : tie.Need-returns
 returns c =
     let s = c .before .before in
-    sym
-    (ran-one XOR (s .args .left) (s .args .right) [] (s .args .w) (s .args .run .now) (omega (arith, s .pre .0 .room))
-    (s .pre .1, s .pre .2))
+    let a = s .args in
+    let l = runs-bit (s .pre .0) (a .left) (s .pre .1) in
+    let r = runs-bit (s .pre .0) (a .right) (s .pre .2) in
+    ap (set (a .run .now) (a .w)) (bit-xor _ _ l r)
+    ∙ sym (ran-one XOR (a .left) (a .right) [] (a .w) (a .run .now) (omega (arith, s .pre .0 .room)) (s .pre .1, s .pre .2))
 
 pub run-xor-spec : {M : Type 1} → statement M
 run-xor-spec =
     tie.close
-    (tie.spec slice-read-run slice-read-run-2 add-run slice-write-run same-length returns)
+    (tie.spec slice-read-run slice-read-run-2 slice-write-run same-length returns)

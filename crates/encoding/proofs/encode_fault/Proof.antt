@@ -1,6 +1,6 @@
 -- `encoding::encode_fault` meets its contract: each test that refuses is one law of the chain of refusals.
 -- Assumes nothing.
-use mathlib.Core.Path.{_≡_}
+use mathlib.Core.Path.{_≡_, _∙_}
 use mathlib.Core.Bool.{true}
 use native.Mathlib.Omega.{arith}
 use lib.ListN.{length}
@@ -49,21 +49,30 @@ refuse-requires-2 c κs = search needs
 returns-3 : tie.Need-returns-3
 returns-3 c = refused-same (encode-many _ _ _ _ (ordered (c .before .before .before)) (omega arith)) (c .refuse2 .ensures)
 
-mul-if4 : tie.Need-mul-if4
-mul-if4 c = search needs
+mul-due : tie.Need-mul-due
+mul-due c = search needs
+
+bytes-for-requires : tie.Need-bytes-for-requires
+bytes-for-requires c κs = search needs
 
 refuse-requires-3 : tie.Need-refuse-requires-3
 refuse-requires-3 c κs = search needs
 
 returns-4 : tie.Need-returns-4
 returns-4 c =
-    refused-same (encode-count _ _ _ _ (ordered (c .before .before .before .before)) (omega arith) (c .before .if4 .taken)) (c .refuse3 .ensures)
+    let p = c .before .before in
+    refused-same
+    (encode-count _ _ _ _ (ordered (p .before .before .before)) (omega arith) (rw (p .bytes-for .ensures) at (c .before .if4 .taken)))
+    (c .refuse3 .ensures)
 
 bits-fault-requires : tie.Need-bits-fault-requires
 bits-fault-requires c κs = search needs
 
-bits-fault-requires-2 : tie.Need-bits-fault-requires-2
-bits-fault-requires-2 c κs = search needs
+spare-fault-requires : tie.Need-spare-fault-requires
+spare-fault-requires c κs =
+    let p = c .before in
+    let long = p .if4 .left ∙ p .before .bytes-for .ensures in
+    (long, omega arith)
 
 first-of-requires : tie.Need-first-of-requires
 first-of-requires c κs = search needs
@@ -78,9 +87,10 @@ returns-5 : tie.Need-returns-5
 returns-5 c =
     let p = c .before .before .before in
     let q = p .before .before in
-    refused-same (encode-rest _ _ _ _ (ordered (q .before .before .before)) (omega arith) (q .if4 .left))
+    refused-same
+    (encode-rest _ _ _ _ (ordered (q .before .before .before .before)) (omega arith) (q .if4 .left ∙ q .before .bytes-for .ensures))
     (c .first-of2 .ensures _ _
-    (c .before .before .first-of .ensures _ _ (p .before .bits-fault .ensures) (p .bits-fault2 .ensures))
+    (c .before .before .first-of .ensures _ _ (p .before .bits-fault .ensures) (p .spare-fault .ensures))
     (c .before .refuse-if .ensures))
 
 pub encode-fault-spec : {M : Type 1} → statement M
@@ -96,11 +106,12 @@ encode-fault-spec =
     mul-shares
     refuse-requires-2
     returns-3
-    mul-if4
+    mul-due
+    bytes-for-requires
     refuse-requires-3
     returns-4
     bits-fault-requires
-    bits-fault-requires-2
+    spare-fault-requires
     first-of-requires
     refuse-if-requires
     first-of-requires-2

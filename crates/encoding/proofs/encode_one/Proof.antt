@@ -3,12 +3,14 @@
 use Prim.Native.Nat.{_*_, _-_}
 use native.Mathlib.Omega.{arith}
 use lib.ListN.{length-set}
+use Rattle.tables.specs.Packing.{unpacked}
 use Rattle.encoding.proofs.Encoding.{Copying, copying-start, copying-turn, copying-end}
 use Rattle.encoding.proofs.encode_one.Statement.{statement}
 use Rattle.encoding.proofs.encode_one.Tie as tie
 
 abbrev Inv-loop : tie.InvT-loop
-Inv-loop order secret tape from out₀ at bits last₀ s₀ out last s = Copying order secret tape from out₀ at s last out
+Inv-loop order secret tape from out₀ at bits last₀ s₀ out last s =
+    Copying order secret (unpacked tape) from out₀ at s last out
 
 abbrev μ-loop : tie.MeasureT-loop
 μ-loop order secret tape from out₀ at bits last₀ s₀ out last s = 2 * order - s
@@ -17,7 +19,7 @@ mul-bits : tie.Need-mul-bits Inv-loop μ-loop
 mul-bits c = omega arith
 
 loop-holds : tie.Need-loop-holds Inv-loop μ-loop
-loop-holds c = let p = c .before .before .pre in copying-start (p .0) (p .1) _ (p .3)
+loop-holds c = let p = c .before .before .pre in copying-start (p .0) (p .1) _ (p .4)
 
 add-tape-bit : tie.Need-add-tape-bit Inv-loop μ-loop
 add-tape-bit c = omega arith
@@ -41,7 +43,7 @@ loop-again : tie.Need-loop-again Inv-loop μ-loop
 loop-again c =
     let p = c .before .before .before .before .before .pre in
     let test = c .before .loop-test .taken in
-    copying-turn (p .0) (p .1) (c .before .before .loop .inv) test (p .4) (c .tape-bit .ensures)
+    copying-turn (p .0) (p .1) (c .before .before .loop .inv) test (c .tape-bit .ensures)
 
 add-out-2 : tie.Need-add-out-2 Inv-loop μ-loop
 add-out-2 c = omega arith

@@ -1,8 +1,11 @@
 -- `encoding::encode_secrets` meets its contract: a refusal changes nothing, and what is not refused is fit to be encoded.
 -- Assumes nothing.
+use Prim.Native.Nat.{_*_}
 use native.Mathlib.Omega.{arith}
 use lib.ListN.{length}
 use borrow.Author.Needs.{needs}
+use Rattle.tables.specs.Packing.{tapeOf}
+use Rattle.tables.proofs.Packing.{tape-long}
 use Rattle.tables.proofs.Answers.{refused-passed, writes-refused, writes-done}
 use Rattle.masks.specs.Codes.{encode}
 use Rattle.masks.proofs.Codes.{encode-length}
@@ -29,7 +32,7 @@ returns c =
 
 encode-all-requires : tie.Need-encode-all-requires
 encode-all-requires c κs =
-    let P = accepted (c .before) in (P .order .1, P .long, P .fits, P .secrets, P .tape)
+    let P = accepted (c .before) in (P .order .1, omega (arith, P .long), P .fits, P .secrets)
 
 mul-done : tie.Need-mul-done
 mul-done c = search needs
@@ -53,9 +56,11 @@ returns-2 : tie.Need-returns-2
 returns-2 c =
     let p = c .before .before .before .before .before in
     let a = p .before .before .before .before .before .before .args in
-    let long = encode-length (a .order) (a .secrets .now) (a .tape .now) (accepted p .long) in
+    let due = 2 * a .order * length (a .secrets .now) in
+    let tape = tapeOf due (a .tape .now) in
+    let long = encode-length (a .order) (a .secrets .now) tape (tape-long due (a .tape .now) (omega (arith, accepted p .long))) in
     rw (c .done .ensures)
-    (writes-done (encode (a .order) (a .secrets .now) (a .tape .now)) (a .out .now) (p .before .before .encode-fault .ensures)
+    (writes-done (encode (a .order) (a .secrets .now) tape) (a .out .now) (p .before .before .encode-fault .ensures)
     (p .if1 .left) (omega (arith, long)) (c .before .before .before .encode-all .ensures))
 
 pub encode-secrets-spec : {M : Type 1} → statement M

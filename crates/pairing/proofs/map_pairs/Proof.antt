@@ -4,6 +4,8 @@ use mathlib.Core.Path.{_≡_, refl}
 use Prim.Native.Nat.{suc, _+_, _-_, _*_, _≤_}
 use native.Mathlib.Nat.{sub-zero}
 use native.Mathlib.Omega.{arith}
+use Rattle.tables.specs.Packing.{unpacked}
+use Rattle.tables.proofs.Packing.{bytes-long}
 use Rattle.masks.specs.Shares.{pairOf, pairsFrom, pairs, tri}
 use Rattle.masks.specs.Gadgets.{isw}
 use Rattle.masks.proofs.Sum.{up-length}
@@ -20,7 +22,7 @@ use Rattle.pairing.proofs.map_pairs.Tie as tie
 
 abbrev Inv-loop : tie.InvT-loop
 Inv-loop k n w a b tape at mapped₀ one₀ other₀ v₀ next₀ i₀ mapped one other v next i =
-    PairsGoing isw k (shareWires n a) (shareWires n b) (pairs n) tape at w mapped₀ one₀ other₀ (pairsFrom (n - i) i) next v mapped one other
+    PairsGoing isw k (shareWires n a) (shareWires n b) (pairs n) (unpacked tape) at w (unpacked mapped₀) one₀ other₀ (pairsFrom (n - i) i) next v (unpacked mapped) one other
     × (i ≤ n)
     × (w ≤ v)
     × (v + 5 * tri (n - i) ≡ w + 5 * tri n)
@@ -33,7 +35,7 @@ loop-holds c =
     let s = c .before .before .before .before in
     let n = s .args .n in
     let start = going-start isw (s .args .k) (shareWires n (s .args .a)) (shareWires n (s .args .b)) (pairs n)
-    {ts = s .args .tape .now} {at = s .args .at} {w = s .args .w} {m = s .args .mapped .now} {x = s .args .one .now} {y = s .args .other .now}
+    {ts = unpacked (s .args .tape .now)} {at = s .args .at} {w = s .args .w} {m = unpacked (s .args .mapped .now)} {x = s .args .one .now} {y = s .args .other .now}
     (rw (pairs-length n 0) (s .pre .2)) in
     rw sub-zero (start, omega arith, omega arith, refl)
 
@@ -109,7 +111,7 @@ loop-again c =
     )
 
 same-length : tie.Need-same-length Inv-loop μ-loop
-same-length c = going-long (c .before .loop .inv .0) .0
+same-length c = bytes-long (c .before .loop .mapped) _ (going-long (c .before .loop .inv .0) .0)
 
 same-length-2 : tie.Need-same-length-2 Inv-loop μ-loop
 same-length-2 c = going-long (c .before .loop .inv .0) .1

@@ -5,6 +5,8 @@ use mathlib.Core.List.{[], _∷_}
 use Prim.Native.Nat.{suc, _+_, _-_, _*_, _≤_, _<_}
 use native.Mathlib.Nat.{add-zero, sub-zero}
 use native.Mathlib.Omega.{arith}
+use Rattle.tables.specs.Packing.{unpacked}
+use Rattle.tables.proofs.Packing.{bytes-long}
 use Rattle.masks.specs.Shares.{upFrom, pairOf}
 use Rattle.masks.specs.Gadgets.{isw}
 use Rattle.masks.proofs.Sum.{up-length}
@@ -20,11 +22,11 @@ use Rattle.pairing.proofs.map_share.Tie as tie
 
 abbrev Inv-loop : tie.InvT-loop
 Inv-loop k n i w a b tape at mapped₀ one₀ other₀ ai bi later c₀ mapped one other c =
-    PairsGoing isw k (shareWires n a) (shareWires n b) (sharePairs n i) tape at w mapped₀ one₀ other₀
+    PairsGoing isw k (shareWires n a) (shareWires n b) (sharePairs n i) (unpacked tape) at w (unpacked mapped₀) one₀ other₀
     (upFrom (n - suc i - c) (suc i + c) (λ j. pairOf i j))
     (at + c)
     (w + 5 * c)
-    mapped
+    (unpacked mapped)
     one
     other
     × (c ≤ later)
@@ -52,7 +54,7 @@ loop-holds c =
     let i = s .args .i in
     let long = up-length (n - suc i) (suc i) (λ j. pairOf i j) in
     let start = going-start isw (s .args .k) (shareWires n (s .args .a)) (shareWires n (s .args .b)) (sharePairs n i)
-    {ts = s .args .tape .now} {at = s .args .at} {w = s .args .w} {m = s .args .mapped .now} {x = s .args .one .now} {y = s .args .other .now}
+    {ts = unpacked (s .args .tape .now)} {at = s .args .at} {w = s .args .w} {m = unpacked (s .args .mapped .now)} {x = s .args .one .now} {y = s .args .other .now}
     (rw long (s .pre .2)) in
     (rw (add-zero, add-zero, add-zero, sub-zero) start, omega arith, omega arith)
 
@@ -129,7 +131,7 @@ loop-again c =
     let A = shareWires n (s .args .a) in
     let B = shareWires n (s .args .b) in
     let inv = head .loop .inv in
-    let pair = one-pair isw (s .args .k) i j (s .args .w + 5 * k) A B (s .args .tape .now) (s .args .at + k) {p = i + 1} {q = j + 1}
+    let pair = one-pair isw (s .args .k) i j (s .args .w + 5 * k) A B (unpacked (s .args .tape .now)) (s .args .at + k) {p = i + 1} {q = j + 1}
     (head .before .before .share-wire .ensures .1 n h)
     (c .before .before .before .before .before .before .before .before .before .before .later-wire2 .ensures .1 n (below test))
     (c .before .before .before .before .before .before .before .before .before .before .before .later-wire .ensures .1 n (below test))
@@ -149,7 +151,7 @@ loop-again c =
     )
 
 same-length : tie.Need-same-length Inv-loop μ-loop
-same-length c = going-long (c .before .loop .inv .0) .0
+same-length c = bytes-long (c .before .loop .mapped) _ (going-long (c .before .loop .inv .0) .0)
 
 same-length-2 : tie.Need-same-length-2 Inv-loop μ-loop
 same-length-2 c = going-long (c .before .loop .inv .0) .1

@@ -1,8 +1,6 @@
 -- `rerunning::map_with` meets its contract: shares are noted, both runs begun, then the gates follow.
 -- Assumes nothing.
-use mathlib.Core.Path.{sym}
 use native.Mathlib.Omega.{arith}
-use lib.Seq.{length-take-le}
 use Rattle.sizing.proofs.Planning.{plan-fits}
 use Rattle.placing.proofs.Placing.{plan-located}
 use Rattle.rerunning.proofs.Working.{split-fits, begin-ready, gates-ready, work-done}
@@ -25,25 +23,20 @@ locate-requires c κs =
     let q = c .before .before .before .before .before .before .before .before .before .before .before .before in
     let pre = q .before .before .before .pre in (pre .0 .plan, pre .1)
 
-slice-aggregate-begin-runs : tie.Need-slice-aggregate-begin-runs
-slice-aggregate-begin-runs c =
-    let q = c .before .before .before .before .before .before .before .before .before .before .before .before in
-    sym (length-take-le _ _ (split-fits (q .before .before .before .before .before .before .before .before .before .before .before .pre .0)))
-
 begin-runs-requires : tie.Need-begin-runs-requires
 begin-runs-requires c κs =
     let q = c .before .before .before .before .before .before .before .before .before .before .before .before in
     let r = q .before .before .before .before .before .before .before .before .before .before .before .before in
-    begin-ready (r .before .before .pre .0)
+    begin-ready (r .before .pre .0)
 
 map-gates-requires : tie.Need-map-gates-requires
 map-gates-requires c κs =
     let q = c .before .before .before .before .before .before .before .before .before .before .before .before in
-    let r = q .before .before .before .before .before .before .before .before .before .before .before .before in
-    let s = r .before .before .before .before .before .before .before .before .before .before .before .before in
-    let pre = s .before .before .before .pre in (
+    let l = q .before .before .before .before .before .before .before .before .before .before in
+    let r = l .before .before .before .before .before .before .before .before .before .before .before .before in
+    let pre = r .before .before .before .before .pre in (
       pre .0 .plan,
-      plan-located (pre .0 .plan) (pre .1) (q .before .before .before .before .before .before .before .before .before .before .before .locate .ensures),
+      plan-located (pre .0 .plan) (pre .1) (l .locate .ensures),
       gates-ready (pre .0) (q .begin-runs .ensures),
     )
 
@@ -67,11 +60,14 @@ same-length-6 c = search needs
 
 returns : tie.Need-returns
 returns c =
-    let q = c .before .before .before .before .before .before .before .before .before .before .before .before in
-    let r = q .before .before .before .before .before .before .before .before .before .before .before .before in
-    let s = r .before .before .before .before .before .before .before .before .before .before .before .before in
-    let W = s .before .before .before .before .before .before .before .before .before .before .pre .0 in
-    work-done W (q .before .before .before .before .before .before .before .begin-runs .ensures) (c .before .before .before .before .before .before .map-gates .ensures)
+    let g = c .before .before .before .before .before .before in
+    let q = g .before .before .before .before .before .before .before .before .before .before .before .before .before in
+    let l = q .before .before .before .before .before .before .before .before .before .before in
+    let r = l .before .before .before .before .before .before .before .before .before .before .before .before in
+    work-done (r .before .before .before .before .pre .0) (q .begin-runs .ensures) _ (g .map-gates .ensures)
+    (λ i. omega (arith, r .shared-slice-known4 .given i))
+    (λ i. omega (arith, l .before .before .before .before .before .before .before .before .slice-known4 .given i))
+    (λ i. omega (arith, c .before .before .before .before .slice-known13 .given i))
 
 pub map-with-spec : {M : Type 1} → statement M
 map-with-spec =
@@ -80,7 +76,6 @@ map-with-spec =
     mul-split
     mul-split-2
     locate-requires
-    slice-aggregate-begin-runs
     begin-runs-requires
     map-gates-requires
     same-length

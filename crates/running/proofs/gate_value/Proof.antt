@@ -11,10 +11,10 @@ tape-bit-requires : tie.Need-tape-bit-requires
 tape-bit-requires c κs = c .before .before .pre .random (c .if1 .taken)
 
 add-t9 : tie.Need-add-t9
-add-t9 c = omega (arith, c .before .before .before .pre .random (c .before .if1 .taken))
+add-t9 c = omega (arith, c .before .before .before .pre .few)
 
 returns : tie.Need-returns
-returns c = says-random (c .before .before .before .pre) (c .before .if1 .taken) (c .tape-bit .ensures) refl
+returns c = says-random (c .before .before .before .pre) (c .before .if1 .taken) (c .tape-bit .ensures .0) refl
 
 mul-row : tie.Need-mul-row
 mul-row c = search needs

@@ -6,6 +6,7 @@ use native.Mathlib.Numerals.{add-one}
 use native.Mathlib.Omega.{arith}
 use borrow.Author.Needs.{needs}
 use Rattle.tables.specs.Tables.{tableOf}
+use Rattle.tables.specs.Packing.{unpacked}
 use Rattle.tables.proofs.Accept.{accepted-few, gates-are}
 use Rattle.tables.proofs.Put.{writing-long}
 use Rattle.running.proofs.Running.{Running, ready-gates, ready-more, running-long, running-start, value-there}
@@ -15,7 +16,8 @@ use Rattle.running.proofs.run_gates.Statement.{statement}
 use Rattle.running.proofs.run_gates.Tie as tie
 
 abbrev Inv-loop : tie.InvT-loop
-Inv-loop table inputs gates random values₀ next₀ g₀ values next g = Running (tableOf table) random values₀ inputs values next g
+Inv-loop table inputs gates random values₀ next₀ g₀ values next g =
+    Running (tableOf table) (unpacked random) values₀ inputs values next g
 
 abbrev μ-loop : tie.MeasureT-loop
 μ-loop table inputs gates random values₀ next₀ g₀ values next g = gates - g

@@ -2,6 +2,7 @@
 -- Assumes nothing.
 use mathlib.Core.Path.{_≡_, refl}
 use native.Mathlib.Omega.{arith}
+use Rattle.tables.specs.Packing.{unpacked}
 use Rattle.driving.proofs.Before.{left-low}
 use Rattle.steps.proofs.ByKind.{and-ready, xor-ready, not-ready, not-left, and-gate, xor-gate, not-gate}
 use Rattle.steps.proofs.ByKind.{ready-where, ran-where}
@@ -48,8 +49,9 @@ returns c =
     let s = c .before .before .before .before .before .before .before .before .before .before .before .before .before .before .before .before .before .before in
     let n = s .args .n in
     let here = c .before .before .before .before .before .before .before .before .before .before .places-at .ensures .0 in
-    λ g. ran-where (s .args .kind) n (s .args .k) g (s .args .w) (s .args .tape .now) (s .args .at) _ _ _ _ _ _ here refl
-    (not-gate n (s .args .k) g (s .args .w) _ _ (s .args .tape .now) (s .args .at) (c .before .before .before .before .before .before .before .before .before .if1 .taken)
+    λ g. ran-where (s .args .kind) n (s .args .k) g (s .args .w) (unpacked (s .args .tape .now)) (s .args .at) _ _ _ _ _ _ here refl
+    (not-gate n (s .args .k) g (s .args .w) _ _ (unpacked (s .args .tape .now)) (s .args .at)
+    (c .before .before .before .before .before .before .before .before .before .if1 .taken)
     (c .before .before .before .before .before .before .before .before .share-wire .ensures .1 n (s .pre .2 .some))
     (c .before .before .before .before .before .before .run-not .ensures)
     (c .before .before .run-not2 .ensures))
@@ -75,10 +77,10 @@ returns-2 : tie.Need-returns-2
 returns-2 c =
     let s = c .before .before .before .before .before .before .before .before .before .before .before .before .before .before .before .before
     .before .before .before .before .before in
-    λ g. ran-where (s .args .kind) (s .args .n) (s .args .k) g (s .args .w) (s .args .tape .now) (s .args .at) _ _ _ _ _ _
+    λ g. ran-where (s .args .kind) (s .args .n) (s .args .k) g (s .args .w) (unpacked (s .args .tape .now)) (s .args .at) _ _ _ _ _ _
     (c .before .before .before .before .before .before .before .before .before .before .before .before .before .places-at .ensures .0) (c .before
     .before .before .before .before .before .before .before .before .before .before .places-at2 .ensures .0)
-    (and-gate (s .args .n) (s .args .k) g (s .args .w) _ _ (s .args .tape .now) (s .args .at) (c .before .before .before .before .before .before
+    (and-gate (s .args .n) (s .args .k) g (s .args .w) _ _ (unpacked (s .args .tape .now)) (s .args .at) (c .before .before .before .before .before .before
     .before .before .before .before .if2 .taken)
     (c .before .before .before .before .before .before .map-and .ensures))
 
@@ -107,10 +109,10 @@ returns-3 c =
     let s = c .before .before .before .before .before .before .before .before .before .before .before .before .before .before .before .before .before .before .before in
     let is = is-xor s (c .before .before .before .before .before .before .before .before .before .before .if1 .left) (c .before .before .before
     .before .before .before .before .before .if2 .left) in
-    λ g. ran-where (s .args .kind) (s .args .n) (s .args .k) g (s .args .w) (s .args .tape .now) (s .args .at) _ _ _ _ _ _
+    λ g. ran-where (s .args .kind) (s .args .n) (s .args .k) g (s .args .w) (unpacked (s .args .tape .now)) (s .args .at) _ _ _ _ _ _
     (c .before .before .before .before .before .before .before .before .before .before .before .places-at .ensures .0) (c .before .before .before
     .before .before .before .before .before .before .places-at2 .ensures .0)
-    (xor-gate (s .args .n) (s .args .k) g (s .args .w) _ _ (s .args .tape .now) (s .args .at) is
+    (xor-gate (s .args .n) (s .args .k) g (s .args .w) _ _ (unpacked (s .args .tape .now)) (s .args .at) is
     (c .before .before .before .before .before .before .run-xors .ensures) (c .before .before .run-xors2 .ensures))
 
 pub map-gate-spec : {M : Type 1} → statement M

@@ -4,6 +4,8 @@ use mathlib.Core.Path.{_≡_, refl, sym, _∙_}
 use Prim.Native.Nat.{_-_}
 use native.Mathlib.Omega.{arith}
 use lib.ListN.{length}
+use Rattle.tables.specs.Packing.{unpacked}
+use Rattle.tables.proofs.Packing.{bytes-long}
 use Rattle.tables.specs.Tables.{tableOf}
 use Rattle.placing.specs.Located.{placesAt}
 use Rattle.placing.proofs.Turns.{plan-sized}
@@ -14,7 +16,7 @@ use Rattle.steps.proofs.map_gates.Tie as tie
 
 abbrev Inv-loop : tie.InvT-loop
 Inv-loop table k head base step tape at mapped₀ one₀ other₀ n gates w₀ next₀ g₀ mapped one other w next g =
-    Going (tableOf table) n k tape at mapped₀ one₀ other₀ g w next mapped one other
+    Going (tableOf table) n k (unpacked tape) at (unpacked mapped₀) one₀ other₀ g w next (unpacked mapped) one other
 
 abbrev μ-loop : tie.MeasureT-loop
 μ-loop table k head base step tape at mapped₀ one₀ other₀ n gates w₀ next₀ g₀ mapped one other w next g =
@@ -40,7 +42,7 @@ ready :
     let l = g .before .before .loop in
     let at = placesAt (s .args .head .now) (s .args .base .now) (s .args .step .now) in
     StepReady (g .gate-at .result .kind) (s .args .p .shares) (l .w) (at (g .gate-at .result .left)) (at (g .gate-at .result .right))
-    (s .args .tape .now) (l .next) (l .mapped) (l .one) (l .other)
+    (unpacked (s .args .tape .now)) (l .next) (unpacked (l .mapped)) (l .one) (l .other)
 ready g =
     let s = g .before .before .before .before .before .before .before .before .before .before .before .before in
     step-ready (s .pre .0) (g .before .before .loop .inv) (g .before .loop-test .taken) (g .gate-at .ensures) (s .pre .1)
@@ -68,7 +70,7 @@ gate-draws-requires c κs =
 add-next : tie.Need-add-next Inv-loop μ-loop
 add-next c =
     let g = c .before .before .before .before .before .before .before .before .before .before .before .before in
-    omega (arith, ready g .both .tape, c .gate-draws .ensures, g .before .before .before .before .before .before .before .before .before .before .before .before .good)
+    omega (arith, ready g .both .few, c .gate-draws .ensures)
 
 add-g : tie.Need-add-g Inv-loop μ-loop
 add-g c =
@@ -100,7 +102,7 @@ long c =
     let s = c .before .before .before .before .before .before .before .before .before .before .before in
     let now = steps-long (c .before .loop .inv) in
     let first = steps-long (steps-start (s .args .k) {at = s .args .at} (s .pre .0) refl (s .pre .2)) in
-    (now .0 ∙ sym (first .0), now .1 ∙ sym (first .1), now .2 ∙ sym (first .2))
+    (bytes-long (c .before .loop .mapped) (s .args .mapped .now) (now .0 ∙ sym (first .0)), now .1 ∙ sym (first .1), now .2 ∙ sym (first .2))
 
 same-length : tie.Need-same-length Inv-loop μ-loop
 same-length c = long c .0
