@@ -1,4 +1,5 @@
-//! What the calls are given: tables of chosen sizes, bits and probes, all from one seed.
+//! What the calls are given: tables of chosen sizes, bits, packed tapes and probes, all from one
+//! seed.
 
 use compare::circuit::{Circuit, Gate, random};
 use compare::model::{self, AND, NOT, RANDOM, XOR};
@@ -67,7 +68,7 @@ impl Running {
         let field = |at: usize| usize::from(u16::from_le_bytes([table[at], table[at + 1]]));
         let (inputs, gates, outputs) = (field(0), field(2), field(4));
         let randoms = table[6..6 + gates].iter().filter(|&&kind| kind == RANDOM).count();
-        let (inputs, random) = (rng.bits(inputs), rng.bits(randoms));
+        let (inputs, random) = (rng.bits(inputs), rng.tape(randoms));
         Running { wires: inputs.len() + gates, outputs, inputs, random, table }
     }
 }
@@ -100,7 +101,7 @@ impl Masking {
         let mapping = Mapping {
             first: rng.bits(inputs),
             second: rng.bits(inputs),
-            tape: rng.bits(sizes.tape as usize),
+            tape: rng.tape(sizes.tape as usize),
             probes: (0..order).map(|_| rng.below(masked.wires) as u32).collect(),
         };
         Masking { plain, order, sizes, masked, mapping }

@@ -340,7 +340,7 @@ fn marks(gauge: Gauge, maskings: &[Masking]) -> Times {
 fn encode(gauge: Gauge, rng: &mut Rng, order: u8, most_shares: usize) -> Row {
     let n = 2 * usize::from(order) + 1;
     let count = most_shares / n;
-    let inputs = inputs_of(most_shares, || (rng.bits(count), rng.bits((n - 1) * count)));
+    let inputs = inputs_of(most_shares, || (rng.bits(count), rng.tape((n - 1) * count)));
     let times = measure(
         gauge,
         &inputs,
@@ -369,7 +369,7 @@ fn map(gauge: Gauge, maskings: &[Masking]) -> Times {
 }
 
 fn map_lengths(masking: &Masking) -> [usize; 3] {
-    [masking.sizes.tape as usize, masking.wires(), masking.wires()]
+    [masking.mapping.tape.len(), masking.wires(), masking.wires()]
 }
 
 fn map_once(

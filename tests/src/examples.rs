@@ -1,8 +1,9 @@
-//! The examples of document 01, with the answers and bytes that the paper gives.
+//! The examples of document 01, with the answers and bytes that the paper gives; tapes are packed.
 
 use crate::case::{Case, Lent, MapCase};
 use crate::circuit::{Circuit, and, random, xor};
 use crate::masks::{Masks, Outcome};
+use crate::model::pack;
 
 /// A case with what must come back.
 pub struct Example {
@@ -66,7 +67,10 @@ fn repeated_output(outputs: usize) -> Vec<u8> {
     Circuit::new(1, &[], &vec![0; outputs]).bytes()
 }
 
-const TAPE: [u8; 7] = [1, 0, 0, 1, 1, 0, 1];
+/// The tape 1 0 0 1 1 0 1; its first four bits are for encoding, the others for running.
+const TAPE: [u8; 1] = [0x59];
+const ENCODING: [u8; 1] = [0x09];
+const RUNNING: [u8; 1] = [0x05];
 
 /// The wire values of the masked AND with that tape, for secrets 1 1.
 const VALUES: [u8; 30] = [
@@ -119,7 +123,7 @@ fn small() -> Vec<Example> {
     let run = |inputs: [u8; 6]| Case::Run {
         table: masked_and(),
         inputs: inputs.to_vec(),
-        random: vec![1, 0, 1],
+        random: RUNNING.to_vec(),
         values: 30,
         outputs: 3,
     };
@@ -149,9 +153,14 @@ fn small() -> Vec<Example> {
         ),
         writing(
             "secrets 1 1",
-            Case::Encode { order: 1, secrets: vec![1, 1], tape: vec![1, 0, 0, 1], out: 6 },
+            Case::Encode { order: 1, secrets: vec![1, 1], tape: ENCODING.to_vec(), out: 6 },
             6,
             &[&VALUES[..6]],
+        ),
+        example(
+            "the whole tape for encoding",
+            Case::Encode { order: 1, secrets: vec![1, 1], tape: TAPE.to_vec(), out: 6 },
+            Outcome::refused(11, 2),
         ),
         writing("secrets 1 1 run", run([1, 0, 0, 0, 1, 0]), 30, &[&VALUES, &[1, 1, 1]]),
         writing(
@@ -212,7 +221,7 @@ pub fn map_examples() -> Vec<Example> {
             second: second.to_vec(),
             tape: TAPE.to_vec(),
             probes: probes.to_vec(),
-            mapped: 7,
+            mapped: 1,
             one: 30,
             other: 30,
         })
@@ -223,14 +232,15 @@ pub fn map_examples() -> Vec<Example> {
             order: 1,
             first: vec![1, 1],
             second: vec![0, 1],
-            tape: TAPE.into_iter().cycle().take(4 + 3 * usize::from(ands)).collect(),
+            tape: pack(&[1, 0, 0, 1, 1, 0, 1].repeat(1_171)[..4 + 3 * usize::from(ands)]),
             probes: probes.to_vec(),
-            mapped: 8_194,
+            mapped: 1_025,
             one: 65_526,
             other: 65_526,
         })
     };
-    let mapped = [0, 0, 0, 1, 0, 0, 1];
+    // 0 0 0 1 0 0 1
+    let mapped = [0x48];
     vec![
         writing("probe 7", map([0, 1], &[7]), 3, &[&TAPE, &VALUES, &VALUES_SAME_TAPE]),
         writing("probe 29", map([0, 1], &[29]), 1, &[&mapped, &VALUES, &VALUES_MAPPED_TAPE]),

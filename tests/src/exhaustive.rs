@@ -3,6 +3,7 @@
 use crate::case::{Case, MapCase};
 use crate::circuit::{Circuit, Gate, and, not, xor};
 use crate::masks::{Masks, Outcome};
+use crate::model::bytes_for;
 
 /// Every circuit of one input with at most two gates and of two inputs with at most one gate,
 /// and some of two inputs with several.
@@ -46,8 +47,14 @@ fn bits(number: usize, count: usize) -> Vec<u8> {
     (0..count).map(|at| (number >> at & 1) as u8).collect()
 }
 
-fn number(bits: &[u8]) -> usize {
-    bits.iter().rev().fold(0, |number, &bit| 2 * number + usize::from(bit))
+/// A tape of so many bits, of which the first is the number's lowest.
+fn tape_of(number: usize, bits: usize) -> Vec<u8> {
+    number.to_le_bytes()[..bytes_for(bits)].to_vec()
+}
+
+/// The number that a tape is of.
+fn number(tape: &[u8]) -> usize {
+    tape.iter().rev().fold(0, |number, &byte| number << 8 | usize::from(byte))
 }
 
 /// A circuit masked by an implementation, and its sizes.
@@ -91,12 +98,12 @@ impl<'a, M: Masks> Masked<'a, M> {
         (0..1 << self.inputs).map(run).collect()
     }
 
-    /// The wire values for a secret and a tape, written into `values`; the outputs must decode
-    /// to the plain ones.
+    /// The wire values for a secret and the tape of a number, written into `values`; the outputs
+    /// must decode to the plain ones.
     fn run(
         &self,
         secret: &[u8],
-        tape: &[u8],
+        tape: usize,
         plain: &[u8],
         values: &mut [u8],
     ) -> Result<(), String> {
@@ -108,16 +115,18 @@ impl<'a, M: Masks> Masked<'a, M> {
             &mut outputs[..self.shares * self.outputs],
             &mut decoded[..self.outputs],
         );
-        let (encoding_bits, random) = tape.split_at((self.shares - 1) * self.inputs);
-        let accepted = self.masks.encode(self.order, secret, encoding_bits, shares).number == 0
-            && self.masks.run(&self.table, shares, random, values, outputs).number == 0
+        let bits = (self.shares - 1) * self.inputs;
+        let encoding = tape_of(tape & ((1 << bits) - 1), bits);
+        let random = tape_of(tape >> bits, self.tape - bits);
+        let accepted = self.masks.encode(self.order, secret, &encoding, shares).number == 0
+            && self.masks.run(&self.table, shares, &random, values, outputs).number == 0
             && self.masks.decode(self.order, outputs, decoded).number == 0;
         if !accepted {
             return Err("encoding, running or decoding refuses".into());
         }
         if decoded != plain {
             return Err(format!(
-                "the outputs do not decode to the plain ones: secrets {secret:?}, tape {tape:?}"
+                "the outputs do not decode to the plain ones: secrets {secret:?}, tape {tape:b}"
             ));
         }
         Ok(())
@@ -138,7 +147,7 @@ pub fn check_patterns(masks: &impl Masks, circuit: &Circuit, order: u8) -> Resul
     for (secret, columns) in columns.iter_mut().enumerate() {
         let secret_bits = bits(secret, masked.inputs);
         for tape in 0..tapes {
-            masked.run(&secret_bits, &bits(tape, masked.tape), &plain[secret], &mut values)?;
+            masked.run(&secret_bits, tape, &plain[secret], &mut values)?;
             for (column, &value) in columns.iter_mut().zip(&values) {
                 column[tape / 64] |= u64::from(value) << (tape % 64);
             }
@@ -176,7 +185,7 @@ pub fn check_maps(
     for (secret, runs) in runs.iter_mut().enumerate() {
         let secret_bits = bits(secret, masked.inputs);
         for (tape, run) in runs.iter_mut().enumerate() {
-            masked.run(&secret_bits, &bits(tape, masked.tape), &plain[secret], run)?;
+            masked.run(&secret_bits, tape, &plain[secret], run)?;
         }
     }
 
@@ -187,7 +196,7 @@ pub fn check_maps(
         second: Vec::new(),
         tape: Vec::new(),
         probes: Vec::new(),
-        mapped: masked.tape,
+        mapped: bytes_for(masked.tape),
         one: wires,
         other: wires,
     };
@@ -204,7 +213,7 @@ pub fn check_maps(
                 case.first = bits(x, masked.inputs);
                 case.second = bits(y, masked.inputs);
                 for tape in 0..tapes {
-                    case.tape = bits(tape, masked.tape);
+                    case.tape = tape_of(tape, masked.tape);
                     let told = |text: &str| format!("{}\n{text}", Case::Map(case.clone()));
                     let outcome = mapping.take(&case, theirs);
                     if outcome != expected.take(&case, ours) || mapping != expected {
@@ -257,7 +266,7 @@ impl Written {
     /// Puts a case to an implementation and takes what it writes.
     fn take(&mut self, case: &MapCase, masks: &impl Masks) -> Outcome {
         let Written { mapped, one, other } = self;
-        mapped.fill(2);
+        mapped.fill(255);
         one.fill(2);
         other.fill(2);
         case.put_to(masks, mapped, one, other)

@@ -12,6 +12,7 @@ enum Flaw {
     Order,
     Count,
     Bit,
+    Unused,
     TooManyProbes,
     Probe,
     Buffer,
@@ -70,7 +71,8 @@ fn mask(rng: &mut Rng) -> Case {
 }
 
 fn encode(rng: &mut Rng) -> Case {
-    let flaws = Flaws::new(rng, &[Flaw::Order, Flaw::Count, Flaw::Bit, Flaw::Buffer]);
+    const POSSIBLE: [Flaw; 5] = [Flaw::Order, Flaw::Count, Flaw::Bit, Flaw::Unused, Flaw::Buffer];
+    let flaws = Flaws::new(rng, &POSSIBLE);
     let order = sound_order(rng);
     let n = 2 * usize::from(order) + 1;
     let count = match rng.below(200) {
@@ -78,8 +80,8 @@ fn encode(rng: &mut Rng) -> Case {
         1..20 => rng.within(1, 100),
         _ => rng.below(6),
     };
-    let (mut secrets, mut tape) = (rng.bits(count), rng.bits((n - 1) * count));
-    spoil(rng, &flaws, &mut [&mut secrets, &mut tape]);
+    let mut secrets = rng.bits(count);
+    let tape = spoil_with_tape(rng, &flaws, &mut [&mut secrets], (n - 1) * count);
     let [out] = buffers(rng, [n * secrets.len()], &flaws);
     Case::Encode { order: given_order(rng, order, &flaws), secrets, tape, out }
 }
@@ -101,15 +103,16 @@ fn decode(rng: &mut Rng) -> Case {
 }
 
 fn run(rng: &mut Rng) -> Case {
-    let flaws = Flaws::new(rng, &[Flaw::Table, Flaw::Count, Flaw::Bit, Flaw::Buffer]);
+    const POSSIBLE: [Flaw; 5] = [Flaw::Table, Flaw::Count, Flaw::Bit, Flaw::Unused, Flaw::Buffer];
+    let flaws = Flaws::new(rng, &POSSIBLE);
     let circuit = any_circuit(rng, 500);
     let table = table(rng, &circuit, &flaws);
     let [inputs, gates, outputs] = sizes_of(&table, &circuit);
     let kinds = table.get(6..6 + gates).unwrap_or(&[]);
     let randoms = kinds.iter().filter(|&&kind| kind == RANDOM).count();
-    let (mut inputs, mut random) = (rng.bits(inputs), rng.bits(randoms));
+    let mut inputs = rng.bits(inputs);
     let [values, outputs] = buffers(rng, [inputs.len() + gates, outputs], &flaws);
-    spoil(rng, &flaws, &mut [&mut inputs, &mut random]);
+    let random = spoil_with_tape(rng, &flaws, &mut [&mut inputs], randoms);
     Case::Run { table, inputs, random, values, outputs }
 }
 
@@ -120,11 +123,12 @@ fn marks(rng: &mut Rng) -> Case {
 }
 
 fn map(rng: &mut Rng) -> MapCase {
-    const POSSIBLE: [Flaw; 7] = [
+    const POSSIBLE: [Flaw; 8] = [
         Flaw::Table,
         Flaw::Order,
         Flaw::Count,
         Flaw::Bit,
+        Flaw::Unused,
         Flaw::TooManyProbes,
         Flaw::Probe,
         Flaw::Buffer,
@@ -133,8 +137,8 @@ fn map(rng: &mut Rng) -> MapCase {
     let Plain { table, order, sizes, inputs } = plain(rng, &flaws, 800);
     let mut first = rng.bits(inputs);
     let mut second = if rng.once_in(8) { first.clone() } else { rng.bits(inputs) };
-    let mut tape = rng.bits(sizes.tape as usize);
-    spoil(rng, &flaws, &mut [&mut first, &mut second, &mut tape]);
+    let (bits, wires) = (sizes.tape as usize, sizes.wires as usize);
+    let tape = spoil_with_tape(rng, &flaws, &mut [&mut first, &mut second], bits);
 
     let most = usize::from(order).clamp(1, 15);
     let count = if flaws.has(Flaw::TooManyProbes) {
@@ -148,8 +152,7 @@ fn map(rng: &mut Rng) -> MapCase {
     for _ in 0..flaws.count(Flaw::Probe).min(count) {
         probes[rng.below(count)] = probe(rng, sizes.wires, true);
     }
-    let (bits, wires) = (sizes.tape as usize, sizes.wires as usize);
-    let [mapped, one, other] = buffers(rng, [bits, wires, wires], &flaws);
+    let [mapped, one, other] = buffers(rng, [model::bytes_for(bits), wires, wires], &flaws);
     MapCase { table, order, first, second, tape, probes, mapped, one, other }
 }
 
@@ -244,27 +247,60 @@ fn probe(rng: &mut Rng, wires: u32, beyond: bool) -> u32 {
     }
 }
 
-/// Spoils the counts and the bits of the parts that a call joins.
+/// Spoils the counts and the bits of the parts that a call takes.
 fn spoil(rng: &mut Rng, flaws: &Flaws, parts: &mut [&mut Vec<u8>]) {
-    for _ in 0..flaws.count(Flaw::Count) {
-        let at = rng.below(parts.len());
-        match rng.below(4) {
-            0 => parts[at].push(1),
-            1 => drop(parts[at].pop()),
-            2 => parts[at].clear(),
-            // From one part to another, so that the parts joined stay as long.
-            _ => {
-                if let Some(bit) = parts[at].pop() {
-                    parts[rng.below(parts.len())].push(bit);
-                }
-            }
+    spoil_bits(rng, flaws, parts);
+    spoil_counts(rng, flaws, parts);
+}
+
+/// The same where a call also takes a tape, which is drawn here, of so many bits.
+fn spoil_with_tape(
+    rng: &mut Rng,
+    flaws: &Flaws,
+    parts: &mut [&mut Vec<u8>],
+    bits: usize,
+) -> Vec<u8> {
+    let mut tape = rng.tape(bits);
+    for _ in 0..flaws.count(Flaw::Unused) {
+        if let (Some(last), used @ 1..) = (tape.last_mut(), bits % 8) {
+            *last |= 1 << rng.within(used, 7);
         }
     }
+    spoil_bits(rng, flaws, parts);
+    let mut all: Vec<&mut Vec<u8>> = parts.iter_mut().map(|part| &mut **part).collect();
+    all.push(&mut tape);
+    spoil_counts(rng, flaws, &mut all);
+    tape
+}
+
+fn spoil_bits(rng: &mut Rng, flaws: &Flaws, parts: &mut [&mut Vec<u8>]) {
     for _ in 0..flaws.count(Flaw::Bit) {
         let at = rng.below(parts.len());
         if !parts[at].is_empty() {
             let position = rng.below(parts[at].len());
             parts[at][position] = rng.pick(&[2, 2, 3, 4, 127, 128, 254, 255]);
+        }
+    }
+}
+
+fn spoil_counts(rng: &mut Rng, flaws: &Flaws, parts: &mut [&mut Vec<u8>]) {
+    for _ in 0..flaws.count(Flaw::Count) {
+        let at = rng.below(parts.len());
+        match rng.below(5) {
+            0 => parts[at].push(1),
+            1 => drop(parts[at].pop()),
+            2 => parts[at].clear(),
+            // Packed where it should not be, or the other way round.
+            3 => {
+                let bytes = rng.pick(&[model::bytes_for(parts[at].len()), 8 * parts[at].len()]);
+                parts[at].resize(bytes, 0);
+            }
+            // From one part to another, so that the parts joined stay as long.
+            _ => {
+                if let Some(byte) = parts[at].pop() {
+                    parts[rng.below(parts.len())].push(byte);
+                }
+            }
         }
     }
 }

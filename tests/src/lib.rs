@@ -13,3 +13,4 @@ pub mod properties;
 pub mod rng;
 pub mod sampled;
 pub mod samples;
+pub mod tapes;

@@ -1,6 +1,6 @@
 //! Compares the archive libmasks_c.a with the implementation of this crate.
 //!
-//!     compare [--seed N]                the comparison: examples, generated cases, all tapes
+//!     compare [--seed N]                the comparison: examples, generated cases, tapes
 //!     compare fuzz SECONDS [--seed N]   generated cases for so long, from the clock's seed or N
 //!     compare case CALL SEED            one generated case again, shown in full
 //!     compare line FILE                 the line that the forecast program prints for an input
@@ -24,7 +24,7 @@ use compare::compare::{Tally, compare};
 use compare::masks::{Model, Outcome};
 use compare::properties::{check_counts, check_mapping};
 use compare::rng::Rng;
-use compare::{examples, exhaustive, generate, model, sampled};
+use compare::{examples, exhaustive, generate, model, sampled, tapes};
 
 use ffi::Archive;
 
@@ -106,6 +106,7 @@ fn compare_all(seed: u64) -> Result<(), String> {
         )?;
         println!("{}: {}", call.name(), tallies[call as usize]);
     }
+    compare_tapes(seed)?;
     compare_all_tapes()?;
     if cfg!(feature = "map") {
         compare_sampled_maps(seed)?;
@@ -160,6 +161,16 @@ fn compare_case(case: &Case) -> Result<Outcome, String> {
         _ => {}
     }
     Ok(outcome)
+}
+
+/// Tapes of chosen lengths, as they should be and otherwise, with a line for each call.
+fn compare_tapes(seed: u64) -> Result<(), String> {
+    for call in tapes::CALLS.into_iter().filter(|call| calls().contains(call)) {
+        let seen =
+            tapes::check(call, seed, compare_case).map_err(|text| format!("FAILED: {text}"))?;
+        println!("tapes to {}: {seen}", call.name());
+    }
+    Ok(())
 }
 
 /// Small circuits with all tapes and all secrets.

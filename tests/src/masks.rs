@@ -12,7 +12,7 @@ pub struct Outcome {
     pub values: [u32; 4],
 }
 
-/// An implementation of the eight calls.
+/// An implementation of the eight calls. Every tape, the random bits of a run too, is packed.
 pub trait Masks {
     fn check(&self, table: &[u8]) -> Outcome;
 

@@ -302,9 +302,9 @@ fn run_masked(
     let gates = usize::from(u16::from_le_bytes([masked[2], masked[3]]));
     let randoms = masked[6..6 + gates].iter().filter(|&&kind| kind == model::RANDOM).count();
     let mut shares = vec![2; n * secrets.len()];
-    let outcome = Archive.encode(order, secrets, &rng.bits((n - 1) * secrets.len()), &mut shares);
+    let outcome = Archive.encode(order, secrets, &rng.tape((n - 1) * secrets.len()), &mut shares);
     ensure(outcome.number == 0, "encoding refuses an example")?;
-    let outputs = run(masked, &shares, &rng.bits(randoms), n * count)?;
+    let outputs = run(masked, &shares, &rng.tape(randoms), n * count)?;
     let mut decoded = vec![2; count];
     let outcome = Archive.decode(order, &outputs, &mut decoded);
     ensure(outcome == Outcome::value(count as u32), "decoding refuses an example")?;

@@ -5,7 +5,7 @@ use crate::case::{Lent, MapCase};
 use crate::circuit::Circuit;
 use crate::generate::circuit;
 use crate::masks::{Masks, Outcome};
-use crate::model::{AND, MOST, NOT, XOR};
+use crate::model::{AND, MOST, NOT, XOR, bytes_for, cut};
 use crate::rng::Rng;
 
 fn ensure(holds: bool, what: &str) -> Result<(), String> {
@@ -28,20 +28,18 @@ pub fn check_mapping(
         return Err("the forecast refuses what the map accepts".into());
     };
     let [mapped, one, other] = buffers else { unreachable!("a map has three buffers") };
+    let (bits, wires) = (bits as usize, wires as usize);
     ensure(
-        case.tape.len() == bits as usize
-            && one.size() >= wires as usize
-            && other.size() >= wires as usize,
+        case.tape.len() == bytes_for(bits) && one.size() >= wires && other.size() >= wires,
         "the map accepts other sizes than forecast",
     )?;
-    let (mapped, one, other) =
-        (mapped.head(bits as usize), one.head(wires as usize), other.head(wires as usize));
+    let (mapped, one, other) = (mapped.head(case.tape.len()), one.head(wires), other.head(wires));
     let read_the_same =
         case.probes.iter().all(|&probe| one[probe as usize] == other[probe as usize]);
     ensure(read_the_same, "a probe reads different values in the two runs")?;
 
     let (mut tape, mut first, mut second) =
-        (vec![2; mapped.len()], vec![2; one.len()], vec![2; one.len()]);
+        (vec![255; mapped.len()], vec![2; one.len()], vec![2; one.len()]);
     let back = masks.map(
         &case.table,
         case.order,
@@ -60,28 +58,29 @@ pub fn check_mapping(
     let mut masked = vec![0; bytes as usize];
     let outcome = masks.mask(&case.table, case.order, &mut masked);
     ensure(outcome == Outcome::value(bytes), "masking refuses what the map accepts")?;
-    check_run(masks, case, &masked, &case.first, &case.tape, one)?;
-    check_run(masks, case, &masked, &case.second, mapped, other)
+    let encoded = 2 * usize::from(case.order) * case.first.len();
+    check_run(masks, case, &masked, &case.first, cut(&case.tape, bits, encoded), one)?;
+    check_run(masks, case, &masked, &case.second, cut(mapped, bits, encoded), other)
 }
 
-/// Checks one of the two runs against encoding, running and decoding.
+/// Checks one of the two runs against encoding, running and decoding, with the two parts of its
+/// tape.
 fn check_run(
     masks: &impl Masks,
     case: &MapCase,
     masked: &[u8],
     secrets: &[u8],
-    tape: &[u8],
+    (encoding, random): (Vec<u8>, Vec<u8>),
     run: &[u8],
 ) -> Result<(), String> {
     let n = 2 * usize::from(case.order) + 1;
     let outputs = usize::from(u16::from_le_bytes([case.table[4], case.table[5]]));
-    let (encoding_bits, random) = tape.split_at((n - 1) * secrets.len());
     let mut shares = vec![2; n * secrets.len()];
-    let outcome = masks.encode(case.order, secrets, encoding_bits, &mut shares);
+    let outcome = masks.encode(case.order, secrets, &encoding, &mut shares);
     ensure(outcome.number == 0, "encoding refuses what the map accepts")?;
 
     let (mut values, mut masked_outputs) = (vec![2; run.len()], vec![2; n * outputs]);
-    let outcome = masks.run(masked, &shares, random, &mut values, &mut masked_outputs);
+    let outcome = masks.run(masked, &shares, &random, &mut values, &mut masked_outputs);
     ensure(outcome.number == 0, "running refuses what the map accepts")?;
     ensure(values == run, "the map's run is not that of the masked table")?;
 

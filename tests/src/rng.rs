@@ -1,5 +1,7 @@
 //! A small generator of pseudo-random numbers (splitmix64), so that a seed repeats a case.
 
+use crate::model::pack;
+
 pub struct Rng {
     state: u64,
 }
@@ -52,5 +54,10 @@ impl Rng {
             bits.extend((0..more).map(|at| (word >> at & 1) as u8));
         }
         bits
+    }
+
+    /// A packed tape of so many bits.
+    pub fn tape(&mut self, bits: usize) -> Vec<u8> {
+        pack(&self.bits(bits))
     }
 }

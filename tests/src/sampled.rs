@@ -36,9 +36,9 @@ pub fn draw(rng: &mut Rng, circuit: &Circuit, order: u8) -> MapCase {
         order,
         first: rng.bits(inputs),
         second: rng.bits(inputs),
-        tape: rng.bits(sizes.tape as usize),
+        tape: rng.tape(sizes.tape as usize),
         probes,
-        mapped: sizes.tape as usize,
+        mapped: model::bytes_for(sizes.tape as usize),
         one: wires,
         other: wires,
     }

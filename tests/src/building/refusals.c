@@ -16,7 +16,7 @@ static int check(uint8_t inputs, uint8_t kind, uint8_t right, uint8_t output) {
 
 int main(void) {
     const uint8_t plain[] = {2, 0, 1, 0, 1, 0, 2, 0, 0, 1, 0, 2, 0}, random[] = {2, 0, 1, 0, 1, 0, 3, 0, 0, 0, 0, 2, 0};
-    const uint8_t bits[] = {0, 1, 0, 1, 0, 1, 0}, bad[] = {0, 2};
+    const uint8_t bits[] = {0, 1}, bad[] = {0, 2}, tape[] = {0x09, 0};
     const uint32_t probes[] = {6, 6}, no_wire[] = {30};
     static uint8_t shares[65538];
     uint8_t out[132], one[30], other[30];
@@ -31,10 +31,10 @@ int main(void) {
     expect(masks_forecast(random, 13, 1).number, MASKS_RANDOM_GATE);
     expect(masks_decode(1, shares, sizeof shares, out, sizeof out).number, MASKS_TOO_LARGE);
     expect(masks_mask(plain, 13, 1, out, 131).number, MASKS_SHORT_BUFFER);
-    expect(masks_encode(1, bits, 2, bits, 3, out, sizeof out).number, MASKS_BAD_COUNT);
-    expect(masks_encode(1, bad, 2, bits, 4, out, sizeof out).number, MASKS_BAD_BIT);
-    expect(masks_map(plain, 13, 1, bits, 2, bits, 2, bits, 7, probes, 2, out, 132, one, 30, other, 30).number, MASKS_TOO_MANY_PROBES);
-    expect(masks_map(plain, 13, 1, bits, 2, bits, 2, bits, 7, no_wire, 1, out, 132, one, 30, other, 30).number, MASKS_BAD_PROBE);
+    expect(masks_encode(1, bits, 2, tape, 2, out, sizeof out).number, MASKS_BAD_COUNT);
+    expect(masks_encode(1, bad, 2, tape, 1, out, sizeof out).number, MASKS_BAD_BIT);
+    expect(masks_map(plain, 13, 1, bits, 2, bits, 2, tape, 1, probes, 2, out, 132, one, 30, other, 30).number, MASKS_TOO_MANY_PROBES);
+    expect(masks_map(plain, 13, 1, bits, 2, bits, 2, tape, 1, no_wire, 1, out, 132, one, 30, other, 30).number, MASKS_BAD_PROBE);
     printf("%s %d\n", MASKS_VERSION, seen);
     return 0;
 }

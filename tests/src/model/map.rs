@@ -2,6 +2,7 @@
 
 use super::masking::{Gates, Plain, Shares, mask_gate, pair_index};
 use super::table::{AND, NOT, XOR};
+use super::tape::{bit, bytes_for, check_unused, flip};
 use super::{Fault, Refusal, check_bits};
 
 /// The two runs side by side: one with the tape, the other with the mapped tape.
@@ -37,7 +38,7 @@ impl Gates for Runs<'_> {
             AND => (one[left] & one[right], other[left] & other[right]),
             _ => {
                 self.next_bit += 1;
-                (self.tape[self.next_bit - 1], self.mapped[self.next_bit - 1])
+                (bit(self.tape, self.next_bit - 1), bit(self.mapped, self.next_bit - 1))
             }
         };
         self.next_wire += 1;
@@ -75,22 +76,23 @@ pub fn map(
     let plain = Plain::new(table, order)?;
     let (order, table, wires) = (plain.order, plain.table, plain.wires);
     let inputs = table.inputs;
-    Fault::Count
-        .when(first.len() != inputs || second.len() != inputs || tape.len() != plain.tape)?;
-    check_bits(&[first, second, tape])?;
+    let bytes = bytes_for(plain.tape);
+    Fault::Count.when(first.len() != inputs || second.len() != inputs || tape.len() != bytes)?;
+    check_bits(&[first, second])?;
+    check_unused(tape, plain.tape, 2 * inputs)?;
     Fault::TooManyProbes.when(probes.len() > order.t)?;
     if let Some(position) = probes.iter().position(|&wire| wire as usize >= wires) {
         return Err(Fault::Probe.at(position));
     }
-    Fault::Buffer.when(mapped.len() < tape.len() || one.len() < wires || other.len() < wires)?;
+    Fault::Buffer.when(mapped.len() < bytes || one.len() < wires || other.len() < wires)?;
 
     let k = plain.free_share(probes);
-    let (mapped, one, other) = (&mut mapped[..tape.len()], &mut one[..wires], &mut other[..wires]);
+    let (mapped, one, other) = (&mut mapped[..bytes], &mut one[..wires], &mut other[..wires]);
     mapped.copy_from_slice(tape);
     let input_bits = 2 * order.t;
     if k <= input_bits {
         for (i, (x, y)) in first.iter().zip(second).enumerate() {
-            mapped[input_bits * i + k - 1] ^= x ^ y;
+            flip(mapped, input_bits * i + k - 1, x ^ y);
         }
     }
     order.share(first, tape, one);
@@ -103,8 +105,8 @@ pub fn map(
         let (a, b) = (shares[gate.left], shares[gate.right]);
         if gate.kind == AND {
             for j in k + 1..=order.n {
-                let bit = runs.next_bit + pair_index(order.n, k, j);
-                runs.mapped[bit] ^= runs.cross_differs(a, b, k, j);
+                let differs = runs.cross_differs(a, b, k, j);
+                flip(runs.mapped, runs.next_bit + pair_index(order.n, k, j), differs);
             }
         }
         shares.push(mask_gate(&mut runs, order.n, gate.kind, a, b));

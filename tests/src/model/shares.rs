@@ -1,5 +1,6 @@
 //! Orders, encoding and decoding.
 
+use super::tape::{bit, bytes_for, check_unused};
 use super::{Fault, MOST, Refusal, check_bits};
 
 /// An order from 1 to 15.
@@ -26,10 +27,16 @@ impl Order {
 
     /// Writes the shares of each secret: its 2t tape bits, then their XOR with the secret.
     pub fn share(self, secrets: &[u8], tape: &[u8], out: &mut [u8]) {
-        let (tape, out) = (tape.chunks_exact(self.n - 1), out.chunks_exact_mut(self.n));
-        for ((&secret, bits), shares) in secrets.iter().zip(tape).zip(out) {
-            shares[..bits.len()].copy_from_slice(bits);
-            shares[bits.len()] = bits.iter().fold(secret, |sum, bit| sum ^ bit);
+        let mut at = 0;
+        for (&secret, shares) in secrets.iter().zip(out.chunks_exact_mut(self.n)) {
+            let (last, shares) = shares.split_last_mut().expect("there are n shares");
+            let mut sum = secret;
+            for share in shares {
+                *share = bit(tape, at);
+                sum ^= *share;
+                at += 1;
+            }
+            *last = sum;
         }
     }
 }
@@ -37,13 +44,14 @@ impl Order {
 /// Encodes secrets with 2t tape bits each and answers the number of share bits.
 pub fn encode(order: u8, secrets: &[u8], tape: &[u8], out: &mut [u8]) -> Result<u32, Refusal> {
     let order = Order::new(order)?;
-    let bits = order.n * secrets.len();
-    Fault::TooLarge.when(bits > MOST)?;
-    Fault::Count.when(tape.len() != 2 * order.t * secrets.len())?;
-    check_bits(&[secrets, tape])?;
-    Fault::Buffer.when(out.len() < bits)?;
+    let (shares, bits) = (order.n * secrets.len(), 2 * order.t * secrets.len());
+    Fault::TooLarge.when(shares > MOST)?;
+    Fault::Count.when(tape.len() != bytes_for(bits))?;
+    check_bits(&[secrets])?;
+    check_unused(tape, bits, secrets.len())?;
+    Fault::Buffer.when(out.len() < shares)?;
     order.share(secrets, tape, out);
-    Ok(bits as u32)
+    Ok(shares as u32)
 }
 
 /// Decodes shares, n for each bit, and answers the number of bits.

@@ -1,5 +1,6 @@
 //! Gate tables: checking and running.
 
+use super::tape::{bit, bytes_for, check_unused};
 use super::{Fault, MOST, Refusal, check_bits};
 
 pub const NOT: u8 = 0;
@@ -98,20 +99,21 @@ pub fn run(
     outputs: &mut [u8],
 ) -> Result<u32, Refusal> {
     let table = Table::new(table)?;
-    let wires = table.wires();
-    Fault::Count.when(inputs.len() != table.inputs || random.len() != table.count(RANDOM))?;
-    check_bits(&[inputs, random])?;
+    let (wires, bits) = (table.wires(), table.count(RANDOM));
+    Fault::Count.when(inputs.len() != table.inputs || random.len() != bytes_for(bits))?;
+    check_bits(&[inputs])?;
+    check_unused(random, bits, inputs.len())?;
     Fault::Buffer.when(values.len() < wires || outputs.len() < table.outputs().len())?;
 
     let values = &mut values[..wires];
     values[..table.inputs].copy_from_slice(inputs);
-    let mut random = random.iter();
+    let mut random = (0..bits).map(|at| bit(random, at));
     for (wire, gate) in (table.inputs..).zip(table.gates()) {
         values[wire] = match gate.kind {
             NOT => values[gate.left] ^ 1,
             XOR => values[gate.left] ^ values[gate.right],
             AND => values[gate.left] & values[gate.right],
-            _ => *random.next().expect("one bit for each random gate"),
+            _ => random.next().expect("one bit for each random gate"),
         };
     }
     for (output, wire) in outputs.iter_mut().zip(table.outputs()) {

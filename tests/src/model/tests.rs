@@ -12,6 +12,7 @@ use crate::properties::check_mapping;
 use crate::rng::Rng;
 use crate::sampled;
 use crate::samples::{bits, samples};
+use crate::tapes;
 
 #[test]
 fn the_papers_examples_hold() {
@@ -118,6 +119,27 @@ fn sampled_maps_hold() {
             let outcome = case.put_to(&Model, &mut buffers);
             let Case::Map(map) = &case else { unreachable!("a map was drawn") };
             assert_eq!(check_mapping(&Model, map, outcome.values[0], &buffers), Ok(()), "{case}");
+        }
+    }
+}
+
+#[test]
+fn a_tape_is_packed_lowest_bit_first() {
+    let tape = [1, 0, 0, 1, 1, 0, 1];
+    assert_eq!(pack(&tape), [0x59]);
+    assert_eq!(cut(&[0x59], 7, 4), (vec![0x09], vec![0x05]));
+    assert_eq!(pack(&[0, 0, 0, 1, 0, 0, 1]), [0x48]);
+    assert_eq!((pack(&[]), bytes_for(0)), (vec![], 0));
+    assert_eq!((pack(&[1; 8]), bytes_for(8)), (vec![0xff], 1));
+    assert_eq!((pack(&[1; 9]), bytes_for(9)), (vec![0xff, 0x01], 2));
+}
+
+#[test]
+fn tapes_of_chosen_lengths_are_taken_and_refused() {
+    for call in tapes::CALLS {
+        let seen = tapes::check(call, 1, |case| Ok(case.put_to(&Model, &mut case.buffers())));
+        if let Err(text) = seen {
+            panic!("{text}");
         }
     }
 }
