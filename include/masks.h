@@ -1,7 +1,7 @@
 /* Fantzori: masked gate tables. Link with libmasks_c.a (x86-64 Linux). docs/FORMAT.md describes tables, tapes, marks and the map.
  *
- * A slice is passed as a pointer and a length in elements. Bits are one byte each, 0 or 1. A length may be 0; the pointer is then
- * not read. Buffers that a call writes must overlap neither each other nor any buffer that it reads.
+ * A slice is passed as a pointer and a length in elements. Bits are one byte each, 0 or 1, but those of a tape are packed. A length
+ * may be 0; the pointer is then not read. Buffers that a call writes must overlap neither each other nor any buffer that it reads.
  *
  * Every call answers a number: 0 is success, any other a refusal (enum masks_refusal below), with a place counted from 0. A
  * refused call has written nothing and its values are 0. The checks are made in the order 1 (six bytes), 2, 1 (length), the
@@ -13,8 +13,12 @@
  *                        their XOR with the secret
  *    the bits after them for running: one for each random gate of the masked table, in wire order
  *
- * masks_encode takes the first part, masks_run the second, masks_map the whole; masks_forecast gives its length. Every run needs a
- * fresh tape, of bits that are 0 or 1 with equal chance, independent of each other and of the secrets.
+ * masks_encode takes the first part, masks_run the second, masks_map the whole; masks_forecast gives the number of its bits. Every
+ * run needs a fresh tape, of bits that are 0 or 1 with equal chance, independent of each other and of the secrets.
+ *
+ * Each of these is packed for itself: eight bits to a byte, lowest bit first, the number of bytes rounded up, the unused high bits
+ * of the last byte 0. The tape 1 0 0 1 1 0 1 is the byte 0x59; where its first four bits are for encoding, masks_encode takes 0x09
+ * and masks_run 0x05.
  */
 #ifndef MASKS_H
 #define MASKS_H
@@ -23,7 +27,7 @@
 #include <stdint.h>
 
 /* Before version 1.0.0 a call may still change. */
-#define MASKS_VERSION "0.1.0"
+#define MASKS_VERSION "0.2.0"
 
 #ifdef __cplusplus
 extern "C" {
@@ -41,9 +45,10 @@ enum masks_refusal {
     MASKS_RANDOM_GATE = 7,      /* a random gate in a table to be masked. Place: the gate */
     MASKS_TOO_LARGE = 8,        /* more than 65,535 masked wires, masked outputs, or share bits to encode or decode */
     MASKS_SHORT_BUFFER = 9,     /* a lent buffer is shorter than what the call writes into it */
-    MASKS_BAD_COUNT = 10,       /* a wrong count of secrets, inputs, tape bits, random bits or shares */
-    MASKS_BAD_BIT = 11,         /* a bit is a byte above 1. Place: its position in the call's bits joined, namely first secret (or
-                                   inputs, or shares), second secret, tape or random bits */
+    MASKS_BAD_COUNT = 10,       /* a wrong count of secrets, inputs or shares, or of a tape's bytes */
+    MASKS_BAD_BIT = 11,         /* a secret, input or share is a byte above 1. Place: its position, the second secret counted after
+                                   the first. Or, where none is, an unused bit of the tape is set. Place: the tape's last byte,
+                                   counted after the secrets or inputs */
     MASKS_TOO_MANY_PROBES = 12, /* more probes than the order */
     MASKS_BAD_PROBE = 13        /* a probe or wire that the masked table does not have. Place: the probe's position, 0 in the marks
                                    call */
@@ -60,7 +65,7 @@ struct masks_sizes {
     uint32_t place;
     uint32_t shares; /* n = 2t + 1 */
     uint32_t wires;  /* of the masked table */
-    uint32_t tape;   /* bits: the encoder's and the random gates' */
+    uint32_t tape;   /* bits: the encoder's and the random gates'; packed they are (tape + 7) / 8 bytes */
     uint32_t bytes;  /* of the masked table */
 };
 
@@ -81,16 +86,16 @@ struct masks_sizes masks_forecast(const uint8_t *table, size_t table_len, uint8_
 /* Masks a plain table at an order. Value: the bytes written to out. Refusals 1 to 9. Stack: under 400 KiB. */
 struct masks_answer masks_mask(const uint8_t *table, size_t table_len, uint8_t order, uint8_t *out, size_t out_len);
 
-/* Encodes secret bits into 2t + 1 share bits each, with 2t tape bits each. Value: the bits written to out. Refusals 6, 8, 10,
- * 11, 9. Stack: under 1 KiB. */
+/* Encodes secret bits into 2t + 1 share bits each, with 2t tape bits each, packed. Value: the bits written to out. Refusals 6, 8,
+ * 10, 11, 9. Stack: under 1 KiB. */
 struct masks_answer masks_encode(uint8_t order, const uint8_t *secrets, size_t secrets_len, const uint8_t *tape,
                                  size_t tape_len, uint8_t *out, size_t out_len);
 
 /* Decodes share bits, 2t + 1 to a bit. Value: the bits written to out. Refusals 6, 8, 10, 11, 9. Stack: under 1 KiB. */
 struct masks_answer masks_decode(uint8_t order, const uint8_t *shares, size_t shares_len, uint8_t *out, size_t out_len);
 
-/* Runs any gate table on its inputs and one bit for each random gate. Writes a value for each wire and each output. Value: the
- * wires. Refusals 1 to 5, 10, 11, 9. Stack: under 1 KiB. */
+/* Runs any gate table on its inputs and one bit for each random gate, packed. Writes a value for each wire and each output. Value:
+ * the wires. Refusals 1 to 5, 10, 11, 9. Stack: under 1 KiB. */
 struct masks_answer masks_run(const uint8_t *table, size_t table_len, const uint8_t *inputs, size_t inputs_len,
                               const uint8_t *random, size_t random_len, uint8_t *values, size_t values_len,
                               uint8_t *outputs, size_t outputs_len);
@@ -98,9 +103,9 @@ struct masks_answer masks_run(const uint8_t *table, size_t table_len, const uint
 /* The share numbers that a wire of the masked table carries. Refusals 1 to 8, 13. Stack: under 1 KiB. */
 struct masks_marks masks_marks_of(const uint8_t *table, size_t table_len, uint8_t order, uint32_t wire);
 
-/* Maps a tape from the first secret to the second, so that each probe, a wire of the masked table, keeps its value. Writes the
- * mapped tape to mapped, the masked table's wire values with the first secret and the tape to one, and those with the second
- * secret and the mapped tape to other. Value: the free share, the smallest share number that no probe carries.
+/* Maps a packed tape from the first secret to the second, so that each probe, a wire of the masked table, keeps its value. Writes
+ * the mapped tape, packed too, to mapped, the masked table's wire values with the first secret and the tape to one, and those with
+ * the second secret and the mapped tape to other. Value: the free share, the smallest share number that no probe carries.
  * Refusals 1 to 8, 10 to 13, 9. Stack: under 400 KiB. */
 struct masks_answer masks_map(const uint8_t *table, size_t table_len, uint8_t order, const uint8_t *first, size_t first_len,
                               const uint8_t *second, size_t second_len, const uint8_t *tape, size_t tape_len,
