@@ -1,7 +1,7 @@
 -- `flipping::flip_shares` meets its contract. The loop's invariant: the shares of the inputs from i on are left to flip.
 -- Assumes nothing.
 use mathlib.Core.Path.{refl}
-use Prim.Native.Nat.{_-_}
+use Prim.Native.Nat.{_+_, _-_, _*_, _<_}
 use native.Mathlib.Omega.{arith}
 use lib.ListN.{length}
 use Rattle.flipping.proofs.Flipping.{FlippingEach, each-start, each-fits, each-bit, each-turn, each-end}
@@ -26,11 +26,18 @@ secret-bit-requires c κs = omega arith
 secret-bit-requires-2 : tie.Need-secret-bit-requires-2 Inv-loop μ-loop
 secret-bit-requires-2 c κs = omega (arith, c .before .loop-test .taken, c .before .before .before .before .before .before .pre .1 .second)
 
+-- inside the loop share k of input i is there
+fits :
+    (c : tie.In-loop Inv-loop μ-loop)
+    → let a = c .before .before .before .before .before .args in
+    let l = c .before .loop in
+    (l .at < a .shares * length (a .first .now)) × (l .at < length (l .run)) × (l .at + a .shares < 4294967296)
+fits c =
+    let s = c .before .before .before .before .before in
+    each-fits (s .pre .1) (c .before .loop .inv) (s .pre .0) (c .loop-test .taken)
+
 slice-read-run : tie.Need-slice-read-run Inv-loop μ-loop
-slice-read-run c =
-    let t = c .before .before .before in
-    let s = t .before .before .before .before .before in
-    each-fits (s .pre .1) (t .before .loop .inv) (s .pre .0) (t .loop-test .taken) .1
+slice-read-run c = fits (c .before .before .before) .1
 
 add-run : tie.Need-add-run Inv-loop μ-loop
 add-run c =
@@ -46,16 +53,10 @@ add-run-2 c =
     omega (arith, each-bit (s .pre .1) (t .before .loop .inv) (s .pre .0) (t .loop-test .taken))
 
 slice-write-run : tie.Need-slice-write-run Inv-loop μ-loop
-slice-write-run c =
-    let t = c .before .before .before in
-    let s = t .before .before .before .before .before in
-    each-fits (s .pre .1) (t .before .loop .inv) (s .pre .0) (t .loop-test .taken) .1
+slice-write-run c = fits (c .before .before .before) .1
 
 add-at : tie.Need-add-at Inv-loop μ-loop
-add-at c =
-    let t = c .before .before .before in
-    let s = t .before .before .before .before .before in
-    omega (arith, each-fits (s .pre .1) (t .before .loop .inv) (s .pre .0) (t .loop-test .taken) .2)
+add-at c = omega (arith, fits (c .before .before .before) .2)
 
 add-i : tie.Need-add-i Inv-loop μ-loop
 add-i c = omega arith
