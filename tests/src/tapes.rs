@@ -1,5 +1,5 @@
-//! Tapes of chosen lengths: each is accepted, is refused with each unused bit set alone, and in
-//! wrong numbers of bytes.
+//! Tapes of lengths around every multiple of 8: each is accepted, and refused with an unused bit set.
+//! Of chosen lengths, each unused bit is set alone, and wrong numbers of bytes are tried.
 
 use std::collections::BTreeSet;
 use std::fmt;
@@ -47,20 +47,29 @@ pub fn check(
     seen.missing(call).map_or(Ok(seen), Err)
 }
 
-/// 0 to 17, two to each side of multiples of 8, and the most: of these, all that the call can have.
-/// Encoding takes 2t bits a secret; a map at order 1 two for each input, at least one, and three
-/// for each AND.
+/// The most tape bits that a call can have.
+fn most(call: Call) -> usize {
+    if call == Call::Run { MOST - 1 } else { MOST / 3 * 2 }
+}
+
+/// 0 to 17, and around every multiple of 8: of these, all that the call can have. Encoding takes 2t
+/// bits a secret, so it goes two to each side; a map at order 1 takes two for each input, at least
+/// one, and three for each AND.
 fn lengths(call: Call) -> BTreeSet<usize> {
-    let most = if call == Call::Run { MOST - 1 } else { MOST / 3 * 2 };
-    let multiples = (1..=100).chain([128, 256, 512, 1_024, 2_048, 4_096]).map(|k| 8 * k);
-    let mut all: BTreeSet<usize> = (0..=17).chain([most]).collect();
-    all.extend(multiples.flat_map(|bits| bits - 2..=bits + 2));
-    all.retain(|bits| match call {
-        Call::Encode => bits.is_multiple_of(2),
-        Call::Run => true,
-        _ => ![0, 1, 3].contains(bits),
+    let side = if call == Call::Encode { 2 } else { 1 };
+    let mut all: BTreeSet<usize> = (0..=17).chain([most(call)]).collect();
+    all.extend((8..=most(call)).step_by(8).flat_map(|bits| bits - side..=bits + side));
+    all.retain(|&bits| match call {
+        Call::Encode => bits.is_multiple_of(2) && bits <= most(call),
+        Call::Run => bits <= most(call),
+        _ => ![0, 1, 3].contains(&bits) && bits <= most(call) && bits % 2 <= most_ands(bits),
     });
     all
+}
+
+/// Whether all trials are made of a length: of short ones, around powers of 2, and of the most.
+fn chosen(call: Call, bits: usize) -> bool {
+    bits < 802 || bits == most(call) || (bits - 2..=bits + 2).any(usize::is_power_of_two)
 }
 
 /// The unused bits in the last byte of a tape of so many bits.
@@ -75,16 +84,29 @@ fn trials(rng: &mut Rng, call: Call, bits: usize) -> Vec<Trial> {
         Call::Run => run(rng, bits),
         _ => Case::Map(map(rng, bits)),
     };
-    let mut all = vec![Trial::new(&sound, bits), Trial::new(&sound, bits)];
+    if chosen(call, bits) {
+        return all_trials(rng, &sound, bits);
+    }
+    let mut few = vec![Trial::new(&sound, bits)];
+    if !unused(bits).is_empty() {
+        let at = rng.within(bits % 8, 7);
+        let [alone, _] = set_unused(rng, &sound, bits, at);
+        few.push(alone);
+    }
+    few
+}
+
+fn all_trials(rng: &mut Rng, sound: &Case, bits: usize) -> Vec<Trial> {
+    let mut all = vec![Trial::new(sound, bits), Trial::new(sound, bits)];
     *parts(&mut all[1].case).1 = pack(&vec![1; bits]);
     let bytes = bytes_for(bits);
     for wrong in [bytes.saturating_sub(1), bytes + 1, bits, 0] {
-        let mut trial = Trial::new(&sound, bits);
+        let mut trial = Trial::new(sound, bits);
         parts(&mut trial.case).1.resize(wrong, 0);
         trial.refused = (wrong != bytes).then_some(Outcome::refused(10, 0));
         all.push(trial);
     }
-    if let Case::Map(map) = &sound {
+    if let Case::Map(map) = sound {
         for mapped in [bytes - 1, bytes + 1, bytes + 9] {
             let mut trial = Trial::new(&Case::Map(MapCase { mapped, ..map.clone() }), bits);
             trial.refused = (mapped < bytes).then_some(Outcome::refused(9, 0));
@@ -92,7 +114,7 @@ fn trials(rng: &mut Rng, call: Call, bits: usize) -> Vec<Trial> {
         }
     }
     for at in unused(bits) {
-        all.extend(set_unused(rng, &sound, bits, at));
+        all.extend(set_unused(rng, sound, bits, at));
     }
     all
 }
@@ -143,11 +165,15 @@ fn run(rng: &mut Rng, bits: usize) -> Case {
     Case::Run { table, inputs: rng.bits(inputs), random: rng.tape(bits), values, outputs: 3 }
 }
 
-/// At order 1, where an AND in place of one and a half inputs costs 39 half wires more.
+/// The most ANDs with so many tape bits at order 1, where an AND in place of one and a half inputs
+/// costs 39 half wires more; an odd number of bits takes at least one.
+fn most_ands(bits: usize) -> usize {
+    ((bits - 2) / 3).min((2 * MOST - 3 * bits) / 39)
+}
+
 fn map(rng: &mut Rng, bits: usize) -> MapCase {
-    let most = 100.min((bits - 2) / 3).min((2 * MOST - 3 * bits) / 39);
     let odd = bits % 2;
-    let ands = odd + 2 * rng.below((most - odd) / 2 + 1);
+    let ands = odd + 2 * rng.below((most_ands(bits).min(100) - odd) / 2 + 1);
     let inputs = (bits - 3 * ands) / 2;
     let wires = 3 * inputs + 24 * ands;
     MapCase {
