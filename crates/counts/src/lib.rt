@@ -1,10 +1,18 @@
-// How many gates of a table are of each kind, in one pass over the kinds.
+// How many gates of a table are of each kind: three kinds in one pass, and the other three in another where there are any.
 ghost use mathlib.Core.Path.{_≡_};
 ghost use Prim.Native.Nat.{_+_, _≤_, _<_};
 ghost use lib.ListN.{take};
 ghost use Rattle.tables.specs.Tables.{tableOf};
 ghost use Rattle.tables.specs.Counted.{countsOf};
 ghost use Rattle.tables.specs.Inside.{HasGates};
+ghost use Rattle.counts.specs.Three.{threeOf};
+
+// How many gates are of a kind, and of each of the two kinds after it.
+pub struct ThreeKinds {
+    pub first: usize,
+    pub second: usize,
+    pub third: usize,
+}
 
 // So many gates are counted at a time: each of their counts fits in a byte, and many bytes are counted at once.
 const BLOCK: usize = 224;
@@ -20,57 +28,81 @@ fn block_end(from: usize, gates: usize) -> usize
     gates
 }
 
-// Adds the gates of a block, by their kinds, to the counts of the gates before it.
+// Adds the gates of a block to the counts of those before it.
 fn count_block(
     table: &[u8],
     gates: usize,
+    kind: u8,
     from: usize,
     to: usize,
-    counted: tables::Counts,
-) -> tables::Counts
+    counted: ThreeKinds,
+) -> ThreeKinds
     requires { ⌜
-        HasGates (now table) gates × (from < to) × (to ≤ gates) × (to ≤ from + 255)
-        × (counted ≡ countsOf (take from (tableOf (now table) .gates)))
+        HasGates (now table) gates × (kind ≤ 3) × (from < to) × (to ≤ gates) × (to ≤ from + 255)
+        × (counted ≡ threeOf kind (take from (tableOf (now table) .gates)))
         ⌝ }
-    ensures { λ r. ⌜ r ≡ countsOf (take to (tableOf (now (table .entry)) .gates)) ⌝ }
+    ensures { λ r. ⌜ r ≡ threeOf kind (take to (tableOf (now (table .entry)) .gates)) ⌝ }
 {
-    let mut nots: u8 = 0;
-    let mut xors: u8 = 0;
-    let mut ands: u8 = 0;
-    let mut randoms: u8 = 0;
+    let mut first: u8 = 0;
+    let mut second: u8 = 0;
+    let mut third: u8 = 0;
     let mut g = from;
     while g < to {
         let x = tables::gate_at(table, gates, g);
-        nots += tables::is_kind(x.kind, 0);
-        xors += tables::is_kind(x.kind, 1);
-        ands += tables::is_kind(x.kind, 2);
-        randoms += tables::is_kind(x.kind, 3);
+        first += tables::is_kind(x.kind, kind);
+        second += tables::is_kind(x.kind, kind + 1);
+        third += tables::is_kind(x.kind, kind + 2);
         g += 1;
     }
-    tables::Counts {
-        nots: counted.nots + nots as usize,
-        xors: counted.xors + xors as usize,
-        ands: counted.ands + ands as usize,
-        randoms: counted.randoms + randoms as usize,
+    ThreeKinds {
+        first: counted.first + first as usize,
+        second: counted.second + second as usize,
+        third: counted.third + third as usize,
     }
 }
 
-// How many gates of a table are of each kind.
-pub fn count_kinds(table: &[u8], gates: usize) -> tables::Counts
-    requires { ⌜ HasGates (now table) gates ⌝ }
-    ensures { λ r. ⌜ r ≡ countsOf (tableOf (now (table .entry)) .gates) ⌝ }
+// How many gates of a table are of a kind, and of each of the two kinds after it.
+pub fn count_three(table: &[u8], gates: usize, kind: u8) -> ThreeKinds
+    requires { ⌜ HasGates (now table) gates × (kind ≤ 3) ⌝ }
+    ensures { λ r. ⌜ r ≡ threeOf kind (tableOf (now (table .entry)) .gates) ⌝ }
 {
-    let mut counts = tables::Counts {
-        nots: 0,
-        xors: 0,
-        ands: 0,
-        randoms: 0,
+    let mut counts = ThreeKinds {
+        first: 0,
+        second: 0,
+        third: 0,
     };
     let mut g = 0;
     while g < gates {
         let next = block_end(g, gates);
-        counts = count_block(table, gates, g, next, counts);
+        counts = count_block(table, gates, kind, g, next, counts);
         g = next;
     }
     counts
+}
+
+// How many gates of a table are of each kind. The last three kinds are looked for only where the first three are not all.
+pub fn count_kinds(table: &[u8], gates: usize) -> tables::Counts
+    requires { ⌜ HasGates (now table) gates ⌝ }
+    ensures { λ r. ⌜ r ≡ countsOf (tableOf (now (table .entry)) .gates) ⌝ }
+{
+    let low = count_three(table, gates, 0);
+    if low.first + low.second + low.third == gates {
+        return tables::Counts {
+            nots: low.first,
+            xors: low.second,
+            ands: low.third,
+            randoms: 0,
+            constants: 0,
+            ors: 0,
+        };
+    }
+    let high = count_three(table, gates, 3);
+    tables::Counts {
+        nots: low.first,
+        xors: low.second,
+        ands: low.third,
+        randoms: high.first,
+        constants: high.second,
+        ors: high.third,
+    }
 }

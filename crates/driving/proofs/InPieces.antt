@@ -1,19 +1,22 @@
 -- Gates that run on in pieces of one size, as the loops run them; no piece draws a random bit.
 -- Assumes nothing.
 use mathlib.Core.Path.{_≡_, refl, sym, ap, _∙_, subst}
+use mathlib.Core.Bool.{Bool, true, false, cond}
 use mathlib.Core.List.{List, [], _∷_, _++_}
-use Prim.Native.Nat.{ℕ, zero, suc, _+_, _-_, _*_, _≤_, _<_}
+use Prim.Native.Nat.{ℕ, zero, suc, _+_, _-_, _*_, _%_, _≤_, _<_}
 use native.Mathlib.Nat.{mul-le-mul-left}
 use native.Mathlib.Numerals.{add-one}
 use native.Mathlib.Omega.{arith}
-use lib.ListN.{length}
-use Rattle.tables.specs.Tables.{XOR, Gate, gate, total}
+use lib.Dec.{eqb}
+use lib.ListN.{length, set}
+use borrow.Author.Tests.{ne-eqb}
+use Rattle.tables.specs.Tables.{XOR, CONSTANT, Gate, gate, total}
 use Rattle.tables.specs.Runs.{drawn, randoms}
 use Rattle.tables.specs.Inside.{ranOn, RunsTo}
 use Rattle.tables.proofs.Lists.{bits-nil}
 use Rattle.tables.proofs.Run.{total-append}
-use Rattle.tables.proofs.Ran.{Ran, ran-start, ran-more, runs-less}
-use Rattle.pieces.specs.Layout.{joined}
+use Rattle.tables.proofs.Ran.{Ran, ran-one, ran-start, ran-more, runs-less}
+use Rattle.pieces.specs.Layout.{joined, constantGates}
 use Rattle.pieces.proofs.Bytes.{joined-snoc}
 
 -- of m pieces c have run on, and the next one begins at wire v
@@ -63,6 +66,28 @@ module _ {size w m : ℕ} {f : ℕ → List Gate} {b₀ : List ℕ} {v c : ℕ} 
 pub xor-none : (l r : ℕ) → randoms (gate XOR l r ∷ []) ≡ 0
 unfolding total
 xor-none l r = refl
+
+-- a share of a constant: it draws nothing, and its value is a bit
+pub constant-none : (l s : ℕ) → randoms (constantGates l s) ≡ 0
+unfolding total
+constant-none l s = refl
+
+pub constant-ran :
+    (l s w : ℕ) (b : List ℕ) {bit : ℕ} → l ≤ 1 → w < length b → bit ≡ cond (eqb s 0) l 0
+    → set b w bit ≡ ranOn (constantGates l s) [] w b
+constant-ran l s w b {bit} h k e =
+    let value = cond (eqb s 0) l 0 in
+    let small : value ≤ 1 = at-most (eqb s 0) in
+    let same : bit ≡ value % 2 = omega (arith, e, small) in
+    ap (set b w) same ∙ sym (ran-one CONSTANT value 0 [] w b k small)
+  where
+    at-most : (t : Bool) → cond t l 0 ≤ 1
+    at-most true = h
+    at-most false = omega arith
+
+-- the shares after the first are 0
+pub constant-next : (l s : ℕ) → 0 ≡ cond (eqb (s + 1) 0) l 0
+constant-next l s = rw (ne-eqb (s + 1) 0 (λ e. omega (arith, e)))
 
 -- gates that draw nothing, piece by piece
 pub joined-none-drawn : (c s : ℕ) (f : ℕ → List Gate) → ((i : ℕ) → randoms (f i) ≡ 0) → randoms (joined c s f) ≡ 0

@@ -7,7 +7,7 @@ ghost use Rattle.tables.specs.Inside.{ranOn, RunsTo};
 ghost use Rattle.masks.specs.Shares.{tri, pairAt};
 ghost use Rattle.masks.specs.Gadgets.{first, isw};
 ghost use Rattle.masks.specs.Wires.{pairWire};
-ghost use Rattle.pieces.specs.Layout.{shareWires, joined, highGates, lowGates, rowGates, rowsGates, xorGates};
+ghost use Rattle.pieces.specs.Layout.{shareWires, joined, highGates, lowGates, rowGates, rowsGates, xorGates, constantGates};
 ghost use Rattle.driving.specs.Driving.{SharesBefore};
 
 // A random gate on wire w, with its bit.
@@ -24,6 +24,15 @@ pub fn run_not(run: &mut [u8], w: usize, left: usize)
     ensures { λ _. ⌜ now (run .exit) ≡ ranOn (gate NOT left 0 ∷ []) [] w (now (run .entry)) ⌝ }
 {
     run[w] = 1 - run[left];
+}
+
+// Two NOTs, on wires w and w + 1.
+pub fn run_nots(run: &mut [u8], w: usize, left: usize, right: usize)
+    requires { ⌜ RunsTo w 2 (now run) × (left < w) × (right < w) ⌝ }
+    ensures { λ _. ⌜ now (run .exit) ≡ ranOn (gate NOT left 0 ∷ gate NOT right 0 ∷ []) [] w (now (run .entry)) ⌝ }
+{
+    run_not(run, w, left);
+    run_not(run, w + 1, right);
 }
 
 // An XOR on wire w.
@@ -52,6 +61,20 @@ pub fn run_xors(run: &mut [u8], w: usize, n: usize, a: pieces::Places, b: pieces
         let left = pieces::share_wire(a, s);
         let right = pieces::share_wire(b, s);
         run_xor(run, w + s, left, right);
+        s += 1;
+    }
+}
+
+// A constant's shares, from wire w on: its value, then zeros.
+pub fn run_constants(run: &mut [u8], w: usize, n: usize, value: u8)
+    requires { ⌜ RunsTo w n (now run) × (value ≤ 1) ⌝ }
+    ensures { λ _. ⌜ now (run .exit) ≡ ranOn (joined n 0 (constantGates value)) [] w (now (run .entry)) ⌝ }
+{
+    let mut bit = value;
+    let mut s = 0;
+    while s < n {
+        run[w + s] = bit;
+        bit = 0;
         s += 1;
     }
 }

@@ -4,19 +4,20 @@ use mathlib.Core.Path.{_≡_, refl, sym, ap, ap₂, _∙_}
 use mathlib.Core.List.{List, [], _∷_, _++_, map, map-append}
 use Prim.Native.Nat.{ℕ, zero, suc, _+_, _-_, _*_, _≤_, _<_}
 use native.Mathlib.Omega.{arith}
-use lib.ListN.{length, getD, drop, set, replicate, length-map, length-replicate, replicate-append-replicate}
+use lib.ListN.{length, getD, drop, set, replicate, length-set, length-append, length-map, length-replicate, replicate-append-replicate}
 use lib.Seq.{drop-drop}
-use Rattle.tables.specs.Tables.{Kind, NOT, XOR, AND, RANDOM, UNKNOWN, kindOf, Gate, gate, kindBytes}
+use Rattle.tables.specs.Tables.{Kind, NOT, XOR, AND, RANDOM, CONSTANT, OR, UNKNOWN, kindOf, kindByte, Gate, gate, kindBytes}
 use Rattle.tables.specs.Inside.{putAt}
 use Rattle.tables.proofs.Format.{kinds-long}
-use Rattle.tables.proofs.Put.{put-length, put-set, put-past}
+use Rattle.tables.proofs.Put.{put-length, put-set, put-past, put-then}
 use Rattle.masks.specs.Shares.{inTurn, pairs, tri, pairAt}
 use Rattle.masks.specs.Gadgets.{isw}
-use Rattle.masks.specs.Wires.{Wire, driverOf, share, pairWire, newWires, newShares, cost, masked}
-use Rattle.pieces.specs.Layout.{joined, pairGates, sumGates, highGates, rowGates, rowsGates}
-use Rattle.pieces.proofs.Bytes.{joined-same, joined-through}
-use Rattle.pieces.proofs.Pieces.{pairs-in-turn, xor-gates, and-gates}
-use Rattle.kinds.specs.Kinds.{wireKinds, rowKinds, newKinds, gateKinds, XorsFrom}
+use Rattle.masks.specs.Wires.{andPart, Wire, driverOf, share, firstOn, pairWire, andShares, andCost, newWires, newShares, cost}
+use Rattle.masks.specs.Wires.{masked}
+use Rattle.pieces.specs.Layout.{joined, pairGates, sumGates, highGates, rowGates, rowsGates, andGates}
+use Rattle.pieces.proofs.Bytes.{joined-same, joined-long, joined-through}
+use Rattle.pieces.proofs.Pieces.{pairs-in-turn, xor-gates, constant-gates, and-gates, or-gates}
+use Rattle.kinds.specs.Kinds.{wireKinds, pairKinds, rowKinds, andKinds, newKinds, gateKinds, XorsFrom}
 
 kinds-append : (gs hs : List Gate) → kindBytes (gs ++ hs) ≡ kindBytes gs ++ kindBytes hs
 unfolding kindBytes
@@ -88,9 +89,11 @@ kinds-joined :
 unfolding kindBytes
 kinds-joined c s f = joined-through kindBytes refl kinds-append c s f
 
-xors-kinds : (m : ℕ) (l r : ℕ → ℕ) → kindBytes (joined m 0 (λ c. gate XOR (l c) (r c) ∷ [])) ≡ ones m
+-- gates of one kind
+same-kinds :
+    (k : Kind) (m : ℕ) (l r : ℕ → ℕ) → kindBytes (joined m 0 (λ c. gate k (l c) (r c) ∷ [])) ≡ replicate m (kindByte k)
 unfolding kindBytes
-xors-kinds m l r = kinds-joined m 0 (λ c. gate XOR (l c) (r c) ∷ []) ∙ sym (replicate-joined m 1)
+same-kinds k m l r = kinds-joined m 0 (λ c. gate k (l c) (r c) ∷ []) ∙ sym (replicate-joined m (kindByte k))
 
 row-kinds :
     (n w v : ℕ) (a b : List ℕ) (i : ℕ) → i < n → kindBytes (rowGates isw n w v a b i) ≡ rowKinds n
@@ -99,42 +102,88 @@ row-kinds n w v a b i h =
     let low : ℕ → ℕ = λ j. pairWire w (isw .low) (pairAt n i (suc i + j)) in
     ap {A = List ℕ} {B = List ℕ} (λ y. 2 ∷ y)
     (kinds-append (highGates isw n w v i) (joined (n - suc i) 0 (sumGates (v + i) low))
-    ∙ ap₂ {A = List ℕ} {B = List ℕ} {C = List ℕ} (λ y z. y ++ z) (xors-kinds i _ _) (xors-kinds (n - suc i) _ _)
+    ∙ ap₂ {A = List ℕ} {B = List ℕ} {C = List ℕ} (λ y z. y ++ z) (same-kinds XOR i _ _) (same-kinds XOR (n - suc i) _ _)
     ∙ replicate-append-replicate {A = ℕ} i (n - suc i) 1
     ∙ ap ones {x = i + (n - suc i)} {y = n - 1} (omega arith))
 
-pub new-kinds : (k : Kind) (n g w : ℕ) (a b : List ℕ) → wireKinds (newWires isw k n g w a b) ≡ newKinds k n
+and-kinds : (n w : ℕ) (a b : List ℕ) → kindBytes (andGates isw n w a b) ≡ andKinds n
 unfolding kindBytes
-new-kinds NOT n g w a b = refl
-new-kinds XOR n g w a b =
-    ap {A = List Gate} {B = List ℕ} kindBytes (xor-gates isw n g w a b) ∙ xors-kinds n (share a) (share b)
-new-kinds AND n g w a b =
+and-kinds n w a b =
     let F = pairGates isw a b in
     let v = w + 5 * tri n in
-    ap {A = List Gate} {B = List ℕ} kindBytes (and-gates isw n g w a b)
-    ∙ kinds-append (inTurn 5 w (pairs n) F) (rowsGates isw n w v a b)
+    kinds-append (inTurn 5 w (pairs n) F) (rowsGates isw n w v a b)
     ∙ ap₂ {A = List ℕ} {B = List ℕ} {C = List ℕ} (λ y z. y ++ z)
     (ap {A = List Gate} {B = List ℕ} kindBytes (pairs-in-turn n 5 w F) ∙ kinds-joined (tri n) 0 _)
     (kinds-joined n 0 _ ∙ joined-same n 0 _ _ (λ i h. row-kinds n w (v + n * i) a b i (omega arith)))
-new-kinds RANDOM n g w a b = refl
-new-kinds (UNKNOWN c) n g w a b = refl
+
+pub new-kinds : (k : Kind) (l n g w : ℕ) (a b : List ℕ) → wireKinds (newWires isw k l n g w a b) ≡ newKinds k n
+unfolding kindBytes
+new-kinds NOT l n g w a b = refl
+new-kinds XOR l n g w a b =
+    ap {A = List Gate} {B = List ℕ} kindBytes (xor-gates isw l n g w a b) ∙ same-kinds XOR n (share a) (share b)
+new-kinds AND l n g w a b =
+    ap {A = List Gate} {B = List ℕ} kindBytes (and-gates isw n (andPart g) w a b) ∙ and-kinds n w a b
+new-kinds RANDOM l n g w a b = refl
+new-kinds CONSTANT l n g w a b =
+    ap {A = List Gate} {B = List ℕ} kindBytes (constant-gates isw l n g w a b) ∙ same-kinds CONSTANT n _ (λ _. 0)
+new-kinds OR l n g w a b =
+    let v = suc (suc w) in
+    let A = firstOn w a in
+    let B = firstOn (suc w) b in
+    let last = gate NOT (share (andShares n v) 0) 0 ∷ [] in
+    ap {A = List Gate} {B = List ℕ} kindBytes (or-gates isw l n g w a b)
+    ∙ ap {A = List ℕ} {B = List ℕ} (λ ks. 0 ∷ 0 ∷ ks)
+    (kinds-append (andGates isw n v A B) last
+    ∙ ap {A = List ℕ} {B = List ℕ} (λ ks. ks ++ (0 ∷ [])) (and-kinds n v A B))
+new-kinds (UNKNOWN c) l n g w a b = refl
 
 pub masked-kinds :
     (n g w : ℕ) (S : List (List ℕ)) (xs : List Gate) → wireKinds (masked isw n g w S xs) ≡ gateKinds n xs
 unfolding masked gateKinds kindBytes
 masked-kinds n g w S [] = refl
 masked-kinds n g w S (x ∷ xs) =
-    wire-kinds-append (newWires isw (x .kind) n g w (getD S (x .left) []) (getD S (x .right) [])) _
+    wire-kinds-append (newWires isw (x .kind) (x .left) n g w (getD S (x .left) []) (getD S (x .right) [])) _
     ∙ ap₂ {A = List ℕ} {B = List ℕ} {C = List ℕ} (λ p q. p ++ q)
-    (new-kinds (x .kind) n g w _ _)
+    (new-kinds (x .kind) (x .left) n g w _ _)
     (masked-kinds n (suc g) (w + cost (x .kind) n) (S ++ (newShares (x .kind) n w (getD S (x .left) []) ∷ [])) xs)
+
+-- an AND's kinds
+pub and-kinds-long : (n : ℕ) → 1 ≤ n → length (andKinds n) ≡ andCost n
+and-kinds-long n some =
+    length-append (joined (tri n) 0 (λ _. pairKinds)) (joined n 0 (λ _. rowKinds n))
+    ∙ omega (
+      arith,
+      joined-long 5 (tri n) 0 (λ _. pairKinds) (λ _ _. refl),
+      joined-long n n 0 (λ _. rowKinds n) (λ _ _. row-kinds-long n some),
+    )
 
 -- the kinds of a NOT and of an XOR, where the kinds of XOR gates stand already
 pub kinds-head :
-    (k n at : ℕ) (b : List ℕ) → k < 3 → (k ≡ 2 → ⊥) → 1 ≤ n → at + cost (kindOf k) n ≤ length b → XorsFrom at b
+    (k n at : ℕ) (b : List ℕ) → k < 2 → 1 ≤ n → at + cost (kindOf k) n ≤ length b → XorsFrom at b
     → (at < length b) × (set b at k ≡ putAt at (newKinds (kindOf k) n) b)
-kinds-head zero n at b h e some fits xors = (omega arith, put-set at 0 b (omega arith))
-kinds-head (suc zero) zero at b h e some fits xors = absurd (omega arith)
-kinds-head (suc zero) (suc n) at b h e some fits xors = (omega arith, xors-head at n 1 b xors fits)
-kinds-head (suc (suc zero)) n at b h e some fits xors = absurd (e refl)
-kinds-head (suc (suc (suc k))) n at b h e some fits xors = absurd (omega arith)
+kinds-head zero n at b h some fits xors = (omega arith, put-set at 0 b (omega arith))
+kinds-head (suc zero) zero at b h some fits xors = absurd (omega arith)
+kinds-head (suc zero) (suc n) at b h some fits xors = (omega arith, xors-head at n 1 b xors fits)
+kinds-head (suc (suc k)) n at b h some fits xors = absurd (omega arith)
+
+-- the kinds of an OR: two NOTs
+pub nots-written :
+    (at : ℕ) (b : List ℕ) → at + 2 ≤ length b → set (set b at 0) (at + 1) 0 ≡ putAt at (0 ∷ 0 ∷ []) b
+nots-written at b fits =
+    put-then at (0 ∷ []) (0 ∷ []) b (omega arith) (put-set at 0 b (omega arith)) refl
+    (put-set (at + 1) 0 (set b at 0) (omega (arith, length-set b at 0)))
+
+-- the AND, and the last NOT
+pub or-written :
+    (at n : ℕ) (b : List ℕ) {at′ : ℕ} {b′ : List ℕ} → 1 ≤ n → at + cost OR n ≤ length b
+    → b′ ≡ putAt (at + 2) (andKinds n) (set (set b at 0) (at + 1) 0) → at′ ≡ at + 2 + andCost n
+    → (length b′ ≡ length b) × (set b′ at′ 0 ≡ putAt at (newKinds OR n) b)
+or-written at n b {at′} {b′} some fits put next =
+    let ks = andKinds n in
+    let long = and-kinds-long n some in
+    let both : b′ ≡ putAt at (0 ∷ 0 ∷ ks) b =
+    put-then at (0 ∷ 0 ∷ []) ks b (omega arith) (nots-written at b (omega arith)) refl put in
+    let same : length b′ ≡ length b = ap length both ∙ put-length at (0 ∷ 0 ∷ ks) b (omega (arith, long)) in (
+      same,
+      put-then at (0 ∷ 0 ∷ ks) (0 ∷ []) b (omega (arith, long)) both (omega (arith, long, next)) (put-set at′ 0 b′ (omega (arith, same))),
+    )

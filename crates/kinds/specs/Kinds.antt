@@ -4,7 +4,7 @@ use mathlib.Core.Path.{_≡_}
 use mathlib.Core.List.{List, [], _∷_, _++_, map}
 use Prim.Native.Nat.{ℕ, _-_}
 use lib.ListN.{length, drop, replicate}
-use Rattle.tables.specs.Tables.{Kind, NOT, XOR, AND, RANDOM, UNKNOWN, Gate, kindBytes}
+use Rattle.tables.specs.Tables.{Kind, NOT, XOR, AND, RANDOM, CONSTANT, OR, UNKNOWN, Gate, kindBytes}
 use Rattle.masks.specs.Shares.{tri}
 use Rattle.masks.specs.Wires.{Wire, driverOf}
 use Rattle.pieces.specs.Layout.{joined}
@@ -21,12 +21,18 @@ pairKinds = 3 ∷ 2 ∷ 1 ∷ 2 ∷ 1 ∷ []
 abbrev pub rowKinds : ℕ → List ℕ
 rowKinds n = 2 ∷ replicate (n - 1) 1
 
+-- the kinds of an AND's wires: the pairs, then the rows
+abbrev pub andKinds : ℕ → List ℕ
+andKinds n = joined (tri n) 0 (λ _. pairKinds) ++ joined n 0 (λ _. rowKinds n)
+
 -- the kinds of a plain gate's new wires
 abbrev pub newKinds : Kind → ℕ → List ℕ
 newKinds NOT n = 0 ∷ []
 newKinds XOR n = replicate n 1
-newKinds AND n = joined (tri n) 0 (λ _. pairKinds) ++ joined n 0 (λ _. rowKinds n)
+newKinds AND n = andKinds n
 newKinds RANDOM n = []
+newKinds CONSTANT n = replicate n 4
+newKinds OR n = 0 ∷ 0 ∷ (andKinds n ++ (0 ∷ []))
 newKinds (UNKNOWN k) n = []
 
 -- the kinds of the new wires of plain gates

@@ -2,8 +2,8 @@
 ghost use mathlib.Core.Path.{_≡_};
 ghost use Prim.Native.Nat.{_+_, _*_, _≤_, _<_};
 ghost use lib.ListN.{length, replicate};
-ghost use Rattle.tables.specs.Inside.{putAt};
-ghost use Rattle.tables.specs.Tables.{kindOf, AND};
+ghost use Rattle.tables.specs.Inside.{putAt, PlainByte};
+ghost use Rattle.tables.specs.Tables.{kindOf, AND, OR};
 ghost use Rattle.masks.specs.Wires.{cost};
 ghost use Rattle.pieces.specs.Layout.{joined};
 ghost use Rattle.kinds.specs.Kinds.{pairKinds, rowKinds, newKinds, XorsFrom};
@@ -32,14 +32,14 @@ fn write_pair_kinds(kinds: &mut [u8], at: usize, m: usize)
     }
 }
 
-// Writes the kinds of m XOR gates.
-pub fn write_xor_kinds(kinds: &mut [u8], at: usize, m: usize)
+// Writes the kinds of m gates of one kind.
+pub fn write_same_kinds(kind: u8, kinds: &mut [u8], at: usize, m: usize)
     requires { ⌜ at + m ≤ length (now kinds) ⌝ }
-    ensures { λ _. ⌜ now (kinds .exit) ≡ putAt at (replicate m 1) (now (kinds .entry)) ⌝ }
+    ensures { λ _. ⌜ now (kinds .exit) ≡ putAt at (replicate m kind) (now (kinds .entry)) ⌝ }
 {
     let mut c = 0;
     while c < m {
-        kinds[at + c] = 1;
+        kinds[at + c] = kind;
         c += 1;
     }
 }
@@ -68,11 +68,38 @@ fn write_and_kinds(kinds: &mut [u8], at: usize, n: usize)
     write_rows_kinds(kinds, at + 5 * m, n);
 }
 
-// Writes the kinds of a plain gate's new wires, where the kinds of XOR gates stand already.
-pub fn write_kinds_of(kind: u8, n: usize, kinds: &mut [u8], at: usize)
-    requires { ⌜ (kind < 3) × (1 ≤ n) × (n ≤ 31) × (at + cost (kindOf kind) n ≤ length (now kinds)) × XorsFrom at (now kinds) ⌝ }
+// Writes the kinds of an OR's wires: two NOTs, the AND, a NOT.
+fn write_or_kinds(kinds: &mut [u8], at: usize, n: usize)
+    requires { ⌜ (1 ≤ n) × (n ≤ 31) × (at + cost OR n ≤ length (now kinds)) × XorsFrom at (now kinds) ⌝ }
+    ensures { λ _. ⌜ now (kinds .exit) ≡ putAt at (newKinds OR n) (now (kinds .entry)) ⌝ }
+{
+    kinds[at] = 0;
+    kinds[at + 1] = 0;
+    write_and_kinds(kinds, at + 2, n);
+    kinds[at + 2 + masks::and_cost(n)] = 0;
+}
+
+// Writes the kinds of the new wires of a constant or an OR, where the kinds of XOR gates stand already.
+fn write_further_kinds(kind: u8, n: usize, kinds: &mut [u8], at: usize)
+    requires { ⌜ (2 < kind) × PlainByte kind × (1 ≤ n) × (n ≤ 31) × (at + cost (kindOf kind) n ≤ length (now kinds)) × XorsFrom at (now kinds) ⌝ }
     ensures { λ _. ⌜ now (kinds .exit) ≡ putAt at (newKinds (kindOf kind) n) (now (kinds .entry)) ⌝ }
 {
+    if kind == 4 {
+        write_same_kinds(4, kinds, at, n);
+        return;
+    }
+    write_or_kinds(kinds, at, n);
+}
+
+// Writes the kinds of a plain gate's new wires, where the kinds of XOR gates stand already.
+pub fn write_kinds_of(kind: u8, n: usize, kinds: &mut [u8], at: usize)
+    requires { ⌜ PlainByte kind × (1 ≤ n) × (n ≤ 31) × (at + cost (kindOf kind) n ≤ length (now kinds)) × XorsFrom at (now kinds) ⌝ }
+    ensures { λ _. ⌜ now (kinds .exit) ≡ putAt at (newKinds (kindOf kind) n) (now (kinds .entry)) ⌝ }
+{
+    if kind > 2 {
+        write_further_kinds(kind, n, kinds, at);
+        return;
+    }
     if kind == 2 {
         write_and_kinds(kinds, at, n);
         return;

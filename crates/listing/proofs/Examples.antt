@@ -23,6 +23,14 @@ xorLine = 119 ∷ 52 ∷ 32 ∷ 61 ∷ 32 ∷ 88 ∷ 79 ∷ 82 ∷ 32 ∷ 119 �
 abbrev randomLine : List ℕ
 randomLine = 119 ∷ 53 ∷ 32 ∷ 61 ∷ 32 ∷ 82 ∷ 65 ∷ 78 ∷ 68 ∷ 79 ∷ 77 ∷ 10 ∷ []
 
+-- `w6 = CONSTANT 1`
+abbrev constantLine : List ℕ
+constantLine = 119 ∷ 54 ∷ 32 ∷ 61 ∷ 32 ∷ 67 ∷ 79 ∷ 78 ∷ 83 ∷ 84 ∷ 65 ∷ 78 ∷ 84 ∷ 32 ∷ 49 ∷ 10 ∷ []
+
+-- `w7 = OR w2 w3`
+abbrev orLine : List ℕ
+orLine = 119 ∷ 55 ∷ 32 ∷ 61 ∷ 32 ∷ 79 ∷ 82 ∷ 32 ∷ 119 ∷ 50 ∷ 32 ∷ 119 ∷ 51 ∷ 10 ∷ []
+
 -- `out0 = w2`
 abbrev outLine : List ℕ
 outLine = 111 ∷ 117 ∷ 116 ∷ 48 ∷ 32 ∷ 61 ∷ 32 ∷ 119 ∷ 50 ∷ 10 ∷ []
@@ -32,12 +40,12 @@ pub the-and : tableText (2 ∷ 0 ∷ 1 ∷ 0 ∷ 1 ∷ 0 ∷ 2 ∷ 0 ∷ 0 ∷ 1
 unfolding tableText tableFault tableOf gatesFrom wordsFrom gatesFault outputsFault gateLines outputLines joined lineOf digits
 the-and = refl
 
--- AND, NOT, XOR and a random bit
+-- AND, NOT, XOR, a random bit, a constant and OR
 pub each-kind :
     tableText
-    (2 ∷ 0 ∷ 4 ∷ 0 ∷ 1 ∷ 0 ∷ 2 ∷ 0 ∷ 1 ∷ 3
-    ∷ 0 ∷ 0 ∷ 1 ∷ 0 ∷ 0 ∷ 0 ∷ 0 ∷ 0 ∷ 1 ∷ 0 ∷ 2 ∷ 0 ∷ 0 ∷ 0 ∷ 0 ∷ 0 ∷ 2 ∷ 0 ∷ [])
-    ≡ andLine ++ (notLine ++ (xorLine ++ (randomLine ++ outLine)))
+    (2 ∷ 0 ∷ 6 ∷ 0 ∷ 1 ∷ 0 ∷ 2 ∷ 0 ∷ 1 ∷ 3 ∷ 4 ∷ 5
+    ∷ 0 ∷ 0 ∷ 1 ∷ 0 ∷ 0 ∷ 0 ∷ 0 ∷ 0 ∷ 1 ∷ 0 ∷ 2 ∷ 0 ∷ 0 ∷ 0 ∷ 0 ∷ 0 ∷ 1 ∷ 0 ∷ 0 ∷ 0 ∷ 2 ∷ 0 ∷ 3 ∷ 0 ∷ 2 ∷ 0 ∷ [])
+    ≡ andLine ++ (notLine ++ (xorLine ++ (randomLine ++ (constantLine ++ (orLine ++ outLine)))))
 unfolding tableText tableFault tableOf gatesFrom wordsFrom gatesFault outputsFault gateLines outputLines joined lineOf digits
 each-kind = refl
 

@@ -6,7 +6,8 @@ use mathlib.Core.List.{List, [], _∷_, _++_}
 use Prim.Native.Nat.{ℕ, zero, suc, _+_, _*_, _≤_, _<_}
 use native.Mathlib.Omega.{arith}
 use lib.ListN.{length, length-append}
-use Rattle.tables.specs.Tables.{Kind, NOT, XOR, AND, RANDOM, UNKNOWN, kindOf, Gate, wires, word, known, tableOf}
+use Rattle.tables.specs.Tables.{Kind, NOT, XOR, AND, RANDOM, CONSTANT, OR, UNKNOWN, kindOf, Gate, wires, word}
+use Rattle.tables.specs.Tables.{known, tableOf}
 use Rattle.tables.proofs.Lists.{All, all-map, all-append, all-getD}
 use Rattle.tables.proofs.Run.{Reads, Earlier}
 use Rattle.tables.proofs.Accept.{Accepted, accepted, gates-of-length, outputs-of-length, outputs-passed}
@@ -34,19 +35,31 @@ module _ (k l r : ℕ) where
   unfolding lineOf
   and-line e = rw e refl
 
-  -- a kind that is none of the first three is random
-  pub random-line :
-      known (kindOf k) ≡ true → (k ≡ 0 → ⊥) → (k ≡ 1 → ⊥) → (k ≡ 2 → ⊥)
-      → 32 ∷ 61 ∷ 32 ∷ 82 ∷ 65 ∷ 78 ∷ 68 ∷ 79 ∷ 77 ∷ 10 ∷ [] ≡ kindLine
+  pub random-line : k ≡ 3 → 32 ∷ 61 ∷ 32 ∷ 82 ∷ 65 ∷ 78 ∷ 68 ∷ 79 ∷ 77 ∷ 10 ∷ [] ≡ kindLine
   unfolding lineOf
-  random-line h a b c = rw (other k h a b c) refl
+  random-line e = rw e refl
+
+  pub constant-line :
+      k ≡ 4
+      → 32 ∷ 61 ∷ 32 ∷ 67 ∷ 79 ∷ 78 ∷ 83 ∷ 84 ∷ 65 ∷ 78 ∷ 84 ∷ 32 ∷ (decimal l ++ (10 ∷ [])) ≡ kindLine
+  unfolding lineOf
+  constant-line e = rw e refl
+
+  -- a kind that is none of the first five is OR
+  pub or-line :
+      known (kindOf k) ≡ true → (k ≡ 0 → ⊥) → (k ≡ 1 → ⊥) → (k ≡ 2 → ⊥) → (k ≡ 3 → ⊥) → (k ≡ 4 → ⊥)
+      → 32 ∷ 61 ∷ 32 ∷ 79 ∷ 82 ∷ 32 ∷ 119 ∷ (decimal l ++ (32 ∷ 119 ∷ (decimal r ++ (10 ∷ [])))) ≡ kindLine
+  unfolding lineOf
+  or-line h a b c d e = rw (other k h (omega arith)) refl
     where
-      other : (k : ℕ) → known (kindOf k) ≡ true → (k ≡ 0 → ⊥) → (k ≡ 1 → ⊥) → (k ≡ 2 → ⊥) → kindOf k ≡ RANDOM
-      other zero h a b c = absurd (omega arith)
-      other (suc zero) h a b c = absurd (omega arith)
-      other (suc (suc zero)) h a b c = absurd (omega arith)
-      other (suc (suc (suc zero))) h a b c = refl
-      other (suc (suc (suc (suc k)))) h a b c = cc
+      other : (k : ℕ) → known (kindOf k) ≡ true → 5 ≤ k → kindOf k ≡ OR
+      other zero h few = absurd (omega arith)
+      other (suc zero) h few = absurd (omega arith)
+      other (suc (suc zero)) h few = absurd (omega arith)
+      other (suc (suc (suc zero))) h few = absurd (omega arith)
+      other (suc (suc (suc (suc zero)))) h few = absurd (omega arith)
+      other (suc (suc (suc (suc (suc zero))))) h few = refl
+      other (suc (suc (suc (suc (suc (suc k)))))) h few = cc
 
 -- a number of 16 bits and what follows it
 five : (v : ℕ) (ys : List ℕ) → v < 65536 → length (decimal v ++ ys) ≤ 5 + length ys
@@ -62,6 +75,8 @@ kind-short w NOT x y h e = omega (arith, five x (10 ∷ []) (omega arith))
 kind-short w XOR x y h e = omega (arith, two-short x y (omega arith) (omega arith))
 kind-short w AND x y h e = omega (arith, two-short x y (omega arith) (omega arith))
 kind-short w RANDOM x y h e = omega arith
+kind-short w CONSTANT x y h e = omega (arith, five x (10 ∷ []) (omega arith))
+kind-short w OR x y h e = omega (arith, two-short x y (omega arith) (omega arith))
 kind-short w (UNKNOWN k) x y h e = omega arith
 
 gates-short : (w : ℕ) (gs : List Gate) → Earlier w gs → w + length gs ≤ 65535 → All (λ l. length l ≤ 27) (gateLines w gs)

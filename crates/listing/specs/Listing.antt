@@ -1,6 +1,6 @@
--- A table in words, as bytes of ASCII: a line for each gate in table order, `w2 = AND w0 w1`, `w3 = NOT w0`, `w4 = XOR w1 w2` or
--- `w5 = RANDOM`, then a line for each output, its position and its wire, `out0 = w2`. Wires and positions count from 0 (document
--- 01, "Gate table"). A table that 1 to 5 refuse has the one line `refused`, number, place.
+-- A table in words, as bytes of ASCII: a line for each gate in table order, `w2 = AND w0 w1`, `w3 = NOT w0`, `w4 = XOR w1 w2`,
+-- `w5 = RANDOM`, `w6 = CONSTANT 1` or `w7 = OR w2 w3`, then a line for each output, its position and its wire, `out0 = w2`. Wires and
+-- positions count from 0 (document 01, "Gate table"). A table that 1 to 5 refuse has the one line `refused`, number, place.
 -- Assumes nothing.
 use mathlib.Core.Path.{_≡_}
 use mathlib.Core.Bool.{true, cond}
@@ -8,8 +8,8 @@ use mathlib.Core.List.{List, [], _∷_, _++_}
 use Prim.Native.Nat.{ℕ, suc, _<_}
 use lib.ListN.{getD}
 use Rattle.tables.specs.Refusals.{passed}
-use Rattle.tables.specs.Tables.{Kind, NOT, XOR, AND, RANDOM, UNKNOWN, Gate, Table, word, tableOf, tableFault}
-use Rattle.tables.specs.Tables.{Operands, none-read, left-read, both-read, operandsOf}
+use Rattle.tables.specs.Tables.{Kind, NOT, XOR, AND, RANDOM, CONSTANT, OR, UNKNOWN, Gate, Table, word, tableOf}
+use Rattle.tables.specs.Tables.{tableFault, Operands, none-read, left-read, both-read, value-stated, operandsOf}
 use Rattle.text.specs.Text.{decimal, lineOf, refusalLine, PutsAll}
 
 -- `w` and the wire's number
@@ -40,21 +40,32 @@ andWord = 65 ∷ 78 ∷ 68 ∷ []
 abbrev pub randomWord : List ℕ
 randomWord = 82 ∷ 65 ∷ 78 ∷ 68 ∷ 79 ∷ 77 ∷ []
 
+-- `CONSTANT`
+abbrev pub constantWord : List ℕ
+constantWord = 67 ∷ 79 ∷ 78 ∷ 83 ∷ 84 ∷ 65 ∷ 78 ∷ 84 ∷ []
+
+-- `OR`
+abbrev pub orWord : List ℕ
+orWord = 79 ∷ 82 ∷ []
+
 -- the word of a kind; a byte that is no kind has none
 abbrev pub kindWord : Kind → List (List ℕ)
 kindWord NOT = notWord ∷ []
 kindWord XOR = xorWord ∷ []
 kindWord AND = andWord ∷ []
 kindWord RANDOM = randomWord ∷ []
+kindWord CONSTANT = constantWord ∷ []
+kindWord OR = orWord ∷ []
 kindWord (UNKNOWN k) = []
 
--- the names of the operands that are read
+-- the names of the operands that are read, or the value that is stated
 abbrev pub operandWords : Operands → ℕ → ℕ → List (List ℕ)
 operandWords none-read l r = []
 operandWords left-read l r = wireName l ∷ []
 operandWords both-read l r = wireName l ∷ wireName r ∷ []
+operandWords value-stated l r = decimal l ∷ []
 
--- what stands after `=`: the kind and the operands that it reads
+-- what stands after `=`: the kind, and the operands that it reads or its value
 abbrev pub kindWords : Kind → ℕ → ℕ → List (List ℕ)
 kindWords k l r = kindWord k ++ operandWords (operandsOf k) l r
 

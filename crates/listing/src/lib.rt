@@ -30,8 +30,14 @@ fn put_kind(out: &mut [u8], at: usize, kind: u8, left: u32, right: u32) -> usize
         2 => {
             return text::put_two(out, at, b" = AND w", left, b" w", right);
         }
-        _ => {
+        3 => {
             return text::put_bytes(out, at, b" = RANDOM\n");
+        }
+        4 => {
+            return text::put_last(out, at, b" = CONSTANT ", left);
+        }
+        _ => {
+            return text::put_two(out, at, b" = OR w", left, b" w", right);
         }
     }
 }

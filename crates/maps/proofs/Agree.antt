@@ -2,34 +2,35 @@
 -- on every share other than k: gate by gate, the AND by its pairs and its rows.
 -- Assumes nothing.
 use mathlib.Core.Path.{_≡_, refl, sym, ap, ap₂, _∙_, subst, subst₂}
-use mathlib.Core.Bool.{false}
+use mathlib.Core.Bool.{false, cond}
 use mathlib.Core.List.{List, [], _∷_, _++_, map, map-append}
 use Prim.Native.Nat.{ℕ, zero, suc, _+_, _-_, _*_, _≤_, _<_}
 use native.Mathlib.Omega.{arith}
 use lib.Dec.{eqb}
 use lib.ListN.{length, getD, drop, length-append, length-map, length-drop, List·getD-append}
-use lib.Seq.{getD-drop, getD-append-add}
+use lib.Seq.{getD-append-add}
 use borrow.Author.Tests.{ne-eqb}
-use Rattle.tables.specs.Tables.{Kind, NOT, XOR, AND, RANDOM, UNKNOWN, Gate, gate, total}
+use Rattle.tables.specs.Tables.{Kind, NOT, XOR, AND, RANDOM, CONSTANT, OR, UNKNOWN, Gate, gate, operandsOf, total}
 use Rattle.tables.specs.Runs.{xor, randoms}
 use Rattle.tables.proofs.Tests.{or-intro}
 use Rattle.tables.proofs.Lists.{All, all-append, all-getD}
-use Rattle.tables.proofs.Run.{Solves, solves-append}
-use Rattle.tables.proofs.Accept.{PlainGate, PlainGates}
+use Rattle.tables.proofs.Run.{Solves, solves-append, OfLeft, OfRight, read-left, read-right}
+use Rattle.tables.proofs.Accept.{PlainGate, PlainGates, plain-reads}
 use Rattle.masks.specs.Shares.{upFrom, inTurn, Pair, pairOf, pairs, tri, pairAt}
 use Rattle.masks.specs.Gadgets.{isIn, Five, first, second, third, fourth, fifth, allFive, indexOf, Gadget}
-use Rattle.masks.specs.Wires.{Origin, andPart, pair, own, sum, xorShare, Wire, wire, marks, driverOf, share}
-use Rattle.masks.specs.Wires.{adding, pairWires, rowWires, pairWire, andWires, newWires, newShares, cost, draws, masked, sharesAfter}
+use Rattle.masks.specs.Wires.{Part, pair, own, sum, inAnd, lastNot, Origin, andPart, xorShare, constantShare, orPart, partMarks}
+use Rattle.masks.specs.Wires.{marks, Wire, wire, driverOf, share, firstOn, adding, pairWires, rowWires, pairWire, andWires, andShares}
+use Rattle.masks.specs.Wires.{andCost, newWires, newShares, cost, draws, masked, sharesAfter}
 use Rattle.masks.proofs.Sum.{up-length, up-at}
 use Rattle.masks.proofs.Rows.{pairs-length, pairs-in, pair-at, row-length, row-all}
 use Rattle.masks.proofs.Each.{Each, each-append, each-at, each-in-turn, each-up, each-rows, in-turn-length}
 use Rattle.masks.proofs.Lawful.{Lawful}
-use Rattle.masks.proofs.Costs.{adding-length, pairs-span, rows-span, new-length, new-draws}
-use Rattle.masks.proofs.Shares.{xor-values}
+use Rattle.masks.proofs.Costs.{adding-length, pairs-span, rows-span, and-length, orAnd, new-length, new-draws}
+use Rattle.masks.proofs.Shares.{share-values, or-solves}
 use Rattle.masks.proofs.And.{rowTerms, and-pair, and-row}
-use Rattle.maps.specs.Maps.{pairFlip, gateFlips}
+use Rattle.maps.specs.Maps.{pairFlip, valuesOf, gateFlips}
 use Rattle.maps.specs.Laws.{gatesFlips}
-use Rattle.maps.proofs.Flips.{gate-flips-length}
+use Rattle.maps.proofs.Flips.{gate-flips-length, drop-share, first-not-flips}
 use Rattle.masks.proofs.Hiding.{Hiding, not-first}
 
 -- shares other than k have the same value in both runs
@@ -43,14 +44,6 @@ Kept G k v u w x = isIn k (marks G (x .origin)) ≡ false → v w ≡ u w
 -- n shares that agree off k
 abbrev pub Alike : ℕ → (ℕ → ℕ) → (ℕ → ℕ) → ℕ → List ℕ → Type 0
 Alike n v u k a = (length a ≡ n) × Off v u k a
-
--- what is known of the right operand, where a gate has one
-abbrev OfRight : Kind → Type 0 → Type 0
-OfRight NOT T = Unit {0}
-OfRight XOR T = T
-OfRight AND T = T
-OfRight RANDOM T = Unit {0}
-OfRight (UNKNOWN c) T = Unit {0}
 
 uncarried : (k i : ℕ) → (i ≡ k → ⊥) → isIn k (i ∷ []) ≡ false
 uncarried k i h = or-intro (eqb k i) false (ne-eqb k i (λ e. h (sym e))) refl
@@ -92,24 +85,26 @@ adding-agrees o m last next c (z ∷ zs) r s v u e a sv su =
 
 -- the sums of row i carry share i alone
 adding-kept :
-    (G : Gadget) (k g i m last next : ℕ) (zs : List ℕ) (v u : ℕ → ℕ)
-    → ((suc i ≡ k → ⊥) → Each (λ p x. v p ≡ u p) next (adding (λ m. andPart g (sum i m)) m last next zs))
-    → Each (Kept G k v u) next (adding (λ m. andPart g (sum i m)) m last next zs)
+    (G : Gadget) (part : Part → Origin) (same : (p : Part) → marks G (part p) ≡ partMarks G p) (k i m last next : ℕ)
+    (zs : List ℕ) (v u : ℕ → ℕ)
+    → ((suc i ≡ k → ⊥) → Each (λ p x. v p ≡ u p) next (adding (λ m. part (sum i m)) m last next zs))
+    → Each (Kept G k v u) next (adding (λ m. part (sum i m)) m last next zs)
 unfolding Each adding
-adding-kept G k g i m last next [] v u h = tt
-adding-kept G k g i m last next (z ∷ zs) v u h = (
-  (λ e. h (not-first k (suc i) [] e .0) .0),
-  adding-kept G k g i (suc m) next (suc next) zs v u (λ ne. h ne .1),
+adding-kept G part same k i m last next [] v u h = tt
+adding-kept G part same k i m last next (z ∷ zs) v u h = (
+  (λ e. h (not-first k (suc i) [] (ap (isIn k) (sym (same (sum i m))) ∙ e) .0) .0),
+  adding-kept G part same k i (suc m) next (suc next) zs v u (λ ne. h ne .1),
 )
 
 module _
-    {G : Gadget} (H : Hiding G) (n g w c k : ℕ) (a b : List ℕ) (r s v u : ℕ → ℕ)
+    {G : Gadget} (H : Hiding G) (n : ℕ) (part : Part → Origin) (same : (p : Part) → marks G (part p) ≡ partMarks G p)
+    (w c k : ℕ) (a b : List ℕ) (r s v u : ℕ → ℕ)
     (sa : Alike n v u k a) (sb : Alike n v u k b)
     (bv : (p : ℕ) → v p ≤ 1) (bu : (p : ℕ) → u p ≤ 1) (br : (q : ℕ) → r q ≤ 1)
-    (sv : Solves w c (map driverOf (andWires G n g w a b)) r v)
-    (su : Solves w c (map driverOf (andWires G n g w a b)) s u)
+    (sv : Solves w c (map driverOf (andWires G n part w a b)) r v)
+    (su : Solves w c (map driverOf (andWires G n part w a b)) s u)
     (flips :
-    (q : ℕ) → q < tri n → s (c + q) ≡ xor (r (c + q)) (getD (map (pairFlip G k a b v u) (pairs n)) q 0))
+    (q : ℕ) → q < tri n → s (c + q) ≡ xor (r (c + q)) (getD (gateFlips G AND n k a b v u) q 0))
   where
     both-agree : (i : ℕ) → i < n → (suc i ≡ k → ⊥) → (v (share a i) ≡ u (share a i)) × (v (share b i) ≡ u (share b i))
     both-agree i h ne = (sa .1 i (omega (arith, sa .0)) ne, sb .1 i (omega (arith, sb .0)) ne)
@@ -130,9 +125,11 @@ module _
         bv
         bu
         (br (c + q))
-        (and-pair (H .lawful) n g w c a b r v sv q h)
-        (and-pair (H .lawful) n g w c a b s u su q h)
-        (flips q h ∙ ap (λ (y : ℕ). xor (r (c + q)) y) (map-at (pairFlip G k a b v u) (pairs n) q (pairOf 0 0) long))
+        (and-pair (H .lawful) n part w c a b r v sv q h)
+        (and-pair (H .lawful) n part w c a b s u su q h)
+        (flips q h
+        ∙ ap (λ (y : ℕ). xor (r (c + q)) y)
+        (map-at (pairFlip G k (valuesOf v a) (valuesOf v b) (valuesOf u a) (valuesOf u b)) (pairs n) q (pairOf 0 0) long))
         (both-agree (p .lower) (omega arith))
         (both-agree (p .upper) (omega arith))
 
@@ -141,17 +138,18 @@ module _
         (q i j : ℕ) → q < tri n → getD (pairs n) q (pairOf 0 0) ≡ pairOf i j → Agreed q (pairOf i j)
     pair-agrees-at q i j h e = subst (Agreed q) e (pair-agrees q h)
 
-    pairs-kept : Each (Kept G k v u) w (inTurn 5 w (pairs n) (pairWires G g a b))
+    pairs-kept : Each (Kept G k v u) w (inTurn 5 w (pairs n) (pairWires G part a b))
     pairs-kept =
-        each-in-turn _ 5 w (pairs n) (pairWires G g a b) (pairOf 0 0) (pairs-span G n g a b)
+        each-in-turn _ 5 w (pairs n) (pairWires G part a b) (pairOf 0 0) (pairs-span G n part a b)
         (λ q h.
         let p = getD (pairs n) q (pairOf 0 0) in
         each-five _ (w + 5 * q)
         (λ f.
         wire
         (G .gates (w + 5 * q) (share a (p .lower)) (share b (p .upper)) (share a (p .upper)) (share b (p .lower)) f)
-        (andPart g (pair f (p .lower) (p .upper))))
-        (pair-agrees q (omega (arith, pairs-length n 0))))
+        (part (pair f (p .lower) (p .upper))))
+        (λ f e.
+        pair-agrees q (omega (arith, pairs-length n 0)) f (ap (isIn k) (sym (same (pair f (p .lower) (p .upper)))) ∙ e)))
 
     -- what row i adds carries share i alone
     terms-agree : (i : ℕ) → i < n → (suc i ≡ k → ⊥) → All (λ z. v z ≡ u z) (rowTerms G n w i)
@@ -171,117 +169,151 @@ module _
 
     row-agrees :
         (i : ℕ) → i < n → (suc i ≡ k → ⊥)
-        → Each (λ p x. v p ≡ u p) (rowFrom i) (rowWires g a b (rowTerms G n w) (rowFrom i) i)
+        → Each (λ p x. v p ≡ u p) (rowFrom i) (rowWires part a b (rowTerms G n w) (rowFrom i) i)
     unfolding Each Solves
     row-agrees i h ne =
-        let tv = and-row (H .lawful) n g w c a b r v sv i h in
-        let tu = and-row (H .lawful) n g w c a b s u su i h in
+        let tv = and-row (H .lawful) n part w c a b r v sv i h in
+        let tu = and-row (H .lawful) n part w c a b s u su i h in
         let both = both-agree i h ne in
         let here : v (rowFrom i) ≡ u (rowFrom i) =
         tv .0 ∙ ap₂ (λ (x y : ℕ). x * y) (both .0) (both .1) ∙ sym (tu .0) in
         (here, adding-agrees _ 1 _ _ _ _ r s v u here (terms-agree i h ne) (tv .1) (tu .1))
 
     row-kept :
-        (i : ℕ) → i < n → Each (Kept G k v u) (rowFrom i) (rowWires g a b (rowTerms G n w) (rowFrom i) i)
+        (i : ℕ) → i < n → Each (Kept G k v u) (rowFrom i) (rowWires part a b (rowTerms G n w) (rowFrom i) i)
     unfolding Each
     row-kept i h = (
-      (λ e. row-agrees i h (not-first k (suc i) [] e .0) .0),
-      adding-kept G k g i 1 _ _ _ v u (λ ne. row-agrees i h ne .1),
+      (λ e. row-agrees i h (not-first k (suc i) [] (ap (isIn k) (sym (same (own i))) ∙ e) .0) .0),
+      adding-kept G part same k i 1 _ _ _ v u (λ ne. row-agrees i h ne .1),
     )
 
-    and-kept : Each (Kept G k v u) w (andWires G n g w a b)
+    and-kept : Each (Kept G k v u) w (andWires G n part w a b)
     unfolding andWires
     and-kept =
-        let ps = inTurn 5 w (pairs n) (pairWires G g a b) in
-        let rs = inTurn n (w + 5 * tri n) (upFrom n 0 (λ i. i)) (rowWires g a b (rowTerms G n w)) in
+        let ps = inTurn 5 w (pairs n) (pairWires G part a b) in
+        let rs = inTurn n (w + 5 * tri n) (upFrom n 0 (λ i. i)) (rowWires part a b (rowTerms G n w)) in
         let long : w + 5 * tri n ≡ w + length ps =
-        omega (arith, in-turn-length 5 w (pairs n) (pairWires G g a b) (pairs-span G n g a b), pairs-length n 0) in
+        omega (arith, in-turn-length 5 w (pairs n) (pairWires G part a b) (pairs-span G n part a b), pairs-length n 0) in
         each-append _ w ps rs pairs-kept
         (subst (λ (y : ℕ). Each (Kept G k v u) y rs) long
-        (each-rows _ n n (w + 5 * tri n) _ (rows-span G n g a b _ _) row-kept))
+        (each-rows _ n n (w + 5 * tri n) _ (rows-span G n part a b _ _) row-kept))
 
     -- the last wire of each row
-    and-off : Off v u k (newShares AND n w a)
-    and-off i h ne =
-        let below : i < n = omega (arith, up-length n 0 (λ i. w + 5 * tri n + n * i + (n - 1))) in
-        let long : n - 1 < length (rowWires g a b (rowTerms G n w) (rowFrom i) i) =
-        omega (
-          arith,
-          adding-length (λ m. andPart g (sum i m)) 1 (rowFrom i) (suc (rowFrom i)) (rowTerms G n w i),
-          row-length n (pairWire w (G .low)) (pairWire w (G .high)) i below,
-        ) in
-        let at : share (newShares AND n w a) i ≡ rowFrom i + (n - 1) =
-        up-at n 0 (λ i. rowFrom i + (n - 1)) i 0 below
-        ∙ ap (λ (i : ℕ). rowFrom i + (n - 1)) {x = 0 + i} {y = i} (omega arith) in
-        ap v at
-        ∙ each-at _ (rowFrom i) _ (n - 1) (wire (gate AND 0 0) (andPart g (own i))) (row-agrees i below ne) long
-        ∙ sym (ap u at)
+    and-alike : Alike n v u k (andShares n w)
+    and-alike = (
+      up-length n 0 _,
+      λ i h ne.
+          let below : i < n = omega (arith, up-length n 0 (λ i. w + 5 * tri n + n * i + (n - 1))) in
+          let long : n - 1 < length (rowWires part a b (rowTerms G n w) (rowFrom i) i) =
+          omega (
+            arith,
+            adding-length (λ m. part (sum i m)) 1 (rowFrom i) (suc (rowFrom i)) (rowTerms G n w i),
+            row-length n (pairWire w (G .low)) (pairWire w (G .high)) i below,
+          ) in
+          let at : share (andShares n w) i ≡ rowFrom i + (n - 1) =
+          up-at n 0 (λ i. rowFrom i + (n - 1)) i 0 below
+          ∙ ap (λ (i : ℕ). rowFrom i + (n - 1)) {x = 0 + i} {y = i} (omega arith) in
+          ap v at
+          ∙ each-at _ (rowFrom i) _ (n - 1) (wire (gate AND 0 0) (part (own i))) (row-agrees i below ne) long
+          ∙ sym (ap u at),
+    )
 
-not-off :
-    (a : List ℕ) (w k : ℕ) (v u : ℕ → ℕ) → Off v u k a → ((1 ≡ k → ⊥) → v w ≡ u w) → Off v u k (w ∷ drop 1 a)
-not-off a w k v u o h zero l ne = h ne
-not-off a w k v u o h (suc i) l ne =
-    let at : share (drop 1 a) i ≡ share a (suc i) =
-    getD-drop 1 a i 0 ∙ ap (share a) {x = 1 + i} {y = suc i} (omega arith) in
-    ap v at ∙ o (suc i) (omega (arith, length-drop 1 a)) ne ∙ sym (ap u at)
+-- shares of which the first is on another wire, where that one agrees
+first-alike :
+    (n w k : ℕ) (a : List ℕ) (v u : ℕ → ℕ) → 1 ≤ n → Alike n v u k a → ((1 ≡ k → ⊥) → v w ≡ u w)
+    → Alike n v u k (firstOn w a)
+first-alike n w k a v u one s h = (omega (arith, length-drop 1 a, s .0), off)
+  where
+    off : Off v u k (firstOn w a)
+    off zero l ne = h ne
+    off (suc i) l ne =
+        let at : share (drop 1 a) i ≡ share a (suc i) = drop-share a i in
+        ap v at ∙ s .1 (suc i) (omega (arith, length-drop 1 a)) ne ∙ sym (ap u at)
+
+-- the NOT of share 1
+not-agrees :
+    (n w k : ℕ) (a : List ℕ) (v u : ℕ → ℕ) → 1 ≤ n → Alike n v u k a → v w ≡ 1 - v (share a 0) → u w ≡ 1 - u (share a 0)
+    → (1 ≡ k → ⊥) → v w ≡ u w
+not-agrees n w k a v u one s ev eu ne = ev ∙ ap (λ (y : ℕ). 1 - y) (s .1 0 (omega (arith, s .0)) ne) ∙ sym eu
+
+-- a gate for each share, marked by share
+shares-agree :
+    (G : Gadget) (n w k : ℕ) (d : ℕ → Gate) (o : ℕ → Origin) (v u : ℕ → ℕ) → ((s : ℕ) → marks G (o s) ≡ suc s ∷ [])
+    → ((i : ℕ) → i < n → (suc i ≡ k → ⊥) → v (w + i) ≡ u (w + i))
+    → Each (Kept G k v u) w (upFrom n 0 (λ s. wire (d s) (o s))) × Alike n v u k (upFrom n w (λ s. s))
+shares-agree G n w k d o v u marked here = (
+  each-up _ n 0 w _
+      (λ i h e. here i h (λ q. not-first k (suc (0 + i)) [] (ap (isIn k) (sym (marked (0 + i))) ∙ e) .0 (omega (arith, q)))),
+  (
+    up-length n w _,
+    λ i hi ne.
+        let below : i < n = omega (arith, up-length n w (λ (z : ℕ). z)) in
+        let at : share (upFrom n w (λ s. s)) i ≡ w + i = up-at n w (λ z. z) i 0 below in
+        ap v at ∙ here i below ne ∙ sym (ap u at),
+  ),
+)
 
 -- one gate, by kind
 new-agrees :
     {G : Gadget} (H : Hiding G) (kd : Kind) (n g w c k p l r′ : ℕ) (a b : List ℕ) (r s v u : ℕ → ℕ) → 1 ≤ n
-    → PlainGate p kd l r′ → Alike n v u k a → OfRight kd (Alike n v u k b) → ((p : ℕ) → v p ≤ 1)
-    → ((p : ℕ) → u p ≤ 1) → ((q : ℕ) → r q ≤ 1) → Solves w c (map driverOf (newWires G kd n g w a b)) r v
-    → Solves w c (map driverOf (newWires G kd n g w a b)) s u
+    → PlainGate p kd l r′ → OfLeft (operandsOf kd) (Alike n v u k a) → OfRight (operandsOf kd) (Alike n v u k b)
+    → ((p : ℕ) → v p ≤ 1) → ((p : ℕ) → u p ≤ 1) → ((q : ℕ) → r q ≤ 1)
+    → Solves w c (map driverOf (newWires G kd l n g w a b)) r v
+    → Solves w c (map driverOf (newWires G kd l n g w a b)) s u
     → ((q : ℕ) → q < draws kd n → s (c + q) ≡ xor (r (c + q)) (getD (gateFlips G kd n k a b v u) q 0))
-    → Each (Kept G k v u) w (newWires G kd n g w a b) × Off v u k (newShares kd n w a)
+    → Each (Kept G k v u) w (newWires G kd l n g w a b) × Alike n v u k (newShares kd n w a)
 unfolding Each Solves
 new-agrees H NOT n g w c k p l r′ a b r s v u h x sa sb bv bu br sv su fl =
-    let here : (1 ≡ k → ⊥) → v w ≡ u w =
-    λ ne. sv .0 ∙ ap (λ (y : ℕ). 1 - y) (sa .1 0 (omega (arith, sa .0)) ne) ∙ sym (su .0) in
-    (((λ e. here (not-first k 1 [] e .0)), tt), not-off a w k v u (sa .1) here)
-new-agrees H XOR n g w c k p l r′ a b r s v u h x sa sb bv bu br sv su fl =
-    let here : (i : ℕ) → i < n → (suc (0 + i) ≡ k → ⊥) → v (w + i) ≡ u (w + i) =
-    λ i hi ne.
-    xor-values n 0 w c (share a) (share b) (xorShare g) r v sv i hi
-    ∙ ap₂ xor (sa .1 (0 + i) (omega (arith, sa .0)) ne) (sb .1 (0 + i) (omega (arith, sb .0)) ne)
-    ∙ sym (xor-values n 0 w c (share a) (share b) (xorShare g) s u su i hi) in
-    let off : Off v u k (newShares XOR n w a) =
-    λ i hi ne.
-    let below : i < n = omega (arith, up-length n w (λ (z : ℕ). z)) in
-    let at : share (newShares XOR n w a) i ≡ w + i = up-at n w (λ z. z) i 0 below in
-    ap v at ∙ here i below (λ e. ne (omega arith)) ∙ sym (ap u at) in
-    (each-up _ n 0 w _ (λ i hi e. here i hi (not-first k (suc (0 + i)) [] e .0)), off)
-new-agrees H AND n g w c k p l r′ a b r s v u h x sa sb bv bu br sv su fl =
-    (and-kept H n g w c k a b r s v u sa sb bv bu br sv su fl, and-off H n g w c k a b r s v u sa sb bv bu br sv su fl)
+    let here = not-agrees n w k a v u h sa (sv .0) (su .0) in
+    (((λ e. here (not-first k 1 [] e .0)), tt), first-alike n w k a v u h sa here)
+new-agrees {G} H XOR n g w c k p l r′ a b r s v u h x sa sb bv bu br sv su fl =
+    shares-agree G n w k _ (xorShare g) v u (λ i. refl)
+    (λ i hi ne.
+    let e : 0 + i ≡ i = omega arith in
+    rw e at (share-values XOR n 0 w c (share a) (share b) (xorShare g) r v refl sv i hi)
+    ∙ ap₂ xor (sa .1 i (omega (arith, sa .0)) ne) (sb .1 i (omega (arith, sb .0)) ne)
+    ∙ sym (rw e at (share-values XOR n 0 w c (share a) (share b) (xorShare g) s u refl su i hi)))
+new-agrees H AND n g w c k p l r′ a b r s v u h x sa sb bv bu br sv su fl = (
+  and-kept H n (andPart g) (λ q. refl) w c k a b r s v u sa sb bv bu br sv su fl,
+  and-alike H n (andPart g) (λ q. refl) w c k a b r s v u sa sb bv bu br sv su fl,
+)
 new-agrees H RANDOM n g w c k p l r′ a b r s v u h x sa sb bv bu br sv su fl = absurd x
+new-agrees {G} H CONSTANT n g w c k p l r′ a b r s v u h x sa sb bv bu br sv su fl =
+    let value : ℕ → ℕ = λ i. cond (eqb i 0) l 0 in
+    shares-agree G n w k _ (constantShare g) v u (λ i. refl)
+    (λ i hi ne.
+    share-values CONSTANT n 0 w c value (λ i. 0) (constantShare g) r v refl sv i hi
+    ∙ sym (share-values CONSTANT n 0 w c value (λ i. 0) (constantShare g) s u refl su i hi))
+new-agrees {G} H OR n g w c k p l r′ a b r s v u h x sa sb bv bu br sv su fl =
+    let t = suc (suc w) in
+    let part : Part → Origin = λ p. orPart g (inAnd p) in
+    let one = or-solves G l n g w c a b r v sv in
+    let other = or-solves G l n g w c a b s u su in
+    let left = not-agrees n w k a v u h sa (one .left) (other .left) in
+    let right = not-agrees n (suc w) k b v u h sb (one .right) (other .right) in
+    let A = first-alike n w k a v u h sa left in
+    let B = first-alike n (suc w) k b v u h sb right in
+    let flips = first-not-flips G n k w a b v u (one .left) (one .right) (other .left) (other .right) in
+    let F : (q : ℕ) → q < tri n
+    → s (c + q) ≡ xor (r (c + q)) (getD (gateFlips G AND n k (firstOn w a) (firstOn (suc w) b) v u) q 0) =
+    λ q hq. fl q hq ∙ ap (λ (fs : List ℕ). xor (r (c + q)) (getD fs q 0)) flips in
+    let kept = and-kept H n part (λ q. refl) t c k _ _ r s v u A B bv bu br (one .product) (other .product) F in
+    let product = and-alike H n part (λ q. refl) t c k _ _ r s v u A B bv bu br (one .product) (other .product) F in
+    let last = not-agrees n (t + andCost n) k (andShares n t) v u h product (one .last) (other .last) in
+    let end = wire (gate NOT (share (andShares n t) 0) 0) (orPart g lastNot) ∷ [] in
+    let long : t + andCost n ≡ t + length (orAnd G n g w a b) =
+    ap (λ (y : ℕ). t + y) (sym (and-length G n part t (firstOn w a) (firstOn (suc w) b))) in (
+      (
+        (λ e. left (not-first k 1 [] e .0)),
+        (
+          (λ e. right (not-first k 1 [] e .0)),
+          each-append _ t (orAnd G n g w a b) end kept
+              (subst (λ (y : ℕ). Each (Kept G k v u) y end) long ((λ e. last (not-first k 1 [] e .0)), tt)),
+        ),
+      ),
+      first-alike n (t + andCost n) k (andShares n t) v u h product last,
+    )
 new-agrees H (UNKNOWN d) n g w c k p l r′ a b r s v u h x sa sb bv bu br sv su fl = absurd x
-
-new-shares-length :
-    (kd : Kind) (n w p l r : ℕ) (a : List ℕ) → 1 ≤ n → PlainGate p kd l r → length a ≡ n
-    → length (newShares kd n w a) ≡ n
-new-shares-length NOT n w p l r a h x e = omega (arith, length-drop 1 a)
-new-shares-length XOR n w p l r a h x e = up-length n w _
-new-shares-length AND n w p l r a h x e = up-length n 0 _
-new-shares-length RANDOM n w p l r a h x e = absurd x
-new-shares-length (UNKNOWN c) n w p l r a h x e = absurd x
-
--- the operands of a plain gate, of wires that all have a property
-left-of :
-    (P : List ℕ → Type 0) (kd : Kind) (l r : ℕ) (S : List (List ℕ)) → PlainGate (length S) kd l r → All P S
-    → P (getD S l [])
-left-of P NOT l r S x A = all-getD P S l [] A x
-left-of P XOR l r S x A = all-getD P S l [] A (x .0)
-left-of P AND l r S x A = all-getD P S l [] A (x .0)
-left-of P RANDOM l r S x A = absurd x
-left-of P (UNKNOWN c) l r S x A = absurd x
-
-right-of :
-    (P : List ℕ → Type 0) (kd : Kind) (l r : ℕ) (S : List (List ℕ)) → PlainGate (length S) kd l r → All P S
-    → OfRight kd (P (getD S r []))
-right-of P NOT l r S x A = tt
-right-of P XOR l r S x A = all-getD P S r [] A (x .1)
-right-of P AND l r S x A = all-getD P S r [] A (x .1)
-right-of P RANDOM l r S x A = absurd x
-right-of P (UNKNOWN c) l r S x A = absurd x
 
 -- the random bits of the second run: the first m and those after them
 flips-split :
@@ -298,17 +330,17 @@ flips-split fs gs m t c r s e h = (
 
 -- the equations of the first gate's wires and of the others
 masked-split :
-    {G : Gadget} (L : Lawful G) (kd : Kind) (n g w c : ℕ) (a b : List ℕ) (rest : List Wire) (r v : ℕ → ℕ)
-    → Solves w c (map driverOf (newWires G kd n g w a b ++ rest)) r v
-    → Solves w c (map driverOf (newWires G kd n g w a b)) r v
+    {G : Gadget} (L : Lawful G) (kd : Kind) (l n g w c : ℕ) (a b : List ℕ) (rest : List Wire) (r v : ℕ → ℕ)
+    → Solves w c (map driverOf (newWires G kd l n g w a b ++ rest)) r v
+    → Solves w c (map driverOf (newWires G kd l n g w a b)) r v
     × Solves (w + cost kd n) (c + draws kd n) (map driverOf rest) r v
-masked-split {G} L kd n g w c a b rest r v s =
-    let ws = newWires G kd n g w a b in
+masked-split {G} L kd l n g w c a b rest r v s =
+    let ws = newWires G kd l n g w a b in
     let t = solves-append w c (map driverOf ws) (map driverOf rest) r v (rw map-append at s) in
     let long : w + length (map driverOf ws) ≡ w + cost kd n =
-    ap (λ (y : ℕ). w + y) (length-map ws driverOf ∙ new-length G kd n g w a b) in
+    ap (λ (y : ℕ). w + y) (length-map ws driverOf ∙ new-length G kd l n g w a b) in
     let bits : c + randoms (map driverOf ws) ≡ c + draws kd n =
-    ap (λ (y : ℕ). c + y) (new-draws L kd n g w a b) in
+    ap (λ (y : ℕ). c + y) (new-draws L kd l n g w a b) in
     (t .0, subst₂ (λ (x y : ℕ). Solves x y (map driverOf rest) r v) long bits (t .1))
 
 -- by induction over the gates; the shares come along, so that clocks can go on from them
@@ -327,22 +359,22 @@ masked-agrees {G} H n g w c k S (y ∷ ys) r s v u h x bv bu br sv su fl A =
     let kd = y .kind in
     let a = getD S (y .left) [] in
     let b = getD S (y .right) [] in
-    let ws = newWires G kd n g w a b in
+    let ws = newWires G kd (y .left) n g w a b in
     let T = S ++ (newShares kd n w a ∷ []) in
     let rest = masked G n (suc g) (w + cost kd n) T ys in
-    let sa = left-of (Alike n v u k) kd (y .left) (y .right) S (x .0) A in
-    let sb = right-of (Alike n v u k) kd (y .left) (y .right) S (x .0) A in
-    let tv = masked-split (H .lawful) kd n g w c a b rest r v sv in
-    let tu = masked-split (H .lawful) kd n g w c a b rest s u su in
+    let reads = plain-reads (length S) kd (y .left) (y .right) (x .0) in
+    let sa = read-left (operandsOf kd) (length S) (y .left) (y .right) reads (all-getD (Alike n v u k) S (y .left) [] A) in
+    let sb = read-right (operandsOf kd) (length S) (y .left) (y .right) reads (all-getD (Alike n v u k) S (y .right) [] A) in
+    let tv = masked-split (H .lawful) kd (y .left) n g w c a b rest r v sv in
+    let tu = masked-split (H .lawful) kd (y .left) n g w c a b rest s u su in
     let fs = flips-split (gateFlips G kd n k a b v u) (gatesFlips G n k (w + cost kd n) T ys v u) (draws kd n)
     (total (λ kd. draws kd n) ys) c r s (gate-flips-length G kd n k a b v u) fl in
     let one = new-agrees H kd n g w c k (length S) (y .left) (y .right) a b r s v u h (x .0) sa sb bv bu br
     (tv .0) (tu .0) (fs .0) in
-    let long : w + cost kd n ≡ w + length ws = ap (λ (z : ℕ). w + z) (sym (new-length G kd n g w a b)) in
+    let long : w + cost kd n ≡ w + length ws = ap (λ (z : ℕ). w + z) (sym (new-length G kd (y .left) n g w a b)) in
     let more : suc (length S) ≡ length T = sym (length-append S (newShares kd n w a ∷ []) ∙ omega arith) in
     let B : All (Alike n v u k) T =
-    all-append _ S (newShares kd n w a ∷ []) A
-    ((new-shares-length kd n w (length S) (y .left) (y .right) a h (x .0) (sa .0), one .1), tt) in
+    all-append _ S (newShares kd n w a ∷ []) A (one .1, tt) in
     let others = masked-agrees H n (suc g) (w + cost kd n) (c + draws kd n) k T ys r s v u h
     (subst (λ (z : ℕ). PlainGates z ys) more (x .1)) bv bu br (tv .1) (tu .1) (fs .1) B in (
       each-append _ w ws rest (one .0) (subst (λ (z : ℕ). Each (Kept G k v u) z rest) long (others .0)),

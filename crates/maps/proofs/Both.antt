@@ -29,7 +29,7 @@ pub left-start :
 left-start R e = record { both = record { mapped = refl; one = refl; other = refl }; ready = R; alike = e }
 
 -- one run after a piece
-run-after :
+pub run-after :
     (gs : List Gate) (rs : List ℕ) (w c : ℕ) {b b′ : List ℕ} → b′ ≡ ranOn gs rs w b → Bits rs → RunsTo w (length gs + c) b
     → RunsTo (w + length gs) c b′
 run-after gs rs w c {b} e bits R =

@@ -3,32 +3,38 @@
 -- Assumes nothing.
 use mathlib.Core.Path.{_≡_, refl, sym, ap, ap₂, _∙_, subst}
 use mathlib.Core.List.{List, [], _∷_, _++_, map, map-append}
-use Prim.Native.Nat.{ℕ, zero, suc, _+_, _≤_, _<_}
+use Prim.Native.Nat.{ℕ, zero, suc, _+_, _-_, _≤_, _<_}
 use native.Mathlib.Omega.{arith}
 use lib.ListN.{length, getD, take, drop, length-append, length-map, length-drop, take-append-drop}
-use lib.Seq.{length-take-le, take-at, drop-at}
-use Rattle.tables.specs.Tables.{Kind, NOT, XOR, AND, RANDOM, UNKNOWN, Gate, total}
+use lib.Seq.{length-take-le, take-at, drop-at, getD-drop}
+use Rattle.tables.specs.Tables.{Kind, NOT, XOR, AND, RANDOM, CONSTANT, OR, UNKNOWN, Gate, operandsOf, total}
 use Rattle.tables.specs.Runs.{runFrom, randoms}
 use Rattle.tables.proofs.Lists.{All, all-map}
 use Rattle.tables.proofs.Accept.{PlainGate, PlainGates}
-use Rattle.tables.proofs.Run.{run-length, run-keep, run-append, run-prefix}
-use Rattle.masks.specs.Shares.{Pair, pairs}
+use Rattle.tables.proofs.Run.{OfLeft, OfRight, run-length, run-keep, run-append, run-prefix}
+use Rattle.masks.specs.Shares.{Pair, pairs, tri}
 use Rattle.masks.specs.Gadgets.{differs, Gadget}
-use Rattle.masks.specs.Wires.{driverOf, share, newWires, newShares, cost, draws, masked}
+use Rattle.masks.specs.Wires.{driverOf, share, firstOn, newWires, newShares, cost, draws, masked}
 use Rattle.masks.proofs.Rows.{pairs-length, pairs-in}
 use Rattle.masks.proofs.Lawful.{Lawful}
 use Rattle.masks.proofs.Costs.{new-length, new-draws, all-of}
 use Rattle.masks.proofs.Placed.{Placed, share-below, placed-at, placed-step}
-use Rattle.maps.specs.Maps.{flipped, pairFlip, gateFlips, mapGates}
+use Rattle.maps.specs.Maps.{flipped, pairFlip, andFlips, valuesOf, firstNot, gateFlips, mapGates}
 use Rattle.maps.specs.Laws.{gatesFlips}
 use Rattle.maps.proofs.Inputs.{flipped-length, flipped-append, flipped-nil, zero-append}
+
+and-flips-length :
+    (G : Gadget) (n k : ℕ) (a b a′ b′ : ℕ → ℕ) → length (andFlips G n k a b a′ b′) ≡ tri n
+and-flips-length G n k a b a′ b′ = length-map (pairs n) (pairFlip G k a b a′ b′) ∙ pairs-length n 0
 
 pub gate-flips-length :
     (G : Gadget) (kd : Kind) (n k : ℕ) (a b : List ℕ) (v u : ℕ → ℕ) → length (gateFlips G kd n k a b v u) ≡ draws kd n
 gate-flips-length G NOT n k a b v u = refl
 gate-flips-length G XOR n k a b v u = refl
-gate-flips-length G AND n k a b v u = length-map (pairs n) (pairFlip G k a b v u) ∙ pairs-length n 0
+gate-flips-length G AND n k a b v u = and-flips-length G n _ _ _ _ _
 gate-flips-length G RANDOM n k a b v u = refl
+gate-flips-length G CONSTANT n k a b v u = refl
+gate-flips-length G OR n k a b v u = and-flips-length G n _ _ _ _ _
 gate-flips-length G (UNKNOWN c) n k a b v u = refl
 
 pub gates-flips-length :
@@ -45,33 +51,63 @@ unfolding All
 map-same f g [] a = refl
 map-same f g (x ∷ xs) a = ap₂ (λ (y : ℕ) (ys : List ℕ). y ∷ ys) (a .0) (map-same f g xs (a .1))
 
--- two runs agree on the wires before w
-abbrev SameBelow : ℕ → (ℕ → ℕ) → (ℕ → ℕ) → Type 0
+-- two runs agree on the wires before w, or two lists of values on the first w
+abbrev pub SameBelow : ℕ → (ℕ → ℕ) → (ℕ → ℕ) → Type 0
 SameBelow w v v′ = (q : ℕ) → q < w → v q ≡ v′ q
 
-differs-local :
-    (w a b : ℕ) (v u v′ u′ : ℕ → ℕ) → a < w → b < w → SameBelow w v v′ → SameBelow w u u′
-    → differs v u a b ≡ differs v′ u′ a b
-differs-local w a b v u v′ u′ ha hb ev eu = rw (ev a ha, ev b hb, eu a ha, eu b hb)
+differs-same :
+    {x y x′ y′ z t z′ t′ : ℕ} → x ≡ z → y ≡ t → x′ ≡ z′ → y′ ≡ t′ → differs x y x′ y′ ≡ differs z t z′ t′
+differs-same p q p′ q′ = rw (p, q, p′, q′)
 
--- what pairs flip depends on the wires of both operands' shares alone
-pub pairs-flips-local :
-    (G : Gadget) (n k w : ℕ) (a b : List ℕ) (v u v′ u′ : ℕ → ℕ) (ps : List Pair)
-    → All (λ p. (p .lower < p .upper) × (p .upper < n)) ps → ((i : ℕ) → i < n → share a i < w)
-    → ((i : ℕ) → i < n → share b i < w) → SameBelow w v v′ → SameBelow w u u′
-    → map (pairFlip G k a b v u) ps ≡ map (pairFlip G k a b v′ u′) ps
-pairs-flips-local G n k w a b v u v′ u′ ps inside sa sb ev eu =
-    map-same (pairFlip G k a b v u) (pairFlip G k a b v′ u′) ps
+-- what pairs flip depends on the values of the shares alone
+pub pairs-flips-same :
+    (G : Gadget) (n k : ℕ) (a b a′ b′ c d c′ d′ : ℕ → ℕ) (ps : List Pair)
+    → All (λ p. (p .lower < p .upper) × (p .upper < n)) ps → SameBelow n a c → SameBelow n b d → SameBelow n a′ c′
+    → SameBelow n b′ d′ → map (pairFlip G k a b a′ b′) ps ≡ map (pairFlip G k c d c′ d′) ps
+pairs-flips-same G n k a b a′ b′ c d c′ d′ ps inside ea eb ea′ eb′ =
+    map-same (pairFlip G k a b a′ b′) (pairFlip G k c d c′ d′) ps
     (all-map _ _
     (λ p h.
     let i = p .lower in
     let j = p .upper in
     let hi : i < n = omega arith in
+    let hj : j < n = h .1 in
     ap₂ (G .flip k (suc i) (suc j))
-    (differs-local w _ _ v u v′ u′ (sa i hi) (sb j (h .1)) ev eu)
-    (differs-local w _ _ v u v′ u′ (sa j (h .1)) (sb i hi) ev eu))
+    (differs-same (ea i hi) (eb j hj) (ea′ i hi) (eb′ j hj))
+    (differs-same (ea j hj) (eb i hi) (ea′ j hj) (eb′ i hi)))
     ps
     inside)
+
+pub first-not-same : {n : ℕ} {a c : ℕ → ℕ} → SameBelow n a c → SameBelow n (firstNot a) (firstNot c)
+first-not-same e zero h = ap (λ (y : ℕ). 1 - y) (e 0 h)
+first-not-same e (suc s) h = e (suc s) h
+
+pub drop-share : (a : List ℕ) (i : ℕ) → share (drop 1 a) i ≡ share a (suc i)
+drop-share a i = getD-drop 1 a i 0 ∙ ap (share a) {x = 1 + i} {y = suc i} (omega arith)
+
+first-not-values :
+    (a : List ℕ) (w : ℕ) (v : ℕ → ℕ) → v w ≡ 1 - v (share a 0) → (s : ℕ)
+    → firstNot (valuesOf v a) s ≡ valuesOf v (firstOn w a) s
+first-not-values a w v e zero = sym e
+first-not-values a w v e (suc s) = ap v (sym (drop-share a s))
+
+-- an OR flips what an AND flips whose operands' first shares are on the OR's first two wires, where these have their values
+pub first-not-flips :
+    (G : Gadget) (n k w : ℕ) (a b : List ℕ) (v u : ℕ → ℕ) → v w ≡ 1 - v (share a 0) → v (suc w) ≡ 1 - v (share b 0)
+    → u w ≡ 1 - u (share a 0) → u (suc w) ≡ 1 - u (share b 0)
+    → gateFlips G OR n k a b v u ≡ gateFlips G AND n k (firstOn w a) (firstOn (suc w) b) v u
+first-not-flips G n k w a b v u va vb ua ub =
+    pairs-flips-same G n k _ _ _ _ _ _ _ _ (pairs n) (pairs-in n)
+    (λ s _. first-not-values a w v va s)
+    (λ s _. first-not-values b (suc w) v vb s)
+    (λ s _. first-not-values a w u ua s)
+    (λ s _. first-not-values b (suc w) u ub s)
+
+-- the shares of a plain wire, in runs that agree on the wires before w
+read-same :
+    (n w l : ℕ) (S : List (List ℕ)) (v v′ : ℕ → ℕ) → Placed n w S → l < length S → SameBelow w v v′
+    → SameBelow n (valuesOf v (getD S l [])) (valuesOf v′ (getD S l []))
+read-same n w l S v v′ P h e i hi = e _ (share-below n w (getD S l []) (placed-at n w S l P h) i hi)
 
 -- what a gate flips depends on the wires of its operands' shares alone
 pub gate-flips-local :
@@ -81,16 +117,46 @@ pub gate-flips-local :
 gate-flips-local G NOT n k w l r S v u v′ u′ g P ev eu = refl
 gate-flips-local G XOR n k w l r S v u v′ u′ g P ev eu = refl
 gate-flips-local G AND n k w l r S v u v′ u′ g P ev eu =
-    pairs-flips-local G n k w (getD S l []) (getD S r []) v u v′ u′ (pairs n) (pairs-in n)
-    (share-below n w (getD S l []) (placed-at n w S l P (g .0)))
-    (share-below n w (getD S r []) (placed-at n w S r P (g .1)))
-    ev
-    eu
+    pairs-flips-same G n k _ _ _ _ _ _ _ _ (pairs n) (pairs-in n)
+    (read-same n w l S v v′ P (g .0) ev)
+    (read-same n w r S v v′ P (g .1) ev)
+    (read-same n w l S u u′ P (g .0) eu)
+    (read-same n w r S u u′ P (g .1) eu)
 gate-flips-local G RANDOM n k w l r S v u v′ u′ g P ev eu = refl
+gate-flips-local G CONSTANT n k w l r S v u v′ u′ g P ev eu = refl
+gate-flips-local G OR n k w l r S v u v′ u′ g P ev eu =
+    pairs-flips-same G n k _ _ _ _ _ _ _ _ (pairs n) (pairs-in n)
+    (first-not-same (read-same n w l S v v′ P (g .0) ev))
+    (first-not-same (read-same n w r S v v′ P (g .1) ev))
+    (first-not-same (read-same n w l S u u′ P (g .0) eu))
+    (first-not-same (read-same n w r S u u′ P (g .1) eu))
 gate-flips-local G (UNKNOWN c) n k w l r S v u v′ u′ g P ev eu = refl
 
-differs-sym : (v u : ℕ → ℕ) (a b : ℕ) → differs v u a b ≡ differs u v a b
-differs-sym v u a b = omega arith
+-- an operand's shares matter only where it is read
+pub gate-flips-read :
+    (G : Gadget) (kd : Kind) (n k : ℕ) (a a′ b b′ : List ℕ) (v u : ℕ → ℕ) → OfLeft (operandsOf kd) (a ≡ a′)
+    → OfRight (operandsOf kd) (b ≡ b′) → gateFlips G kd n k a b v u ≡ gateFlips G kd n k a′ b′ v u
+gate-flips-read G NOT n k a a′ b b′ v u e f = refl
+gate-flips-read G XOR n k a a′ b b′ v u e f = refl
+gate-flips-read G AND n k a a′ b b′ v u e f = ap₂ (λ (x y : List ℕ). gateFlips G AND n k x y v u) e f
+gate-flips-read G RANDOM n k a a′ b b′ v u e f = refl
+gate-flips-read G CONSTANT n k a a′ b b′ v u e f = refl
+gate-flips-read G OR n k a a′ b b′ v u e f = ap₂ (λ (x y : List ℕ). gateFlips G OR n k x y v u) e f
+gate-flips-read G (UNKNOWN c) n k a a′ b b′ v u e f = refl
+
+differs-sym : (x y x′ y′ : ℕ) → differs x y x′ y′ ≡ differs x′ y′ x y
+differs-sym x y x′ y′ = omega arith
+
+and-flips-sym :
+    (G : Gadget) (n k : ℕ) (a b a′ b′ : ℕ → ℕ) → andFlips G n k a b a′ b′ ≡ andFlips G n k a′ b′ a b
+and-flips-sym G n k a b a′ b′ =
+    map-same (pairFlip G k a b a′ b′) (pairFlip G k a′ b′ a b) (pairs n)
+    (all-of _
+    (λ p.
+    ap₂ (G .flip k (suc (p .lower)) (suc (p .upper)))
+    (differs-sym (a (p .lower)) (b (p .upper)) (a′ (p .lower)) (b′ (p .upper)))
+    (differs-sym (a (p .upper)) (b (p .lower)) (a′ (p .upper)) (b′ (p .lower))))
+    (pairs n))
 
 -- swapping the runs changes nothing
 gate-flips-sym :
@@ -98,12 +164,10 @@ gate-flips-sym :
     → gateFlips G kd n k a b v u ≡ gateFlips G kd n k a b u v
 gate-flips-sym G NOT n k a b v u = refl
 gate-flips-sym G XOR n k a b v u = refl
-gate-flips-sym G AND n k a b v u =
-    map-same (pairFlip G k a b v u) (pairFlip G k a b u v) (pairs n)
-    (all-of _
-    (λ p. ap₂ (G .flip k (suc (p .lower)) (suc (p .upper))) (differs-sym v u _ _) (differs-sym v u _ _))
-    (pairs n))
+gate-flips-sym G AND n k a b v u = and-flips-sym G n k _ _ _ _
 gate-flips-sym G RANDOM n k a b v u = refl
+gate-flips-sym G CONSTANT n k a b v u = refl
+gate-flips-sym G OR n k a b v u = and-flips-sym G n k _ _ _ _
 gate-flips-sym G (UNKNOWN c) n k a b v u = refl
 
 pub gates-flips-sym :
@@ -119,8 +183,20 @@ map-none f [] h i = refl
 map-none f (x ∷ xs) h zero = h x
 map-none f (x ∷ xs) h (suc i) = map-none f xs h i
 
-differs-none : (v : ℕ → ℕ) (a b : ℕ) → differs v v a b ≡ 0
-differs-none v a b = omega arith
+differs-none : (x y : ℕ) → differs x y x y ≡ 0
+differs-none x y = omega arith
+
+and-flips-none :
+    (G : Gadget) → ((k i j : ℕ) → G .flip k i j 0 0 ≡ 0) → (n k : ℕ) (a b : ℕ → ℕ) (i : ℕ)
+    → getD (andFlips G n k a b a b) i 0 ≡ 0
+and-flips-none G none n k a b i =
+    map-none (pairFlip G k a b a b) (pairs n)
+    (λ p.
+    ap₂ (G .flip k (suc (p .lower)) (suc (p .upper)))
+    (differs-none (a (p .lower)) (b (p .upper)))
+    (differs-none (a (p .upper)) (b (p .lower)))
+    ∙ none k (suc (p .lower)) (suc (p .upper)))
+    i
 
 -- one run against itself flips nothing
 gate-flips-none :
@@ -128,13 +204,10 @@ gate-flips-none :
     → getD (gateFlips G kd n k a b v v) i 0 ≡ 0
 gate-flips-none G none NOT n k a b v i = refl
 gate-flips-none G none XOR n k a b v i = refl
-gate-flips-none G none AND n k a b v i =
-    map-none (pairFlip G k a b v v) (pairs n)
-    (λ p.
-    ap₂ (G .flip k (suc (p .lower)) (suc (p .upper))) (differs-none v _ _) (differs-none v _ _)
-    ∙ none k (suc (p .lower)) (suc (p .upper)))
-    i
+gate-flips-none G none AND n k a b v i = and-flips-none G none n k _ _ i
 gate-flips-none G none RANDOM n k a b v i = refl
+gate-flips-none G none CONSTANT n k a b v i = refl
+gate-flips-none G none OR n k a b v i = and-flips-none G none n k _ _ i
 gate-flips-none G none (UNKNOWN c) n k a b v i = refl
 
 pub gates-flips-none :
@@ -213,7 +286,7 @@ module _ {G : Gadget} (L : Lawful G) (n k g w : ℕ) (S : List (List ℕ)) (x : 
 
   -- the masked gates of x, and those of xs
   abbrev these : List Gate
-  these = map driverOf (newWires G (x .kind) n g w leftShares rightShares)
+  these = map driverOf (newWires G (x .kind) (x .left) n g w leftShares rightShares)
 
   abbrev others : List Gate
   others = map driverOf (masked G n (suc g) nextWire nextShares xs)
@@ -240,15 +313,15 @@ module _ {G : Gadget} (L : Lawful G) (n k g w : ℕ) (S : List (List ℕ)) (x : 
       runsFlips G n k (suc g) nextWire nextShares xs (drop bitsTaken rs) qs (runFrom these rs vs) (runFrom these ps us)
 
   these-draw : randoms these ≡ bitsTaken
-  these-draw = new-draws L (x .kind) n g w leftShares rightShares
+  these-draw = new-draws L (x .kind) (x .left) n g w leftShares rightShares
 
   next-length : (rs vs : List ℕ) → length vs ≡ w → length (runFrom these rs vs) ≡ nextWire
   next-length rs vs e =
       omega (
         arith,
         run-length these rs vs,
-        length-map (newWires G (x .kind) n g w leftShares rightShares) driverOf,
-        new-length G (x .kind) n g w leftShares rightShares,
+        length-map (newWires G (x .kind) (x .left) n g w leftShares rightShares) driverOf,
+        new-length G (x .kind) (x .left) n g w leftShares rightShares,
       )
 
   -- the complete run is that of the gates that follow, after that of x

@@ -13,7 +13,8 @@ use Rattle.tables.proofs.Tests.{or-false}
 use Rattle.tables.proofs.Lists.{All}
 use Rattle.masks.specs.Shares.{sharesOf}
 use Rattle.masks.specs.Gadgets.{isIn, Gadget}
-use Rattle.masks.specs.Wires.{pair, own, sum, Origin, inputShare, notOf, xorShare, andPart, marks}
+use Rattle.masks.specs.Wires.{Part, pair, own, sum, leftNot, rightNot, lastNot, inAnd, Origin, inputShare, notOf, xorShare, andPart}
+use Rattle.masks.specs.Wires.{constantShare, orPart, partMarks, marks}
 use Rattle.masks.specs.Says.{originAt}
 use Rattle.masks.proofs.Lawful.{Lawful}
 use Rattle.maps.specs.Maps.{ofEach, carried, freeFrom}
@@ -135,14 +136,22 @@ uncarried-each f k (p ∷ ps) h =
     let both = isIn-append k (f p) (ofEach f ps) h in
     (both .0, uncarried-each f k ps (both .1))
 
+part-marks-two : {G : Gadget} → Lawful G → (p : Part) → length (partMarks G p) ≤ 2
+part-marks-two L (pair f i j) = L .few-marks (suc i) (suc j) f
+part-marks-two L (own i) = omega arith
+part-marks-two L (sum i m) = omega arith
+
 -- a wire of a masked table has one or two marks
 pub marks-two : {G : Gadget} → Lawful G → (x : Origin) → length (marks G x) ≤ 2
 marks-two L (inputShare i s) = omega arith
 marks-two L (notOf g) = omega arith
 marks-two L (xorShare g s) = omega arith
-marks-two L (andPart g (pair f i j)) = L .few-marks (suc i) (suc j) f
-marks-two L (andPart g (own i)) = omega arith
-marks-two L (andPart g (sum i m)) = omega arith
+marks-two L (andPart g p) = part-marks-two L p
+marks-two L (constantShare g s) = omega arith
+marks-two L (orPart g leftNot) = omega arith
+marks-two L (orPart g rightNot) = omega arith
+marks-two L (orPart g lastNot) = omega arith
+marks-two L (orPart g (inAnd p)) = part-marks-two L p
 
 -- where fewer than n of the numbers 1 to n are carried, the free share is one of them
 pub free-laws : (n : ℕ) (cs : List ℕ) → carriedCount n 1 cs < n → Free n cs (freeFrom n 1 cs)

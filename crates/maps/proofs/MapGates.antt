@@ -60,7 +60,7 @@ module _ {G : Gadget} (L : Lawful G) {n k g w : ℕ} {S : List (List ℕ)} {x : 
   d = draws (x .kind) n
 
   abbrev these : List Gate
-  these = map driverOf (newWires G (x .kind) n g w l r)
+  these = map driverOf (newWires G (x .kind) (x .left) n g w l r)
 
   abbrev others : List Gate
   others = map driverOf (masked G n (suc g) (w + cost (x .kind) n) (S ++ (newShares (x .kind) n w l ∷ [])) xs)
@@ -78,10 +78,10 @@ module _ {G : Gadget} (L : Lawful G) {n k g w : ℕ} {S : List (List ℕ)} {x : 
   flips-long = gate-flips-length G (x .kind) n k l r (λ p. getD a p 0) (λ p. getD b p 0)
 
   these-long : length these ≡ cost (x .kind) n
-  these-long = length-map (newWires G (x .kind) n g w l r) driverOf ∙ new-length G (x .kind) n g w l r
+  these-long = length-map (newWires G (x .kind) (x .left) n g w l r) driverOf ∙ new-length G (x .kind) (x .left) n g w l r
 
   these-draw : randoms these ≡ d
-  these-draw = new-draws L (x .kind) n g w l r
+  these-draw = new-draws L (x .kind) (x .left) n g w l r
 
   rest-count : total (λ kd. draws kd n) (x ∷ xs) ≡ d + total (λ kd. draws kd n) xs
   unfolding total

@@ -12,8 +12,9 @@ use lib.ListN.{length, take, drop}
 use Rattle.tables.specs.Tables.{Gate}
 use Rattle.tables.specs.Runs.{Bits, xor}
 use Rattle.tables.specs.Inside.{putAt, ranOn, RunsTo}
-use Rattle.masks.specs.Shares.{upFrom}
-use Rattle.maps.specs.Maps.{flipped}
+use Rattle.masks.specs.Shares.{upFrom, Pair}
+use Rattle.masks.specs.Gadgets.{Gadget}
+use Rattle.maps.specs.Maps.{flipped, pairFlip, valuesOf}
 
 -- as many bits of a tape, from a place on, as there are flips
 abbrev pub bitsFor : List ℕ → ℕ → List ℕ → List ℕ
@@ -28,6 +29,10 @@ unfoldable pub eachFlip : ℕ → ℕ → List ℕ → List ℕ → List ℕ
 eachFlip c k [] ys = []
 eachFlip c k (x ∷ xs) [] = []
 eachFlip c k (x ∷ xs) (y ∷ ys) = upFrom c 1 (λ s. cond (eqb s k) (xor x y) 0) ++ eachFlip c k xs ys
+
+-- what one pair flips, by the wires of the shares that the AND multiplies, in the runs v and u
+abbrev pub wiresFlip : Gadget → ℕ → List ℕ → List ℕ → (ℕ → ℕ) → (ℕ → ℕ) → Pair → ℕ
+wiresFlip G k a b v u = pairFlip G k (valuesOf v a) (valuesOf v b) (valuesOf u a) (valuesOf u b)
 
 -- the gates run on from wire w on, with the random bits rs in the first run and ss in the second; the bits m of the mapped tape,
 -- and the values a and b of both runs so far, become m′, a′ and b′

@@ -4,10 +4,10 @@
 -- Assumes nothing.
 use mathlib.Core.Bool.{true, false, cond}
 use mathlib.Core.List.{List, [], _∷_, _++_, map}
-use Prim.Native.Nat.{ℕ, zero, suc, _+_, _*_}
+use Prim.Native.Nat.{ℕ, zero, suc, _+_, _-_, _*_}
 use lib.Dec.{eqb}
 use lib.ListN.{length, getD, take, drop}
-use Rattle.tables.specs.Tables.{Kind, NOT, XOR, AND, RANDOM, UNKNOWN, Gate, Table}
+use Rattle.tables.specs.Tables.{Kind, NOT, XOR, AND, RANDOM, CONSTANT, OR, UNKNOWN, Gate, Table}
 use Rattle.tables.specs.Runs.{xor, runFrom}
 use Rattle.masks.specs.Shares.{sharesOf, upFrom, Pair, pairs}
 use Rattle.masks.specs.Gadgets.{isIn, differs, Gadget}
@@ -50,19 +50,39 @@ inputFlips o k (x ∷ xs) [] = []
 inputFlips o k (x ∷ xs) (y ∷ ys) =
     upFrom (2 * o) 1 (λ s. cond (eqb s k) (xor x y) 0) ++ inputFlips o k xs ys
 
--- what one pair flips
-abbrev pub pairFlip : Gadget → ℕ → List ℕ → List ℕ → (ℕ → ℕ) → (ℕ → ℕ) → Pair → ℕ
-pairFlip G k a b v u p =
+-- what one pair flips: a and b give the values of the shares that the AND multiplies in the first run, a′ and b′ in the second
+abbrev pub pairFlip : Gadget → ℕ → (ℕ → ℕ) → (ℕ → ℕ) → (ℕ → ℕ) → (ℕ → ℕ) → Pair → ℕ
+pairFlip G k a b a′ b′ p =
     let i = p .lower in
     let j = p .upper in
-    G .flip k (suc i) (suc j) (differs v u (share a i) (share b j)) (differs v u (share a j) (share b i))
+    G .flip k (suc i) (suc j) (differs (a i) (b j) (a′ i) (b′ j)) (differs (a j) (b i) (a′ j) (b′ i))
 
--- what a plain gate flips of its random bits: "In each AND, z(k,j) for j>k is flipped if a_k·b_j⊕a_j·b_k differs"
+-- "In each AND, z(k,j) for j>k is flipped if a_k·b_j⊕a_j·b_k differs"
+abbrev pub andFlips : Gadget → ℕ → ℕ → (ℕ → ℕ) → (ℕ → ℕ) → (ℕ → ℕ) → (ℕ → ℕ) → List ℕ
+andFlips G n k a b a′ b′ = map (pairFlip G k a b a′ b′) (pairs n)
+
+-- the values of shares in a run
+abbrev pub valuesOf : (ℕ → ℕ) → List ℕ → ℕ → ℕ
+valuesOf v a s = v (share a s)
+
+-- the NOT of share 1, and the other shares
+abbrev pub firstNot : (ℕ → ℕ) → ℕ → ℕ
+firstNot a zero = 1 - a 0
+firstNot a (suc s) = a (suc s)
+
+-- what a plain gate flips of its random bits: those of its AND, also where this is inside an OR
 abbrev pub gateFlips : Gadget → Kind → ℕ → ℕ → List ℕ → List ℕ → (ℕ → ℕ) → (ℕ → ℕ) → List ℕ
 gateFlips G NOT n k a b v u = []
 gateFlips G XOR n k a b v u = []
-gateFlips G AND n k a b v u = map (pairFlip G k a b v u) (pairs n)
+gateFlips G AND n k a b v u = andFlips G n k (valuesOf v a) (valuesOf v b) (valuesOf u a) (valuesOf u b)
 gateFlips G RANDOM n k a b v u = []
+gateFlips G CONSTANT n k a b v u = []
+gateFlips G OR n k a b v u =
+    andFlips G n k
+    (firstNot (valuesOf v a))
+    (firstNot (valuesOf v b))
+    (firstNot (valuesOf u a))
+    (firstNot (valuesOf u b))
 gateFlips G (UNKNOWN c) n k a b v u = []
 
 -- "the ANDs in table order": from gate g and wire w on, where S lists the shares so far, rs are the random bits of the first
@@ -74,7 +94,7 @@ mapGates G n k g w S (x ∷ xs) rs vs us =
     let b = getD S (x .right) [] in
     let fs = gateFlips G (x .kind) n k a b (λ p. getD vs p 0) (λ p. getD us p 0) in
     let ss = flipped (take (length fs) rs) fs in
-    let gs = map driverOf (newWires G (x .kind) n g w a b) in
+    let gs = map driverOf (newWires G (x .kind) (x .left) n g w a b) in
     ss
     ++ mapGates G n k (suc g) (w + cost (x .kind) n)
     (S ++ (newShares (x .kind) n w a ∷ []))

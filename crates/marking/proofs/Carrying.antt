@@ -1,15 +1,16 @@
 -- The share numbers that wires carry, for each case that the code tells apart.
 -- Assumes nothing.
-use mathlib.Core.Path.{_≡_, refl, sym}
-use mathlib.Core.Bool.{true, false}
+use mathlib.Core.Path.{_≡_, refl, sym, _∙_}
+use mathlib.Core.Bool.{Bool, true, false, _||_, cond}
 use mathlib.Core.List.{List, [], _∷_}
-use Prim.Native.Nat.{ℕ, zero, suc, _+_, _*_, _%_, _≤_, _<_}
+use Prim.Native.Nat.{ℕ, zero, suc, _+_, _-_, _*_, _%_, _≤_, _<_}
 use native.Mathlib.Numerals.{add-one}
 use native.Mathlib.Omega.{arith}
-use borrow.Author.Tests.{le-leb, lt-leb}
-use lib.Dec.{leb}
+use borrow.Author.Tests.{ltb-true, ltb-false, eqb-true, eqb-false, le-leb, lt-leb}
+use Rattle.tables.proofs.Tests.{or-false}
+use lib.Dec.{eqb, ltb, leb}
 use Rattle.tables.specs.Refusals.{fault, none}
-use Rattle.tables.specs.Tables.{kindOf, AND, wires, tableOf}
+use Rattle.tables.specs.Tables.{XOR, AND, CONSTANT, OR, kindOf, gate, wires, tableOf}
 use Rattle.tables.specs.declared.Refusal as DR
 use Rattle.sizing.specs.declared.Plan as DP
 use Rattle.marking.specs.declared.NewWire as DW
@@ -18,14 +19,15 @@ use Rattle.marking.specs.declared.AndPart as DA
 use Rattle.marking.specs.declared.AndPart.the-variants.{Pair, Own, Sum}
 use Rattle.masks.specs.Shares.{sharesOf}
 use Rattle.masks.specs.Gadgets.{iswMarks, isw}
-use Rattle.masks.specs.Wires.{andPart, marks, cost, maskedTable, origins}
+use Rattle.masks.specs.Wires.{inAnd, xorShare, andPart, constantShare, orPart, partMarks, marks, share, firstOn, andCost, cost}
+use Rattle.masks.specs.Wires.{maskedTable, origins}
 use Rattle.masks.specs.Says.{plainFault, originAt, marksFault, MarksSay}
 use Rattle.sizing.specs.declared.Planned.the-variants as Planned
 use Rattle.sizing.specs.Plans.{PlanReady, PlanSays}
 use Rattle.sizing.proofs.Planning.{Planned-Ready, planned-refused}
 use Rattle.tables.proofs.Answers.{refused-fails, first-of}
 use Rattle.marking.specs.Origins.{fiveOf, partOf, Among, PartSays, CarriedSays, PartMarksSay, GateMarksSay, NewWireSays}
-use Rattle.marking.proofs.Origins.{origins-input, not-origin, xor-origin}
+use Rattle.marking.proofs.Origins.{origins-input, not-origin, share-origin, first-origin, last-origin, inner-origin}
 
 -- one share number, or two
 abbrev pub one : ℕ → DC.Carried
@@ -34,13 +36,12 @@ one i = record { first = i + 1; second = 0 }
 abbrev pub both : ℕ → ℕ → DC.Carried
 both i j = record { first = i + 1; second = j + 1 }
 
-is-one : {p : DA.AndPart} (i : ℕ) → ((g : ℕ) → marks isw (andPart g (partOf p)) ≡ suc i ∷ []) → PartMarksSay p (one i)
-is-one i h = record { carried = λ g. record { first = rw h (add-one i); second = rw h } }
+is-one : {p : DA.AndPart} (i : ℕ) → partMarks isw (partOf p) ≡ suc i ∷ [] → PartMarksSay p (one i)
+is-one i h = record { carried = record { first = rw h (add-one i); second = rw h } }
 
 is-both :
-    {p : DA.AndPart} (i j : ℕ) → ((g : ℕ) → marks isw (andPart g (partOf p)) ≡ suc i ∷ suc j ∷ [])
-    → PartMarksSay p (both i j)
-is-both i j h = record { carried = λ g. record { first = rw h (add-one i); second = rw h (add-one j) } }
+    {p : DA.AndPart} (i j : ℕ) → partMarks isw (partOf p) ≡ suc i ∷ suc j ∷ [] → PartMarksSay p (both i j)
+is-both i j h = record { carried = record { first = rw h (add-one i); second = rw h (add-one j) } }
 
 middle : (f i j : ℕ) → (f ≡ 0 → ⊥) → f < 4 → iswMarks (suc i) (suc j) (fiveOf f) ≡ suc i ∷ suc j ∷ []
 middle zero i j h k = absurd (h refl)
@@ -62,69 +63,117 @@ module _ {p : DA.AndPart} (f i j : ℕ) (e : p ≡ Pair f i j) where
 
   -- z(i,j)
   pub first-marks : f ≡ 0 → PartMarksSay p (one i)
-  first-marks h = rw (e, h) (is-one i (λ g. refl))
+  first-marks h = rw (e, h) (is-one i refl)
 
   -- a_i·b_j, z(i,j)⊕a_i·b_j and a_j·b_i
   pub middle-marks : (f ≡ 0 → ⊥) → f < 4 → PartMarksSay p (both i j)
-  middle-marks h k = rw e (is-both i j (λ g. middle f i j h k))
+  middle-marks h k = rw e (is-both i j (middle f i j h k))
 
   -- z(j,i)
   pub last-marks : 4 ≤ f → PartMarksSay p (one j)
-  last-marks h = rw e (is-one j (λ g. last f i j h))
+  last-marks h = rw e (is-one j (last f i j h))
 
 module _ {p : DA.AndPart} (i : ℕ) (e : p ≡ Own i) where
   pub own-among : {n : ℕ} → Among n p → i < n
   own-among a = rw e at a
 
   pub own-marks : PartMarksSay p (one i)
-  own-marks = rw e (is-one i (λ g. refl))
+  own-marks = rw e (is-one i refl)
 
 module _ {p : DA.AndPart} (i m : ℕ) (e : p ≡ Sum i m) where
   pub sum-among : {n : ℕ} → Among n p → i < n
   sum-among a = (rw e at a) .0
 
   pub sum-marks : PartMarksSay p (one i)
-  sum-marks = rw e (is-one i (λ g. refl))
+  sum-marks = rw e (is-one i refl)
+
+-- share 1 alone
+first-alone : {ms : List ℕ} → ms ≡ 1 ∷ [] → CarriedSays ms (record { first = 1; second = 0 })
+first-alone e = rw e (record { first = refl; second = refl })
+
+-- new wire d of an OR, whose last one is number e
+module _ (n d : ℕ) {e : ℕ} (last : e ≡ 2 + andCost n) where
+  pub or-not-marks : ltb d 2 || eqb d e ≡ true → GateMarksSay OR n d (record { first = 1; second = 0 })
+  or-not-marks h = go (ltb d 2) refl h
+    where
+      go : (t : Bool) → ltb d 2 ≡ t → t || eqb d e ≡ true → GateMarksSay OR n d (record { first = 1; second = 0 })
+      go true t h = record { carried = λ l g w a b. first-alone (first-origin isw l n g w a b d (ltb-true d 2 t)) }
+      go false t h = record { carried = λ l g w a b. first-alone (last-origin isw l n g w a b d (eqb-true d e h ∙ last)) }
+
+  -- a wire of the AND
+  module _ (h : ltb d 2 || eqb d e ≡ false) (below : d < cost OR n) where
+    pub inner : (2 ≤ d) × (d < 2 + andCost n)
+    inner =
+        let both = or-false (ltb d 2) (eqb d e) h in
+        let other = eqb-false d e (both .1) in
+        (ltb-false d 2 (both .0), omega (arith, other, last))
+
+    pub or-and-marks :
+        {p : DA.AndPart} {r : DC.Carried} → PartSays n (d - 2) p → PartMarksSay p r → GateMarksSay OR n d r
+    or-and-marks P M =
+        record {
+          carried = λ l g w a b.
+              rw (inner-origin isw l n g w a b d (inner .0) (inner .1), P .origin isw (λ p. orPart g (inAnd p)) (suc (suc w)) (firstOn w a) (firstOn (suc w) b))
+              (M .carried);
+        }
 
 -- new wire d of the gate of kind k
 module _ (k n d : ℕ) (h : d < cost (kindOf k) n) where
   pub not-marks : k ≡ 0 → GateMarksSay (kindOf k) n d (record { first = 1; second = 0 })
   not-marks e =
       let small : d < 1 = rw e at h in
-      rw e
-      (record {
-        carried = λ g w a b. rw (not-origin isw n g w a b d small) (record { first = refl; second = refl });
-      })
+      rw e (record { carried = λ l g w a b. rw (not-origin isw l n g w a b d small) (record { first = refl; second = refl }) })
 
-  pub xor-below : k ≡ 1 → d < n
-  xor-below e = rw e at h
+  -- an XOR or a constant
+  pub share-below : eqb k 1 || eqb k 4 ≡ true → d < n
+  share-below e = go (eqb k 1) refl e
+    where
+      go : (t : Bool) → eqb k 1 ≡ t → t || eqb k 4 ≡ true → d < n
+      go true t e = rw (eqb-true k 1 t) at h
+      go false t e = rw (eqb-true k 4 e) at h
 
-  pub xor-marks : k ≡ 1 → GateMarksSay (kindOf k) n d (one d)
-  xor-marks e =
-      rw e
-      (record {
-        carried = λ g w a b. rw (xor-origin isw n g w a b d (xor-below e)) (record { first = add-one d; second = refl });
-      })
+  pub share-marks : eqb k 1 || eqb k 4 ≡ true → GateMarksSay (kindOf k) n d (one d)
+  share-marks e = go (eqb k 1) refl e (share-below e)
+    where
+      go : (t : Bool) → eqb k 1 ≡ t → t || eqb k 4 ≡ true → d < n → GateMarksSay (kindOf k) n d (one d)
+      go true t e below =
+          rw (eqb-true k 1 t)
+          (record {
+            carried = λ l g w a b.
+                rw (share-origin n (λ s. gate XOR (share a s) (share b s)) (xorShare g) d below) (record { first = add-one d; second = refl });
+          })
+      go false t e below =
+          rw (eqb-true k 4 e)
+          (record {
+            carried = λ l g w a b.
+                rw (share-origin n (λ s. gate CONSTANT (cond (eqb s 0) l 0) 0) (constantShare g) d below)
+                (record { first = add-one d; second = refl });
+          })
 
-  -- a gate with new wires that is neither a NOT nor an XOR
-  module _ (no : k ≡ 0 → ⊥) (nx : k ≡ 1 → ⊥) where
-    is-and : kindOf k ≡ AND
-    is-and = go k no nx h
-      where
-        go : (k : ℕ) → (k ≡ 0 → ⊥) → (k ≡ 1 → ⊥) → d < cost (kindOf k) n → kindOf k ≡ AND
-        go zero a b h = absurd (a refl)
-        go (suc zero) a b h = absurd (b refl)
-        go (suc (suc zero)) a b h = refl
-        go (suc (suc (suc zero))) a b h = absurd (omega arith)
-        go (suc (suc (suc (suc k)))) a b h = absurd (omega arith)
+  pub and-below : k ≡ 2 → d < cost AND n
+  and-below e = rw e at h
 
-    pub and-below : d < cost AND n
-    and-below = rw is-and at h
+  pub and-marks :
+      {p : DA.AndPart} {r : DC.Carried} → k ≡ 2 → PartSays n d p → PartMarksSay p r → GateMarksSay (kindOf k) n d r
+  and-marks e P M = rw e (record { carried = λ l g w a b. rw (P .origin isw (andPart g) w a b) (M .carried) })
 
-    pub and-marks :
-        {p : DA.AndPart} {r : DC.Carried} → PartSays n d p → PartMarksSay p r → GateMarksSay (kindOf k) n d r
-    and-marks P M =
-        rw is-and (record { carried = λ g w a b. rw (P .origin isw g w a b) (M .carried g) })
+  -- a gate with new wires of no other kind
+  pub is-or : (k ≡ 0 → ⊥) → eqb k 1 || eqb k 4 ≡ false → (k ≡ 2 → ⊥) → kindOf k ≡ OR
+  is-or p q r =
+      let both = or-false (eqb k 1) (eqb k 4) q in
+      go k p (eqb-false k 1 (both .0)) r (eqb-false k 4 (both .1)) h
+    where
+      go : (k : ℕ) → (k ≡ 0 → ⊥) → (k ≡ 1 → ⊥) → (k ≡ 2 → ⊥) → (k ≡ 4 → ⊥) → d < cost (kindOf k) n → kindOf k ≡ OR
+      go zero p q r s h = absurd (p refl)
+      go (suc zero) p q r s h = absurd (q refl)
+      go (suc (suc zero)) p q r s h = absurd (r refl)
+      go (suc (suc (suc zero))) p q r s h = absurd (omega arith)
+      go (suc (suc (suc (suc zero)))) p q r s h = absurd (s refl)
+      go (suc (suc (suc (suc (suc zero))))) p q r s h = refl
+      go (suc (suc (suc (suc (suc (suc k)))))) p q r s h = absurd (omega arith)
+
+  pub or-marks : {r : DC.Carried} → kindOf k ≡ OR → GateMarksSay OR n d r → GateMarksSay (kindOf k) n d r
+  or-marks e M = rw e M
 
 pub among-more : {n m : ℕ} (p : DA.AndPart) → n ≤ m → Among n p → Among m p
 among-more (Pair f i j) h a = omega arith
@@ -149,7 +198,7 @@ module _ {s : List ℕ} {p : DP.Plan} {w : ℕ} (R : PlanReady s p) where
       → GateMarksSay (kindOf (x .kind)) (p .shares) (x .place) r
       → CarriedSays (marks isw (originAt (origins isw (p .order) (tableOf s)) w)) r
   new-carried {x} N M =
-      rw (N .origin) ((rw (R .shares) at M) .carried (x .gate) (N .start) (N .left) (N .right))
+      rw (N .origin) ((rw (R .shares) at M) .carried (N .operand) (x .gate) (N .start) (N .left) (N .right))
 
 -- the marks call: 1 to 8, 13, and the share numbers
 pub marks-refused :

@@ -144,6 +144,7 @@ module _ {t : Table} {n wire g start : ℕ} (S : Seeking t n wire g start) where
       let costs : c ≡ cost (x .kind) n = rw (← k) e in
       record {
         start = start;
+        operand = gateOf t g .left;
         left = getD (S .shares) (x .left) [];
         right = getD (S .shares) (x .right) [];
         below = rw (k, ← en) (omega (arith, S .past, costs));

@@ -8,21 +8,21 @@ use native.Mathlib.Nat.{zero-add, mod-lt, div-add-mod, div-lt-iff-lt-mul}
 use native.Mathlib.Omega.{arith}
 use lib.ListN.{length, getD, length-map, List·getD-append, List·getD-map}
 use lib.Seq.{getD-append-add}
-use Rattle.tables.specs.Tables.{NOT, XOR, AND, Gate, gate, Table}
+use Rattle.tables.specs.Tables.{NOT, AND, OR, Gate, gate, Table}
 use Rattle.marking.specs.declared.SharePair as DP
 use Rattle.marking.specs.declared.AndPart.the-variants.{Pair, Own, Sum}
 use Rattle.masks.specs.Shares as DS
 use Rattle.masks.specs.Shares.{sharesOf, upFrom, inTurn, pairOf, pairs, tri, row}
 use Rattle.masks.specs.Gadgets.{Gadget, Five, first, second, third, fourth, fifth, indexOf}
-use Rattle.masks.specs.Wires.{pair, own, sum, Origin, inputShare, notOf, xorShare, andPart, Wire, wire, originOf}
-use Rattle.masks.specs.Wires.{pairWires, adding, rowWires, pairWire, andWires, newWires, cost, newShares}
-use Rattle.masks.specs.Wires.{inputOrigins, origins, masked}
+use Rattle.masks.specs.Wires.{Part, pair, own, sum, inAnd, lastNot, Origin, inputShare, notOf, orPart, marks, Wire, wire, originOf}
+use Rattle.masks.specs.Wires.{share, firstOn, pairWires, adding, rowWires, pairWire, andWires, andShares, andCost, newWires, cost}
+use Rattle.masks.specs.Wires.{newShares, inputOrigins, origins, masked}
 use Rattle.masks.specs.Says.{originAt}
 use Rattle.marking.specs.Origins.{PairSays, fiveOf, PartSays}
 use Rattle.masks.proofs.Sum.{up-length, up-at}
 use Rattle.masks.proofs.Rows.{pairs-length, row-length}
 use Rattle.masks.proofs.Each.{in-turn-at, in-turn-length}
-use Rattle.masks.proofs.Costs.{all-of, pairs-span, rows-span, new-length, input-origins-length}
+use Rattle.masks.proofs.Costs.{all-of, pairs-span, rows-span, and-length, orAnd, new-length, input-origins-length}
 use Rattle.masks.proofs.Placed.{index-small}
 
 abbrev noWire : Wire
@@ -57,18 +57,56 @@ origins-input G o t w h =
 
 -- the new wire of a NOT
 pub not-origin :
-    (G : Gadget) (n g w : ℕ) (a b : List ℕ) (d : ℕ) → d < 1 → originAt (map originOf (newWires G NOT n g w a b)) d ≡ notOf g
-not-origin G n g w a b zero h = refl
-not-origin G n g w a b (suc d) h = absurd (omega arith)
+    (G : Gadget) (l n g w : ℕ) (a b : List ℕ) (d : ℕ) → d < 1
+    → originAt (map originOf (newWires G NOT l n g w a b)) d ≡ notOf g
+not-origin G l n g w a b zero h = refl
+not-origin G l n g w a b (suc d) h = absurd (omega arith)
 
--- new wire d of an XOR
-pub xor-origin :
-    (G : Gadget) (n g w : ℕ) (a b : List ℕ) (d : ℕ) → d < n
-    → originAt (map originOf (newWires G XOR n g w a b)) d ≡ xorShare g d
-xor-origin G n g w a b d h =
-    origin-map (newWires G XOR n g w a b) d
-    ∙ ap originOf (up-at n 0 _ d noWire h)
-    ∙ ap (λ (y : ℕ). xorShare g y) (zero-add d)
+-- new wire d of an XOR, or of a constant: a gate for each share
+pub share-origin :
+    (n : ℕ) (f : ℕ → Gate) (o : ℕ → Origin) (d : ℕ) → d < n
+    → originAt (map originOf (upFrom n 0 (λ s. wire (f s) (o s)))) d ≡ o d
+share-origin n f o d h =
+    origin-map (upFrom n 0 (λ s. wire (f s) (o s))) d ∙ ap originOf (up-at n 0 _ d noWire h) ∙ ap o (zero-add d)
+
+-- new wire d of an OR: its NOTs, and wire d - 2 of its AND
+module _ (G : Gadget) (l n g w : ℕ) (a b : List ℕ) where
+  abbrev orWires : List Wire
+  orWires = newWires G OR l n g w a b
+
+  abbrev product : List Wire
+  product = orAnd G n g w a b
+
+  product-long : length product ≡ andCost n
+  product-long = and-length G n (λ p. orPart g (inAnd p)) (suc (suc w)) (firstOn w a) (firstOn (suc w) b)
+
+  pub first-origin : (d : ℕ) → d < 2 → marks G (originAt (map originOf orWires) d) ≡ 1 ∷ []
+  first-origin zero h = refl
+  first-origin (suc zero) h = refl
+  first-origin (suc (suc d)) h = absurd (omega arith)
+
+  pub last-origin : (d : ℕ) → d ≡ 2 + andCost n → marks G (originAt (map originOf orWires) d) ≡ 1 ∷ []
+  last-origin zero e = absurd (omega arith)
+  last-origin (suc zero) e = absurd (omega arith)
+  last-origin (suc (suc d)) e =
+      let end : Wire = wire (gate NOT (share (andShares n (suc (suc w))) 0) 0) (orPart g lastNot) in
+      let at : d ≡ length product + 0 = omega (arith, product-long) in
+      ap {A = Origin} {B = List ℕ} (marks G)
+      (origin-map (product ++ (end ∷ [])) d
+      ∙ ap (λ (y : ℕ). getD (product ++ (end ∷ [])) y noWire .origin) at
+      ∙ ap originOf (getD-append-add product (end ∷ []) 0 noWire))
+
+  pub inner-origin :
+      (d : ℕ) → 2 ≤ d → d < 2 + andCost n
+      → originAt (map originOf orWires) d ≡ originAt (map originOf product) (d - 2)
+  inner-origin zero h k = absurd (omega arith)
+  inner-origin (suc zero) h k = absurd (omega arith)
+  inner-origin (suc (suc d)) h k =
+      let same : suc (suc d) - 2 ≡ d = omega arith in
+      rw same
+      (origin-map (product ++ _) d
+      ∙ ap originOf (List·getD-append product _ noWire d (omega (arith, product-long)))
+      ∙ sym (origin-map product d))
 
 -- term i of a running sum has the origin of term m + i
 adding-origin :
@@ -80,51 +118,51 @@ adding-origin o m last next (z ∷ zs) zero d h = ap o {x = m} {y = m + 0} (omeg
 adding-origin o m last next (z ∷ zs) (suc i) d h =
     adding-origin o (suc m) next (suc next) zs i d (omega arith) ∙ ap o {x = suc m + i} {y = m + suc i} (omega arith)
 
-module _ (G : Gadget) (n g w : ℕ) (a b : List ℕ) where
+module _ (G : Gadget) (n : ℕ) (part : Part → Origin) (w : ℕ) (a b : List ℕ) where
   abbrev zs : ℕ → List ℕ
   zs = row n (pairWire w (G .low)) (pairWire w (G .high))
 
-  pairs-long : length (inTurn 5 w (pairs n) (pairWires G g a b)) ≡ 5 * tri n
+  pairs-long : length (inTurn 5 w (pairs n) (pairWires G part a b)) ≡ 5 * tri n
   pairs-long =
-      in-turn-length 5 w (pairs n) (pairWires G g a b) (pairs-span G n g a b)
+      in-turn-length 5 w (pairs n) (pairWires G part a b) (pairs-span G n part a b)
       ∙ ap (λ (y : ℕ). 5 * y) (pairs-length n 0)
 
   in-pair :
       (q r d : ℕ) → q < tri n → r < 5 → d ≡ 5 * q + r
-      → getD (andWires G n g w a b) d noWire
-      ≡ getD (pairWires G g a b (w + 5 * q) (getD (pairs n) q (pairOf 0 0))) r noWire
+      → getD (andWires G n part w a b) d noWire
+      ≡ getD (pairWires G part a b (w + 5 * q) (getD (pairs n) q (pairOf 0 0))) r noWire
   unfolding andWires
   in-pair q r d hq hr e =
-      List·getD-append (inTurn 5 w (pairs n) (pairWires G g a b)) _ noWire d (omega (arith, pairs-long))
-      ∙ in-turn-at 5 w (pairs n) (pairWires G g a b) (pairOf 0 0) noWire (pairs-span G n g a b) q r d
+      List·getD-append (inTurn 5 w (pairs n) (pairWires G part a b)) _ noWire d (omega (arith, pairs-long))
+      ∙ in-turn-at 5 w (pairs n) (pairWires G part a b) (pairOf 0 0) noWire (pairs-span G n part a b) q r d
       (omega (arith, pairs-length n 0)) hr e
 
   in-row :
       (i r d : ℕ) → i < n → r < n → d ≡ 5 * tri n + n * i + r
-      → getD (andWires G n g w a b) d noWire ≡ getD (rowWires g a b zs (w + 5 * tri n + n * i) i) r noWire
+      → getD (andWires G n part w a b) d noWire ≡ getD (rowWires part a b zs (w + 5 * tri n + n * i) i) r noWire
   unfolding andWires
   in-row i r d hi hr e =
-      let ps = inTurn 5 w (pairs n) (pairWires G g a b) in
-      let rows = inTurn n (w + 5 * tri n) (upFrom n 0 (λ i. i)) (rowWires g a b zs) in
+      let ps = inTurn 5 w (pairs n) (pairWires G part a b) in
+      let rows = inTurn n (w + 5 * tri n) (upFrom n 0 (λ i. i)) (rowWires part a b zs) in
       let past : d ≡ length ps + (n * i + r) = omega (arith, pairs-long) in
       ap (λ (y : ℕ). getD (ps ++ rows) y noWire) past
       ∙ getD-append-add ps rows (n * i + r) noWire
-      ∙ in-turn-at n (w + 5 * tri n) (upFrom n 0 (λ i. i)) (rowWires g a b zs) 0 noWire (rows-span G n g a b _ _) i r
+      ∙ in-turn-at n (w + 5 * tri n) (upFrom n 0 (λ i. i)) (rowWires part a b zs) 0 noWire (rows-span G n part a b _ _) i r
       (n * i + r) (omega (arith, up-length n 0 (λ (i : ℕ). i))) hr refl
-      ∙ ap (λ (y : ℕ). getD (rowWires g a b zs (w + 5 * tri n + n * i) y) r noWire)
+      ∙ ap (λ (y : ℕ). getD (rowWires part a b zs (w + 5 * tri n + n * i) y) r noWire)
       (up-at n 0 (λ (y : ℕ). y) i 0 hi ∙ zero-add i)
 
   -- wire f of pair number q
   pub pair-origin :
       (f : Five) (q d : ℕ) → q < tri n → d ≡ 5 * q + indexOf f
-      → originAt (map originOf (andWires G n g w a b)) d
-      ≡ andPart g (pair f (getD (pairs n) q (pairOf 0 0) .lower) (getD (pairs n) q (pairOf 0 0) .upper))
+      → originAt (map originOf (andWires G n part w a b)) d
+      ≡ part (pair f (getD (pairs n) q (pairOf 0 0) .lower) (getD (pairs n) q (pairOf 0 0) .upper))
   pair-origin f q d h e =
-      origin-map (andWires G n g w a b) d ∙ ap originOf (in-pair q (indexOf f) d h (index-small f) e) ∙ here f
+      origin-map (andWires G n part w a b) d ∙ ap originOf (in-pair q (indexOf f) d h (index-small f) e) ∙ here f
     where
       here : (f : Five)
-          → getD (pairWires G g a b (w + 5 * q) (getD (pairs n) q (pairOf 0 0))) (indexOf f) noWire .origin
-          ≡ andPart g (pair f (getD (pairs n) q (pairOf 0 0) .lower) (getD (pairs n) q (pairOf 0 0) .upper))
+          → getD (pairWires G part a b (w + 5 * q) (getD (pairs n) q (pairOf 0 0))) (indexOf f) noWire .origin
+          ≡ part (pair f (getD (pairs n) q (pairOf 0 0) .lower) (getD (pairs n) q (pairOf 0 0) .upper))
       here first = refl
       here second = refl
       here third = refl
@@ -133,32 +171,32 @@ module _ (G : Gadget) (n g w : ℕ) (a b : List ℕ) where
 
   -- the own product of row i
   own-origin :
-      (i d : ℕ) → i < n → d ≡ 5 * tri n + n * i → originAt (map originOf (andWires G n g w a b)) d ≡ andPart g (own i)
+      (i d : ℕ) → i < n → d ≡ 5 * tri n + n * i → originAt (map originOf (andWires G n part w a b)) d ≡ part (own i)
   own-origin i d h e =
-      origin-map (andWires G n g w a b) d ∙ ap originOf (in-row i 0 d h (omega arith) (omega arith))
+      origin-map (andWires G n part w a b) d ∙ ap originOf (in-row i 0 d h (omega arith) (omega arith))
 
   -- the sum of m terms of row i
   sum-origin :
       (i m d : ℕ) → i < n → 0 < m → m < n → d ≡ 5 * tri n + n * i + m
-      → originAt (map originOf (andWires G n g w a b)) d ≡ andPart g (sum i m)
+      → originAt (map originOf (andWires G n part w a b)) d ≡ part (sum i m)
   sum-origin i zero d h k l e = absurd (omega arith)
   sum-origin i (suc m) d h k l e =
-      origin-map (andWires G n g w a b) d
+      origin-map (andWires G n part w a b) d
       ∙ ap originOf (in-row i (suc m) d h l e)
-      ∙ adding-origin (λ m. andPart g (sum i m)) 1 _ _ (zs i) m noWire
+      ∙ adding-origin (λ m. part (sum i m)) 1 _ _ (zs i) m noWire
       (omega (arith, row-length n (pairWire w (G .low)) (pairWire w (G .high)) i h))
-      ∙ ap (λ (y : ℕ). andPart g (sum i y)) {x = 1 + m} {y = suc m} (omega arith)
+      ∙ ap (λ (y : ℕ). part (sum i y)) {x = 1 + m} {y = suc m} (omega arith)
 
 -- the wires of gates, the first of which is x: its new wires, and then those of the others
 module _ (G : Gadget) (n g w : ℕ) (S : List (List ℕ)) (x : Gate) (xs : List Gate) where
   abbrev new : List Wire
-  new = newWires G (x .kind) n g w (getD S (x .left) []) (getD S (x .right) [])
+  new = newWires G (x .kind) (x .left) n g w (getD S (x .left) []) (getD S (x .right) [])
 
   abbrev later : List (List ℕ)
   later = S ++ (newShares (x .kind) n w (getD S (x .left) []) ∷ [])
 
   new-long : length (map originOf new) ≡ cost (x .kind) n
-  new-long = length-map new originOf ∙ new-length G (x .kind) n g w _ _
+  new-long = length-map new originOf ∙ new-length G (x .kind) (x .left) n g w _ _
 
   pub masked-here :
       (d : ℕ) → d < cost (x .kind) n
@@ -191,9 +229,9 @@ pub pair-says :
 pair-says n d c {p} e h P =
     record {
       origin =
-          λ G g w a b.
-          pair-origin G n g w a b (fiveOf (d % 5)) (d / 5) d (omega arith) (omega (arith, five-index (d % 5) (omega arith)))
-          ∙ ap (λ (y : DS.Pair). andPart g (pair (fiveOf (d % 5)) (y .lower) (y .upper))) (sym (P .is));
+          λ G part w a b.
+          pair-origin G n part w a b (fiveOf (d % 5)) (d / 5) d (omega arith) (omega (arith, five-index (d % 5) (omega arith)))
+          ∙ ap (λ (y : DS.Pair). part (pair (fiveOf (d % 5)) (y .lower) (y .upper))) (sym (P .is));
       among = (omega arith, P .ordered, P .inside);
     }
 
@@ -218,7 +256,7 @@ module _ (n d c : ℕ) (e : c ≡ tri n) (past : 5 * c ≤ d) (h : d < cost AND 
   pub own-says : (d - 5 * c) % n ≡ 0 → PartSays n d (Own ((d - 5 * c) / n))
   own-says z =
       record {
-        origin = λ G g w a b. own-origin G n g w a b _ d row-below (omega (arith, row-split));
+        origin = λ G part w a b. own-origin G n part w a b _ d row-below (omega (arith, row-split));
         among = row-below;
       }
 
@@ -226,6 +264,6 @@ module _ (n d c : ℕ) (e : c ≡ tri n) (past : 5 * c ≤ d) (h : d < cost AND 
   sum-says z =
       record {
         origin =
-            λ G g w a b. sum-origin G n g w a b _ _ d row-below (omega arith) terms-below row-split;
+            λ G part w a b. sum-origin G n part w a b _ _ d row-below (omega arith) terms-below row-split;
         among = (row-below, terms-below);
       }

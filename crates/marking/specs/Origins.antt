@@ -14,7 +14,7 @@ use Rattle.marking.specs.declared.AndPart as DA
 use Rattle.marking.specs.declared.AndPart.the-variants.{Pair, Own, Sum}
 use Rattle.masks.specs.Shares.{sharesOf, pairOf, pairs}
 use Rattle.masks.specs.Gadgets.{Five, first, second, third, fourth, fifth, Gadget, isw}
-use Rattle.masks.specs.Wires.{Part, pair, own, sum, andPart, originOf, marks, andWires, newWires, cost, origins}
+use Rattle.masks.specs.Wires.{Part, pair, own, sum, Origin, originOf, partMarks, marks, andWires, newWires, cost, origins}
 use Rattle.masks.specs.Says.{originAt}
 
 -- the pair at place q among the pairs of n shares
@@ -43,11 +43,11 @@ Among n (Pair f i j) = (f < 5) × (i < j) × (j < n)
 Among n (Own i) = i < n
 Among n (Sum i m) = (i < n) × (m < n)
 
--- wire d of a masked AND of n shares, whichever AND it is
+-- wire d of a masked AND of n shares, whichever AND it is, inside an OR too
 pub record PartSays (n d : ℕ) (r : DA.AndPart) : Type 0 where
   pub origin :
-      (G : Gadget) (g w : ℕ) (a b : List ℕ)
-      → originAt (map originOf (andWires G n g w a b)) d ≡ andPart g (partOf r)
+      (G : Gadget) (part : Part → Origin) (w : ℕ) (a b : List ℕ)
+      → originAt (map originOf (andWires G n part w a b)) d ≡ part (partOf r)
   pub among : Among n r
 
 -- the share numbers ms, 0 for none
@@ -57,20 +57,21 @@ pub record CarriedSays (ms : List ℕ) (r : DC.Carried) : Type 0 where
 
 -- those of a part of an AND, whichever AND it is
 pub record PartMarksSay (p : DA.AndPart) (r : DC.Carried) : Type 0 where
-  pub carried : (g : ℕ) → CarriedSays (marks isw (andPart g (partOf p))) r
+  pub carried : CarriedSays (partMarks isw (partOf p)) r
 
 -- those of new wire d of a plain gate, whichever gate it is
 pub record GateMarksSay (k : Kind) (n d : ℕ) (r : DC.Carried) : Type 0 where
   pub carried :
-      (g w : ℕ) (a b : List ℕ) → CarriedSays (marks isw (originAt (map originOf (newWires isw k n g w a b)) d)) r
+      (l g w : ℕ) (a b : List ℕ) → CarriedSays (marks isw (originAt (map originOf (newWires isw k l n g w a b)) d)) r
 
 -- the plain gate that a wire past the input shares is a new wire of, and which of them, where the gate's first new wire is
--- `start` and its operands' shares are on the wires `left` and `right`
+-- `start`, its left operand is `operand`, and its operands' shares are on the wires `left` and `right`
 pub record NewWireSays (t : Table) (o wire : ℕ) (r : DW.NewWire) : Type 0 where
   pub start : ℕ
+  pub operand : ℕ
   pub left : List ℕ
   pub right : List ℕ
   pub below : r .place < cost (kindOf (r .kind)) (sharesOf o)
   pub origin :
       originAt (origins isw o t) wire
-      ≡ originAt (map originOf (newWires isw (kindOf (r .kind)) (sharesOf o) (r .gate) start left right)) (r .place)
+      ≡ originAt (map originOf (newWires isw (kindOf (r .kind)) operand (sharesOf o) (r .gate) start left right)) (r .place)

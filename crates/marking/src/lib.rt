@@ -1,6 +1,6 @@
 // The marks of a wire: which plain gate it belongs to, which part of an AND it is, and the shares that it carries.
 ghost use Prim.Native.Nat.{_*_, _≤_, _<_};
-ghost use Rattle.tables.specs.Tables.{kindOf, tableOf, AND};
+ghost use Rattle.tables.specs.Tables.{kindOf, tableOf, AND, OR};
 ghost use Rattle.masks.specs.Shares.{tri};
 ghost use Rattle.masks.specs.Wires.{marks, cost, origins};
 ghost use Rattle.masks.specs.Says.{originAt, MarksSay};
@@ -114,6 +114,20 @@ pub fn part_marks(part: AndPart) -> Carried
     }
 }
 
+// The share numbers that new wire d of an OR carries: its NOTs share 1, the others what those of an AND carry.
+fn or_marks(n: usize, d: usize) -> Carried
+    requires { ⌜ (n ≤ 31) × (d < cost OR n) ⌝ }
+    ensures { λ r. ⌜ GateMarksSay OR n d r ⌝ }
+{
+    if (d < 2) | (d == 2 + masks::and_cost(n)) {
+        return Carried {
+            first: 1,
+            second: 0,
+        };
+    }
+    part_marks(and_part(n, d - 2))
+}
+
 // The share numbers that new wire d of a plain gate carries.
 fn gate_marks(kind: u8, n: usize, d: usize) -> Carried
     requires { ⌜ (n ≤ 31) × (d < cost (kindOf kind) n) ⌝ }
@@ -125,13 +139,16 @@ fn gate_marks(kind: u8, n: usize, d: usize) -> Carried
             second: 0,
         };
     }
-    if kind == 1 {
+    if (kind == 1) | (kind == 4) {
         return Carried {
             first: (d + 1) as u8,
             second: 0,
         };
     }
-    part_marks(and_part(n, d))
+    if kind == 2 {
+        return part_marks(and_part(n, d));
+    }
+    or_marks(n, d)
 }
 
 // The plain gate that a wire past the input shares is a new wire of.
@@ -141,11 +158,13 @@ pub fn find_gate(table: &[u8], p: sizing::Plan, wire: usize) -> NewWire
 {
     let n = p.shares;
     let gates = p.gates;
+    let mut costs = [0u16; 6];
+    masks::note_costs(n, &mut costs);
     let mut start = n * p.inputs;
     let mut g = 0;
     loop {
         let x = tables::gate_at(table, gates, g);
-        let next = start + masks::gate_cost(x.kind, n);
+        let next = start + masks::noted_cost(&costs, x.kind);
         if wire < next {
             return NewWire {
                 gate: g,

@@ -6,13 +6,12 @@ use mathlib.Core.List.{List, [], _∷_, map, map-append}
 use Prim.Native.Nat.{ℕ, suc, _+_, _-_, _*_, _%_, _≤_, _<_}
 use native.Mathlib.Omega.{arith}
 use lib.ListN.{length, getD, length-map}
-use Rattle.tables.specs.Tables.{AND}
 use Rattle.tables.specs.Runs.{randoms}
 use Rattle.tables.proofs.Run.{Solves, solves-append}
 use Rattle.masks.specs.Shares.{upFrom, inTurn, Pair, pairOf, pairs, tri, row}
 use Rattle.masks.specs.Gadgets.{allFive, Gadget}
-use Rattle.masks.specs.Wires.{Origin, andPart, sum, driverOf, share, pairWires, adding, rowWires, pairWire}
-use Rattle.masks.specs.Wires.{andWires, newShares}
+use Rattle.masks.specs.Wires.{Part, Origin, sum, driverOf, share, pairWires, adding, rowWires, pairWire}
+use Rattle.masks.specs.Wires.{andWires, andShares}
 use Rattle.masks.proofs.Sum.{sumOf, sum-add, sum-parity, up-length, up-at, up-all, up-ids, sum-by-index, square}
 use Rattle.masks.proofs.Rows.{pairs-length, row-length, rows-sum}
 use Rattle.masks.proofs.Each.{in-turn-length, in-turn-draws, solves-in-turn}
@@ -37,20 +36,20 @@ abbrev pub rowTerms : Gadget → ℕ → ℕ → ℕ → List ℕ
 rowTerms G n w = row n (pairWire w (G .low)) (pairWire w (G .high))
 
 module _
-    {G : Gadget} (L : Lawful G) (n g w c : ℕ) (a b : List ℕ) (r v : ℕ → ℕ)
-    (s : Solves w c (map driverOf (andWires G n g w a b)) r v)
+    {G : Gadget} (L : Lawful G) (n : ℕ) (part : Part → Origin) (w c : ℕ) (a b : List ℕ) (r v : ℕ → ℕ)
+    (s : Solves w c (map driverOf (andWires G n part w a b)) r v)
   where
     and-halves :
-        Solves w c (map driverOf (inTurn 5 w (pairs n) (pairWires G g a b))) r v
+        Solves w c (map driverOf (inTurn 5 w (pairs n) (pairWires G part a b))) r v
         × Solves (w + 5 * tri n) (c + tri n)
-        (map driverOf (inTurn n (w + 5 * tri n) (upFrom n 0 (λ i. i)) (rowWires g a b (rowTerms G n w)))) r v
+        (map driverOf (inTurn n (w + 5 * tri n) (upFrom n 0 (λ i. i)) (rowWires part a b (rowTerms G n w)))) r v
     unfolding andWires
     and-halves =
-        let ps = inTurn 5 w (pairs n) (pairWires G g a b) in
-        let rs = inTurn n (w + 5 * tri n) (upFrom n 0 (λ i. i)) (rowWires g a b (rowTerms G n w)) in
+        let ps = inTurn 5 w (pairs n) (pairWires G part a b) in
+        let rs = inTurn n (w + 5 * tri n) (upFrom n 0 (λ i. i)) (rowWires part a b (rowTerms G n w)) in
         let t = solves-append w c (map driverOf ps) (map driverOf rs) r v (rw map-append at s) in
-        let span = in-turn-length 5 w (pairs n) (pairWires G g a b) (pairs-span G n g a b) in
-        let draw = in-turn-draws 5 1 w (pairs n) (pairWires G g a b) (pairs-draw G n g a b L) in
+        let span = in-turn-length 5 w (pairs n) (pairWires G part a b) (pairs-span G n part a b) in
+        let draw = in-turn-draws 5 1 w (pairs n) (pairWires G part a b) (pairs-draw G n part a b L) in
         let long : w + length (map driverOf ps) ≡ w + 5 * tri n =
         omega (arith, length-map ps driverOf, pairs-length n 0) in
         let bits : c + randoms (map driverOf ps) ≡ c + tri n = omega (arith, pairs-length n 0) in
@@ -65,9 +64,9 @@ module _
         allFive)
         r v)
     and-pair q h =
-        let t = solves-in-turn 5 1 w c (pairs n) (pairWires G g a b) (pairOf 0 0) r v
-        (pairs-span G n g a b)
-        (pairs-draw G n g a b L)
+        let t = solves-in-turn 5 1 w c (pairs n) (pairWires G part a b) (pairOf 0 0) r v
+        (pairs-span G n part a b)
+        (pairs-draw G n part a b L)
         (and-halves .0)
         q
         (omega (arith, pairs-length n 0)) in
@@ -78,12 +77,12 @@ module _
     pub and-row :
         (i : ℕ) → i < n
         → Solves (w + 5 * tri n + n * i) (c + tri n)
-        (map driverOf (rowWires g a b (rowTerms G n w) (w + 5 * tri n + n * i) i)) r v
+        (map driverOf (rowWires part a b (rowTerms G n w) (w + 5 * tri n + n * i) i)) r v
     and-row i h =
         let zs = rowTerms G n w in
-        let t = solves-in-turn n 0 (w + 5 * tri n) (c + tri n) (upFrom n 0 (λ i. i)) (rowWires g a b zs) 0 r v
-        (rows-span G n g a b (pairWire w (G .low)) (pairWire w (G .high)))
-        (rows-draw G n g a b zs)
+        let t = solves-in-turn n 0 (w + 5 * tri n) (c + tri n) (upFrom n 0 (λ i. i)) (rowWires part a b zs) 0 r v
+        (rows-span G n part a b (pairWire w (G .low)) (pairWire w (G .high)))
+        (rows-draw G n part a b zs)
         (and-halves .1)
         i
         (omega (arith, up-length {A = ℕ} n 0 (λ i. i))) in
@@ -101,13 +100,13 @@ module _
         let zs = rowTerms G n w i in
         let t = and-row i h in
         let long : length zs ≡ n - 1 = omega (arith, row-length n (pairWire w (G .low)) (pairWire w (G .high)) i h) in
-        let ends = adding-adds (λ m. andPart g (sum i m)) 1 at (suc at) (c + tri n + 0) zs r v refl (t .1) in
+        let ends = adding-adds (λ m. part (sum i m)) 1 at (suc at) (c + tri n + 0) zs r v refl (t .1) in
         rw long at ends ∙ ap (λ (y : ℕ). (y + sumOf v zs) % 2) (t .0)
 
     -- the shares of the result add up to the product
     pub and-adds :
         ((p : ℕ) → v p ≤ 1)
-        → sumOf v (newShares AND n w a) % 2
+        → sumOf v (andShares n w) % 2
         ≡ (sumOf (λ s. v (share a s)) (upFrom n 0 (λ s. s)) * sumOf (λ s. v (share b s)) (upFrom n 0 (λ s. s))) % 2
     and-adds bits =
         let ids = upFrom n 0 (λ s. s) in

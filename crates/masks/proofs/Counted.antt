@@ -26,7 +26,7 @@ use Rattle.masks.proofs.Figures.{total-counted}
 
 -- so many ANDs and no other gate
 abbrev andsAlone : ℕ → DC.Counts
-andsAlone a = record { nots = 0; xors = 0; ands = a; randoms = 0 }
+andsAlone a = record { nots = 0; xors = 0; ands = a; randoms = 0; constants = 0; ors = 0 }
 
 -- "3 30 7 132"
 one-and : forecastBy 1 2 1 (andsAlone 1) ≡ record { number = 0; place = 0; shares = 3; wires = 30; tape = 7; bytes = 132 }

@@ -1,15 +1,20 @@
 -- Figures of a gate by its kind's byte, their bounds at 31 shares at most, and their totals by how many gates there are of each
 -- kind.
 -- Assumes nothing.
-use mathlib.Core.Path.{_≡_, refl}
+use mathlib.Core.Path.{_≡_, refl, _∙_}
+use mathlib.Core.Bool.{Bool, true, false, _||_}
 use mathlib.Core.List.{List, [], _∷_}
-use Prim.Native.Nat.{ℕ, zero, suc, _+_, _*_, _≤_}
+use Prim.Native.Nat.{ℕ, zero, suc, _+_, _*_, _≤_, _<_}
 use native.Mathlib.Nat.{mul-le-mul, mul-le-mul-right}
 use native.Mathlib.Omega.{arith}
-use Rattle.tables.specs.Tables.{Kind, NOT, XOR, AND, RANDOM, UNKNOWN, kindOf, Gate, total}
+use lib.Dec.{eqb}
+use lib.ListN.{length, getD, set, length-set}
+use lib.Seq.{getD-set-same, getD-set-other}
+use borrow.Author.Tests.{eqb-true, eqb-false, ne-eqb}
+use Rattle.tables.specs.Tables.{Kind, NOT, XOR, AND, RANDOM, CONSTANT, OR, UNKNOWN, kindOf, Gate, total}
 use Rattle.tables.specs.Counted.{ofKind, countsOf}
 use Rattle.masks.specs.Shares.{tri}
-use Rattle.masks.specs.Wires.{cost, draws}
+use Rattle.masks.specs.Wires.{andCost, cost, draws}
 use Rattle.masks.specs.Counts.{counted}
 use Rattle.masks.proofs.Rows.{tri-closed}
 
@@ -19,12 +24,14 @@ square-small n h = mul-le-mul {n₂ = 31} {m₂ = 31} h h
 pub tri-small : (n : ℕ) → n ≤ 31 → tri n ≤ 465
 tri-small n h = omega (arith, tri-closed n, mul-le-mul-right n h)
 
--- "3,286 and 465 at t = 15"
-pub cost-small : (k : Kind) (n : ℕ) → n ≤ 31 → cost k n ≤ 3286
+-- "3,286 and 465 at t = 15", and an OR's three NOTs
+pub cost-small : (k : Kind) (n : ℕ) → n ≤ 31 → cost k n ≤ 3289
 cost-small NOT n h = omega arith
 cost-small XOR n h = omega arith
 cost-small AND n h = omega (arith, tri-small n h, square-small n h)
 cost-small RANDOM n h = omega arith
+cost-small CONSTANT n h = omega arith
+cost-small OR n h = omega (arith, tri-small n h, square-small n h)
 cost-small (UNKNOWN k) n h = omega arith
 
 pub draws-below : (k : Kind) (n : ℕ) → draws k n ≤ cost k n
@@ -32,6 +39,8 @@ draws-below NOT n = omega arith
 draws-below XOR n = omega arith
 draws-below AND n = omega arith
 draws-below RANDOM n = omega arith
+draws-below CONSTANT n = omega arith
+draws-below OR n = omega arith
 draws-below (UNKNOWN k) n = omega arith
 
 pub draws-small : (k : Kind) (n : ℕ) → n ≤ 31 → draws k n ≤ 465
@@ -39,24 +48,46 @@ draws-small NOT n h = omega arith
 draws-small XOR n h = omega arith
 draws-small AND n h = tri-small n h
 draws-small RANDOM n h = omega arith
+draws-small CONSTANT n h = omega arith
+draws-small OR n h = tri-small n h
 draws-small (UNKNOWN k) n h = omega arith
 
--- only an AND draws
-pub other-draws : (k n : ℕ) → (k ≡ 2 → ⊥) → draws (kindOf k) n ≡ 0
-other-draws zero n c = refl
-other-draws (suc zero) n c = refl
-other-draws (suc (suc zero)) n c = absurd (c refl)
-other-draws (suc (suc (suc zero))) n c = refl
-other-draws (suc (suc (suc (suc k)))) n c = refl
+-- an AND and an OR draw a bit for each pair
+pub pair-draws : (k n : ℕ) → eqb k 2 || eqb k 5 ≡ true → draws (kindOf k) n ≡ tri n
+pair-draws zero n h = cc
+pair-draws (suc zero) n h = cc
+pair-draws (suc (suc zero)) n h = refl
+pair-draws (suc (suc (suc zero))) n h = cc
+pair-draws (suc (suc (suc (suc zero)))) n h = cc
+pair-draws (suc (suc (suc (suc (suc zero))))) n h = refl
+pair-draws (suc (suc (suc (suc (suc (suc k)))))) n h =
+    let c = suc (suc (suc (suc (suc (suc k))))) in
+    let unknown : false ≡ true = rw (ne-eqb c 2 (λ e. omega (arith, e)), ne-eqb c 5 (λ e. omega (arith, e))) at h in
+    cc unknown
+
+-- and no other gate draws
+pub other-draws : (k n : ℕ) → eqb k 2 || eqb k 5 ≡ false → draws (kindOf k) n ≡ 0
+other-draws zero n h = refl
+other-draws (suc zero) n h = refl
+other-draws (suc (suc zero)) n h = cc
+other-draws (suc (suc (suc zero))) n h = refl
+other-draws (suc (suc (suc (suc zero)))) n h = refl
+other-draws (suc (suc (suc (suc (suc zero))))) n h = cc
+other-draws (suc (suc (suc (suc (suc (suc k)))))) n h = refl
 
 -- a figure that only known kinds have, of one gate and in total: so many gates of each kind, times the figure
 module _ (f : Kind → ℕ) (unknown : (k : ℕ) → f (UNKNOWN k) ≡ 0) where
   pub by-kind :
-      (k : Kind) → f k ≡ ofKind 0 k * f NOT + ofKind 1 k * f XOR + ofKind 2 k * f AND + ofKind 3 k * f RANDOM
+      (k : Kind)
+      → f k
+      ≡ ofKind 0 k * f NOT + ofKind 1 k * f XOR + ofKind 2 k * f AND + ofKind 3 k * f RANDOM + ofKind 4 k * f CONSTANT
+      + ofKind 5 k * f OR
   by-kind NOT = omega arith
   by-kind XOR = omega arith
   by-kind AND = omega arith
   by-kind RANDOM = omega arith
+  by-kind CONSTANT = omega arith
+  by-kind OR = omega arith
   by-kind (UNKNOWN k) = omega (arith, unknown k)
 
   pub total-counted : (gs : List Gate) → total f gs ≡ counted f (countsOf gs)
@@ -64,7 +95,28 @@ module _ (f : Kind → ℕ) (unknown : (k : ℕ) → f (UNKNOWN k) ≡ 0) where
   total-counted [] = omega arith
   total-counted (g ∷ gs) = omega (arith, by-kind (g .kind), total-counted gs)
 
-pub at-most-once : (b v : ℕ) → b ≤ 1 → b * v ≤ v
-at-most-once zero v h = omega arith
-at-most-once (suc zero) v h = omega arith
-at-most-once (suc (suc b)) v h = absurd (omega arith)
+-- what is no NOT, no AND, no random gate and no OR costs a wire a share
+pub share-costs :
+    (k n : ℕ) → k ≤ 5 → (k ≡ 0 → ⊥) → (k ≡ 2 → ⊥) → (k ≡ 3 → ⊥) → (k ≡ 5 → ⊥) → cost (kindOf k) n ≡ n
+share-costs zero n h not and random or = absurd (not refl)
+share-costs (suc zero) n h not and random or = refl
+share-costs (suc (suc zero)) n h not and random or = absurd (and refl)
+share-costs (suc (suc (suc zero))) n h not and random or = absurd (random refl)
+share-costs (suc (suc (suc (suc zero)))) n h not and random or = refl
+share-costs (suc (suc (suc (suc (suc zero))))) n h not and random or = absurd (or refl)
+share-costs (suc (suc (suc (suc (suc (suc k)))))) n h not and random or = absurd (omega arith)
+
+-- the costs of the kinds below k are noted
+pub record CostsTo (n k : ℕ) (s : List ℕ) : Type 0 where
+  pub long : length s ≡ 6
+  pub noted : (i : ℕ) → i < k → getD s i 0 ≡ cost (kindOf i) n
+
+pub costs-next : {n k c : ℕ} {s : List ℕ} → CostsTo n k s → k < 6 → c ≡ cost (kindOf k) n → CostsTo n (k + 1) (set s k c)
+costs-next {n} {k} {c} {s} C h e = record {
+  long = length-set s k c ∙ C .long;
+  noted = λ i l. here i l (eqb i k) refl;
+}
+  where
+    here : (i : ℕ) → i < k + 1 → (t : Bool) → eqb i k ≡ t → getD (set s k c) i 0 ≡ cost (kindOf i) n
+    here i l true t = rw (eqb-true i k t) (getD-set-same s k c 0 (omega (arith, C .long)) ∙ e)
+    here i l false t = getD-set-other s k i c 0 (eqb-false i k t) ∙ C .noted i (omega (arith, eqb-false i k t))

@@ -23,7 +23,7 @@ pub record Hiding (G : Gadget) : Type 0 where
       (k i j w c ai bj aj bi : ℕ) (r s v u : ℕ → ℕ) → (i ≡ j → ⊥) → ((p : ℕ) → v p ≤ 1) → ((p : ℕ) → u p ≤ 1) → r c ≤ 1
       → Solves w c (map (G .gates w ai bj aj bi) allFive) r v
       → Solves w c (map (G .gates w ai bj aj bi) allFive) s u
-      → s c ≡ xor (r c) (G .flip k i j (differs v u ai bj) (differs v u aj bi))
+      → s c ≡ xor (r c) (G .flip k i j (differs (v ai) (v bj) (u ai) (u bj)) (differs (v aj) (v bi) (u aj) (u bi)))
       → ((i ≡ k → ⊥) → (v ai ≡ u ai) × (v bi ≡ u bi))
       → ((j ≡ k → ⊥) → (v aj ≡ u aj) × (v bj ≡ u bj))
       → (f : Five) → isIn k (G .marks i j f) ≡ false → v (w + indexOf f) ≡ u (w + indexOf f)
@@ -61,7 +61,7 @@ module _
     (bu : (p : ℕ) → u p ≤ 1) (bit : r c ≤ 1)
     (sv : Solves w c (map (isw .gates w ai bj aj bi) allFive) r v)
     (su : Solves w c (map (isw .gates w ai bj aj bi) allFive) s u)
-    (e : s c ≡ xor (r c) (isw .flip k i j (differs v u ai bj) (differs v u aj bi)))
+    (e : s c ≡ xor (r c) (isw .flip k i j (differs (v ai) (v bj) (u ai) (u bj)) (differs (v aj) (v bi) (u aj) (u bi))))
     (hi : (i ≡ k → ⊥) → (v ai ≡ u ai) × (v bi ≡ u bi))
     (hj : (j ≡ k → ⊥) → (v aj ≡ u aj) × (v bj ≡ u bj))
   where

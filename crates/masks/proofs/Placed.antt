@@ -1,29 +1,33 @@
 -- Where shares stand: each plain wire has n shares on wires before the next new wire, so every operand of a masked gate is an
 -- earlier wire.
 -- Assumes nothing.
-use mathlib.Core.Path.{_≡_, refl, sym, ap, _∙_, subst}
+use mathlib.Core.Path.{_≡_, refl, sym, ap, ap₂, _∙_, subst}
 use mathlib.Core.List.{List, [], _∷_, _++_, map, map-append}
 use Prim.Native.Nat.{ℕ, zero, suc, _+_, _*_, _≤_, _<_}
-use mathlib.Core.Bool.{true}
+use mathlib.Core.Bool.{Bool, true, false, cond}
+use lib.Dec.{eqb}
 use borrow.Author.Tests.{lt-ltb}
 use Rattle.tables.proofs.Tests.{and-intro}
 use native.Mathlib.Nat.{mul-le-mul-left}
 use native.Mathlib.Omega.{arith}
 use lib.ListN.{length, getD, drop, length-append, length-map, length-drop}
-use Rattle.tables.specs.Tables.{Kind, NOT, XOR, AND, RANDOM, UNKNOWN, Gate, Table, wires, known, operandsOk, total, operandsOf}
+use Rattle.tables.specs.Tables.{Kind, NOT, XOR, AND, RANDOM, CONSTANT, OR, UNKNOWN, Gate, gate, Table, wires, known, total}
+use Rattle.tables.specs.Tables.{left-read, value-stated, operandsOf, operandsOk}
 use Rattle.tables.proofs.Lists.{All, all-append, all-getD, all-map}
 use Rattle.tables.proofs.Format.{SoundGates, sound-append}
-use Rattle.tables.proofs.Accept.{PlainGate, PlainGates, Plain}
+use Rattle.tables.proofs.Run.{OfLeft, OfRight, read-left}
+use Rattle.tables.proofs.Accept.{PlainGate, PlainGates, Plain, plain-reads}
 use Rattle.masks.specs.Shares.{sharesOf, upFrom, inTurn, pairOf, pairs, tri, pairAt, row}
 use Rattle.masks.specs.Gadgets.{Five, first, second, third, fourth, fifth, indexOf, Gadget}
-use Rattle.masks.specs.Wires.{Wire, Origin, share, driverOf, adding, pairWires, rowWires, pairWire, andWires}
-use Rattle.masks.specs.Wires.{newWires, newShares, inputShares, cost, masked, sharesAfter, outputShares}
+use Rattle.masks.specs.Wires.{Part, inAnd, Origin, andPart, orPart, Wire, share, firstOn, driverOf, adding, pairWires}
+use Rattle.masks.specs.Wires.{rowWires, pairWire, andWires, andShares, andCost, newWires, newShares, inputShares, cost}
+use Rattle.masks.specs.Wires.{masked, sharesAfter, outputShares}
 use Rattle.masks.specs.Wires.{maskedTable}
 use Rattle.masks.proofs.Sum.{up-length, up-all}
 use Rattle.masks.proofs.Rows.{pairs-length, pairs-in, pair-below, row-all}
 use Rattle.masks.proofs.Each.{Each, each-append, each-in-turn, each-up, each-rows, in-turn-length}
 use Rattle.masks.proofs.Lawful.{Lawful, both-below}
-use Rattle.masks.proofs.Costs.{pairs-span, rows-span, new-length, masked-wires}
+use Rattle.masks.proofs.Costs.{pairs-span, rows-span, orAnd, or-and-length, or-driven, new-length, masked-wires}
 
 -- n wires, all before wire w
 abbrev pub Stands : ℕ → ℕ → List ℕ → Type 0
@@ -48,23 +52,32 @@ all-drop P (suc n) (x ∷ xs) a = all-drop P n xs (a .1)
 row-ends : (n i : ℕ) → i < n → n * i + n ≤ n * n
 row-ends n i h = omega (arith, mul-le-mul-left n h)
 
+-- shares of which the first is on another wire
+first-stands :
+    (n w u : ℕ) (a : List ℕ) → 1 ≤ n → w ≤ u → Stands n w a → Stands n (suc u) (firstOn u a)
+unfolding All
+first-stands n w u a h k s = (
+  omega (arith, length-drop 1 a, s .0),
+  (omega arith, all-map _ _ (λ x e. omega arith) (drop 1 a) (all-drop (λ x. x < w) 1 a (s .1))),
+)
+
+and-stands : (n w : ℕ) → Stands n (w + andCost n) (andShares n w)
+and-stands n w = (up-length n 0 _, up-all _ n 0 _ (λ i _ k. omega (arith, row-ends n i (omega arith))))
+
 -- the wires of a result's shares come before what follows the gate
 new-stands :
-    (k : Kind) (n w p l r : ℕ) (a : List ℕ) → 1 ≤ n → PlainGate p k l r → Stands n w a
+    (k : Kind) (n w p l r : ℕ) (a : List ℕ) → 1 ≤ n → PlainGate p k l r → OfLeft (operandsOf k) (Stands n w a)
     → Stands n (w + cost k n) (newShares k n w a)
-unfolding All
-new-stands NOT n w p l r a h g s = (
-  omega (arith, length-drop 1 a, s .0),
-  (
-    omega arith,
-    all-map (λ x. x < w) (λ x. x < w + 1) (λ x k. omega arith) (drop 1 a)
-        (all-drop _ 1 a (s .1)),
-  ),
-)
+new-stands NOT n w p l r a h g s =
+    stands-later n (suc w) (w + 1) (omega arith) (firstOn w a) (first-stands n w w a h (omega arith) s)
 new-stands XOR n w p l r a h g s = (up-length n w _, up-all _ n w _ (λ i _ k. k))
-new-stands AND n w p l r a h g s =
-    (up-length n 0 _, up-all _ n 0 _ (λ i _ k. omega (arith, row-ends n i (omega arith))))
+new-stands AND n w p l r a h g s = and-stands n w
 new-stands RANDOM n w p l r a h g s = absurd g
+new-stands CONSTANT n w p l r a h g s = (up-length n w _, up-all _ n w _ (λ i _ k. k))
+new-stands OR n w p l r a h g s =
+    let u = suc (suc w) + andCost n in
+    stands-later n (suc u) (w + (andCost n + 3)) (omega arith) (firstOn u (andShares n (suc (suc w))))
+    (first-stands n u u (andShares n (suc (suc w))) h (omega arith) (and-stands n (suc (suc w))))
 new-stands (UNKNOWN c) n w p l r a h g s = absurd g
 
 pub placed-inputs : (n m : ℕ) → Placed n (n * m) (inputShares n m)
@@ -82,15 +95,33 @@ pub placed-step :
 unfolding All
 placed-step k n w l r S h g P =
     all-append _ S _
-    (all-map _ _ (stands-later n w (w + cost k n) (omega arith)) S P)
-    (new-stands k n w (length S) l r (getD S l []) h g (placed-at n w S l P (left-below k g)), tt)
-  where
-    left-below : (k : Kind) → PlainGate (length S) k l r → l < length S
-    left-below NOT g = g
-    left-below XOR g = g .0
-    left-below AND g = g .0
-    left-below RANDOM g = absurd g
-    left-below (UNKNOWN c) g = absurd g
+    (all-map _ _ (stands-later n w (w + cost k n) (omega arith)) S P) (
+      new-stands k n w (length S) l r (getD S l []) h g
+          (read-left (operandsOf k) (length S) l r (plain-reads (length S) k l r g) (placed-at n w S l P)),
+      tt,
+    )
+
+-- the shares of an operand matter only where it is read
+pub new-shares-read :
+    (k : Kind) (n w : ℕ) (a a′ : List ℕ) → OfLeft (operandsOf k) (a ≡ a′) → newShares k n w a ≡ newShares k n w a′
+new-shares-read NOT n w a a′ e = ap (firstOn w) e
+new-shares-read XOR n w a a′ e = refl
+new-shares-read AND n w a a′ e = refl
+new-shares-read RANDOM n w a a′ e = refl
+new-shares-read CONSTANT n w a a′ e = refl
+new-shares-read OR n w a a′ e = refl
+new-shares-read (UNKNOWN c) n w a a′ e = refl
+
+pub new-wires-read :
+    (G : Gadget) (k : Kind) (l n g w : ℕ) (a a′ b b′ : List ℕ) → OfLeft (operandsOf k) (a ≡ a′) → OfRight (operandsOf k) (b ≡ b′)
+    → newWires G k l n g w a b ≡ newWires G k l n g w a′ b′
+new-wires-read G NOT l n g w a a′ b b′ e f = ap (λ (x : List ℕ). newWires G NOT l n g w x b) e
+new-wires-read G XOR l n g w a a′ b b′ e f = ap₂ (newWires G XOR l n g w) e f
+new-wires-read G AND l n g w a a′ b b′ e f = ap₂ (newWires G AND l n g w) e f
+new-wires-read G RANDOM l n g w a a′ b b′ e f = refl
+new-wires-read G CONSTANT l n g w a a′ b b′ e f = refl
+new-wires-read G OR l n g w a a′ b b′ e f = ap₂ (newWires G OR l n g w) e f
+new-wires-read G (UNKNOWN c) l n g w a a′ b b′ e f = refl
 
 -- a wire whose gate passes the checks
 abbrev pub Ok : ℕ → Wire → Type 0
@@ -125,48 +156,67 @@ index-small third = omega arith
 index-small fourth = omega arith
 index-small fifth = omega arith
 
-module _ {G : Gadget} (L : Lawful G) (n g w : ℕ) (a b : List ℕ) (sa : Stands n w a) (sb : Stands n w b) where
-  pairs-ok : Each Ok w (inTurn 5 w (pairs n) (pairWires G g a b))
-  pairs-ok =
-      each-in-turn Ok 5 w (pairs n) (pairWires G g a b) (pairOf 0 0) (pairs-span G n g a b)
-      (λ q h.
-      let p = getD (pairs n) q (pairOf 0 0) in
-      let k = all-getD _ (pairs n) q (pairOf 0 0) (pairs-in n) h in
-      let below : (i : ℕ) → i < n → (share a i < w + 5 * q) × (share b i < w + 5 * q) =
-      λ i hi. omega (arith, share-below n w a sa i hi, share-below n w b sb i hi) in
-      let lo = below (p .lower) (omega arith) in
-      let up = below (p .upper) (k .1) in
-      each-sound (w + 5 * q) _ (L .sound (w + 5 * q) _ _ _ _ (lo .0) (up .1) (up .0) (lo .1)))
+module _ {G : Gadget} (L : Lawful G) (n : ℕ) (part : Part → Origin) (w : ℕ) (a b : List ℕ) (sa : Stands n w a) (sb : Stands n w b)
+  where
+    pairs-ok : Each Ok w (inTurn 5 w (pairs n) (pairWires G part a b))
+    pairs-ok =
+        each-in-turn Ok 5 w (pairs n) (pairWires G part a b) (pairOf 0 0) (pairs-span G n part a b)
+        (λ q h.
+        let p = getD (pairs n) q (pairOf 0 0) in
+        let k = all-getD _ (pairs n) q (pairOf 0 0) (pairs-in n) h in
+        let below : (i : ℕ) → i < n → (share a i < w + 5 * q) × (share b i < w + 5 * q) =
+        λ i hi. omega (arith, share-below n w a sa i hi, share-below n w b sb i hi) in
+        let lo = below (p .lower) (omega arith) in
+        let up = below (p .upper) (k .1) in
+        each-sound (w + 5 * q) _ (L .sound (w + 5 * q) _ _ _ _ (lo .0) (up .1) (up .0) (lo .1)))
 
-  pair-wire-below : (f : Five) (q : ℕ) → q < tri n → pairWire w f q < w + 5 * tri n
-  pair-wire-below f q h = omega (arith, index-small f)
+    pair-wire-below : (f : Five) (q : ℕ) → q < tri n → pairWire w f q < w + 5 * tri n
+    pair-wire-below f q h = omega (arith, index-small f)
 
-  rows-ok :
-      Each Ok (w + 5 * tri n)
-      (inTurn n (w + 5 * tri n) (upFrom n 0 (λ i. i))
-      (rowWires g a b (row n (pairWire w (G .low)) (pairWire w (G .high)))))
-  unfolding Each
-  rows-ok =
-      each-rows Ok n n (w + 5 * tri n) _ (rows-span G n g a b _ _)
-      (λ i h.
-      let v = w + 5 * tri n + n * i in
-      let zs = row n (pairWire w (G .low)) (pairWire w (G .high)) i in
-      let ha : share a i < v = omega (arith, share-below n w a sa i h) in
-      let hb : share b i < v = omega (arith, share-below n w b sb i h) in (
-        (refl, both-below (share a i) (share b i) v ha hb),
-        adding-ok _ 1 v (suc v) zs (omega arith)
-            (row-all (λ z. z < suc v) n _ _ i h
-            (λ j k. omega (arith, pair-wire-below (G .high) (pairAt n j i) (pair-below n j i k h)))
-            (λ j k l. omega (arith, pair-wire-below (G .low) (pairAt n i j) (pair-below n i j k l)))),
-      ))
+    rows-ok :
+        Each Ok (w + 5 * tri n)
+        (inTurn n (w + 5 * tri n) (upFrom n 0 (λ i. i))
+        (rowWires part a b (row n (pairWire w (G .low)) (pairWire w (G .high)))))
+    unfolding Each
+    rows-ok =
+        each-rows Ok n n (w + 5 * tri n) _ (rows-span G n part a b _ _)
+        (λ i h.
+        let v = w + 5 * tri n + n * i in
+        let zs = row n (pairWire w (G .low)) (pairWire w (G .high)) i in
+        let ha : share a i < v = omega (arith, share-below n w a sa i h) in
+        let hb : share b i < v = omega (arith, share-below n w b sb i h) in (
+          (refl, both-below (share a i) (share b i) v ha hb),
+          adding-ok _ 1 v (suc v) zs (omega arith)
+              (row-all (λ z. z < suc v) n _ _ i h
+              (λ j k. omega (arith, pair-wire-below (G .high) (pairAt n j i) (pair-below n j i k h)))
+              (λ j k l. omega (arith, pair-wire-below (G .low) (pairAt n i j) (pair-below n i j k l)))),
+        ))
+
+    and-sound : SoundGates w (map driverOf (andWires G n part w a b))
+    unfolding andWires
+    and-sound =
+        let ps = inTurn 5 w (pairs n) (pairWires G part a b) in
+        let long : w + length ps ≡ w + 5 * tri n =
+        omega (arith, in-turn-length 5 w (pairs n) (pairWires G part a b) (pairs-span G n part a b), pairs-length n 0) in
+        let zs = row n (pairWire w (G .low)) (pairWire w (G .high)) in
+        let rs = inTurn n (w + 5 * tri n) (upFrom n 0 (λ i. i)) (rowWires part a b zs) in
+        sound-each w (ps ++ rs)
+        (each-append Ok w ps rs pairs-ok (subst (λ (y : ℕ). Each Ok y rs) (sym long) rows-ok))
+
+-- the NOT of share 1
+not-sound : (n w : ℕ) (a : List ℕ) → 1 ≤ n → Stands n w a → operandsOk w left-read (share a 0) 0 ≡ true
+not-sound n w a h s = and-intro _ true (lt-ltb _ w (share-below n w a s 0 h)) refl
+
+-- a constant's value, or 0
+value-sound : (b : Bool) (w l : ℕ) → l ≤ 1 → operandsOk w value-stated (cond b l 0) 0 ≡ true
+value-sound true w l h = and-intro _ true (lt-ltb l 2 (omega arith)) refl
+value-sound false w l h = refl
 
 new-sound :
     {G : Gadget} (L : Lawful G) (k : Kind) (n g w l r : ℕ) (S : List (List ℕ)) → 1 ≤ n → PlainGate (length S) k l r
-    → Placed n w S → SoundGates w (map driverOf (newWires G k n g w (getD S l []) (getD S r [])))
-unfolding andWires SoundGates
-new-sound L NOT n g w l r S h x P =
-    let sa = placed-at n w S l P x in
-    ((refl, and-intro _ true (lt-ltb _ w (share-below n w _ sa 0 h)) refl), tt)
+    → Placed n w S → SoundGates w (map driverOf (newWires G k l n g w (getD S l []) (getD S r [])))
+unfolding SoundGates
+new-sound L NOT n g w l r S h x P = ((refl, not-sound n w (getD S l []) h (placed-at n w S l P x)), tt)
 new-sound L XOR n g w l r S h x P =
     let a = getD S l [] in
     let b = getD S r [] in
@@ -178,21 +228,29 @@ new-sound L XOR n g w l r S h x P =
     let ha : share a (0 + i) < w + i = omega (arith, share-below n w a sa (0 + i) (omega arith)) in
     let hb : share b (0 + i) < w + i = omega (arith, share-below n w b sb (0 + i) (omega arith)) in
     (refl, both-below _ _ (w + i) ha hb)))
-new-sound {G} L AND n g w l r S h x P =
+new-sound L AND n g w l r S h x P =
+    and-sound L n (andPart g) w (getD S l []) (getD S r []) (placed-at n w S l P (x .0)) (placed-at n w S r P (x .1))
+new-sound L RANDOM n g w l r S h x P = absurd x
+new-sound L CONSTANT n g w l r S h x P =
+    sound-each w _ (each-up Ok n 0 w _ (λ i k. (refl, value-sound (eqb (0 + i) 0) (w + i) l x)))
+new-sound {G} L OR n g w l r S h x P =
     let a = getD S l [] in
     let b = getD S r [] in
+    let v = suc (suc w) in
     let sa = placed-at n w S l P (x .0) in
     let sb = placed-at n w S r P (x .1) in
-    let ps = inTurn 5 w (pairs n) (pairWires G g a b) in
-    let long : w + length ps ≡ w + 5 * tri n =
-    omega (arith, in-turn-length 5 w (pairs n) (pairWires G g a b) (pairs-span G n g a b), pairs-length n 0) in
-    let zs = row n (pairWire w (G .low)) (pairWire w (G .high)) in
-    let rs = inTurn n (w + 5 * tri n) (upFrom n 0 (λ i. i)) (rowWires g a b zs) in
-    sound-each w (ps ++ rs)
-    (each-append Ok w ps rs
-    (pairs-ok L n g w a b sa sb)
-    (subst (λ (y : ℕ). Each Ok y rs) (sym long) (rows-ok L n g w a b sa sb)))
-new-sound L RANDOM n g w l r S h x P = absurd x
+    let now = and-sound L n (λ p. orPart g (inAnd p)) v (firstOn w a) (firstOn (suc w) b)
+    (stands-later n (suc w) v (omega arith) (firstOn w a) (first-stands n w w a h (omega arith) sa))
+    (first-stands n w (suc w) b h (omega arith) sb) in
+    let last : SoundGates (v + length (map driverOf (orAnd G n g w a b))) (gate NOT (share (andShares n v) 0) 0 ∷ []) =
+    rw or-and-length ((refl, not-sound n (v + andCost n) (andShares n v) h (and-stands n v)), tt) in
+    subst (SoundGates w) (sym (or-driven G l n g w a b)) (
+      (refl, not-sound n w a h sa),
+      (
+        (refl, not-sound n (suc w) b h (stands-later n w (suc w) (omega arith) b sb)),
+        sound-append v (map driverOf (orAnd G n g w a b)) _ now last,
+      ),
+    )
 new-sound L (UNKNOWN c) n g w l r S h x P = absurd x
 
 pub masked-sound :
@@ -203,10 +261,10 @@ masked-sound L n g w S [] h x P = tt
 masked-sound {G} L n g w S (y ∷ ys) h x P =
     let k = y .kind in
     let a = getD S (y .left) [] in
-    let ws = newWires G k n g w a (getD S (y .right) []) in
+    let ws = newWires G k (y .left) n g w a (getD S (y .right) []) in
     let T = S ++ (newShares k n w a ∷ []) in
     let long : w + length (map driverOf ws) ≡ w + cost k n =
-    ap (λ (z : ℕ). w + z) (length-map ws driverOf ∙ new-length G k n g w a (getD S (y .right) [])) in
+    ap (λ (z : ℕ). w + z) (length-map ws driverOf ∙ new-length G k (y .left) n g w a (getD S (y .right) [])) in
     let one : suc (length S) ≡ length T = sym (length-append S (newShares k n w a ∷ []) ∙ omega arith) in
     let rest = map driverOf (masked G n (suc g) (w + cost k n) T ys) in
     rw map-append

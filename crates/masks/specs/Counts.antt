@@ -6,13 +6,14 @@ use Prim.Native.Nat.{ℕ, _+_, _*_}
 use lib.Dec.{ltb}
 use Rattle.tables.specs.declared.Counts as DC
 use Rattle.masks.specs.declared.Sizes as DS
-use Rattle.tables.specs.Tables.{Kind, NOT, XOR, AND, RANDOM, tableLong}
+use Rattle.tables.specs.Tables.{Kind, NOT, XOR, AND, RANDOM, CONSTANT, OR, tableLong}
 use Rattle.masks.specs.Shares.{sharesOf}
 use Rattle.masks.specs.Wires.{cost, draws}
 
 -- "count each kind once and multiply": a figure of each kind, times the gates of that kind
 abbrev pub counted : (Kind → ℕ) → DC.Counts → ℕ
-counted f c = c .nots * f NOT + c .xors * f XOR + c .ands * f AND + c .randoms * f RANDOM
+counted f c =
+    c .nots * f NOT + c .xors * f XOR + c .ands * f AND + c .randoms * f RANDOM + c .constants * f CONSTANT + c .ors * f OR
 
 -- "the four figures" at order t, of I inputs, O outputs and so many gates of each kind
 abbrev pub figuresBy : ℕ → ℕ → ℕ → DC.Counts → DS.Sizes

@@ -29,9 +29,9 @@ abbrev pub isIn : ℕ → List ℕ → Bool
 isIn k [] = false
 isIn k (m ∷ ms) = eqb k m || isIn k ms
 
--- whether the product of two wires differs between the runs v and u: 1 or 0
-abbrev pub differs : (ℕ → ℕ) → (ℕ → ℕ) → ℕ → ℕ → ℕ
-differs v u a b = xor (v a * v b) (u a * u b)
+-- whether a product differs between two runs, of x and y in the first, of x′ and y′ in the second: 1 or 0
+abbrev pub differs : ℕ → ℕ → ℕ → ℕ → ℕ
+differs x y x′ y′ = xor (x * y) (x′ * y′)
 
 -- what sets one AND apart from another, for a pair i < j
 pub record Gadget : Type 0 where

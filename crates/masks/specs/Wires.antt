@@ -1,10 +1,12 @@
 -- Masking at order t (document 01, "Masking at order t" and "Marks and the mapped tape"): the masked table's wires in order,
 -- each with its gate and its origin, the wires that carry each plain wire's shares, and the marks of a wire.
 -- Assumes nothing.
+use mathlib.Core.Bool.{cond}
 use mathlib.Core.List.{List, [], _∷_, _++_, map}
 use Prim.Native.Nat.{ℕ, suc, _+_, _-_, _*_}
+use lib.Dec.{eqb}
 use lib.ListN.{getD, drop}
-use Rattle.tables.specs.Tables.{Kind, NOT, XOR, AND, RANDOM, UNKNOWN, Gate, gate, Table}
+use Rattle.tables.specs.Tables.{Kind, NOT, XOR, AND, RANDOM, CONSTANT, OR, UNKNOWN, Gate, gate, Table}
 use Rattle.tables.specs.Runs.{randoms}
 use Rattle.masks.specs.Shares.{sharesOf, upFrom, inTurn, Pair, pairs, tri, row}
 use Rattle.masks.specs.Gadgets.{Five, allFive, indexOf, Gadget}
@@ -15,21 +17,37 @@ pub data Part : Type 0 where
   own : ℕ → Part
   sum : ℕ → ℕ → Part
 
+-- a wire of a masked OR: the NOT of the left operand's share 1, of the right one's, a wire of its AND, the NOT of the result's
+pub data OrPart : Type 0 where
+  leftNot rightNot lastNot : OrPart
+  inAnd : Part → OrPart
+
 -- where a masked wire comes from: share s of input i, or a wire of gate g
 pub data Origin : Type 0 where
   inputShare : ℕ → ℕ → Origin
   notOf : ℕ → Origin
   xorShare : ℕ → ℕ → Origin
   andPart : ℕ → Part → Origin
+  constantShare : ℕ → ℕ → Origin
+  orPart : ℕ → OrPart → Origin
 
--- "input share s, XOR share s, row i's own product and sums have {s} or {i}; the NOT wire has {1}"; a mark is a share number
+-- "row i's own product and sums have {s} or {i}"
+abbrev pub partMarks : Gadget → Part → List ℕ
+partMarks G (pair f i j) = G .marks (suc i) (suc j) f
+partMarks G (own i) = suc i ∷ []
+partMarks G (sum i m) = suc i ∷ []
+
+-- "input share s, XOR share s"; "the NOT wire has {1}"; a constant is "marked by share" (Card 6); a mark is a share number
 abbrev pub marks : Gadget → Origin → List ℕ
 marks G (inputShare i s) = suc s ∷ []
 marks G (notOf g) = 1 ∷ []
 marks G (xorShare g s) = suc s ∷ []
-marks G (andPart g (pair f i j)) = G .marks (suc i) (suc j) f
-marks G (andPart g (own i)) = suc i ∷ []
-marks G (andPart g (sum i m)) = suc i ∷ []
+marks G (andPart g p) = partMarks G p
+marks G (constantShare g s) = suc s ∷ []
+marks G (orPart g leftNot) = 1 ∷ []
+marks G (orPart g rightNot) = 1 ∷ []
+marks G (orPart g lastNot) = 1 ∷ []
+marks G (orPart g (inAnd p)) = partMarks G p
 
 -- a wire that a gate of the masked table drives
 pub record Wire : Type 0 where
@@ -52,13 +70,17 @@ originOf x = x .origin
 abbrev pub share : List ℕ → ℕ → ℕ
 share a i = getD a i 0
 
--- the five wires of a pair, from wire w on
-abbrev pub pairWires : Gadget → ℕ → List ℕ → List ℕ → ℕ → Pair → List Wire
-pairWires G g a b w p =
+-- shares 1 to n where share 1 is on wire w: "Shares 2 to n are the operand's wires"
+abbrev pub firstOn : ℕ → List ℕ → List ℕ
+firstOn w a = w ∷ drop 1 a
+
+-- the five wires of a pair, from wire w on; `part` says where the wires of this AND come from
+abbrev pub pairWires : Gadget → (Part → Origin) → List ℕ → List ℕ → ℕ → Pair → List Wire
+pairWires G part a b w p =
     let i = p .lower in
     let j = p .upper in
     map
-    (λ f. wire (G .gates w (share a i) (share b j) (share a j) (share b i) f) (andPart g (pair f i j)))
+    (λ f. wire (G .gates w (share a i) (share b j) (share a j) (share b i) f) (part (pair f i j)))
     allFive
 
 -- a running sum: each wire adds one of zs to the wire before it, "running sum on the left"
@@ -67,39 +89,58 @@ adding o m last next [] = []
 adding o m last next (z ∷ zs) = wire (gate XOR last z) (o m) ∷ adding o (suc m) next (suc next) zs
 
 -- row i from wire w on: "a_i·b_i, and n−1 sums that add z(i,j)"
-abbrev pub rowWires : ℕ → List ℕ → List ℕ → (ℕ → List ℕ) → ℕ → ℕ → List Wire
-rowWires g a b zs w i =
-    wire (gate AND (share a i) (share b i)) (andPart g (own i)) ∷ adding (λ m. andPart g (sum i m)) 1 w (suc w) (zs i)
+abbrev pub rowWires : (Part → Origin) → List ℕ → List ℕ → (ℕ → List ℕ) → ℕ → ℕ → List Wire
+rowWires part a b zs w i =
+    wire (gate AND (share a i) (share b i)) (part (own i)) ∷ adding (λ m. part (sum i m)) 1 w (suc w) (zs i)
 
 -- of pair number q, counted from 0, the wire f, where the AND's first wire is w
 abbrev pub pairWire : ℕ → Five → ℕ → ℕ
 pairWire w f q = w + 5 * q + indexOf f
 
 -- "AND of a and b": the pairs' wires, then the rows'
-unfoldable pub andWires : Gadget → ℕ → ℕ → ℕ → List ℕ → List ℕ → List Wire
-andWires G n g w a b =
-    inTurn 5 w (pairs n) (pairWires G g a b)
+unfoldable pub andWires : Gadget → ℕ → (Part → Origin) → ℕ → List ℕ → List ℕ → List Wire
+andWires G n part w a b =
+    inTurn 5 w (pairs n) (pairWires G part a b)
     ++ inTurn n
     (w + 5 * tri n)
     (upFrom n 0 (λ i. i))
-    (rowWires g a b (row n (pairWire w (G .low)) (pairWire w (G .high))))
+    (rowWires part a b (row n (pairWire w (G .low)) (pairWire w (G .high))))
 
--- the new wires of plain gate g, from wire w on, where a and b are the wires of its operands' shares
-abbrev pub newWires : Gadget → Kind → ℕ → ℕ → ℕ → List ℕ → List ℕ → List Wire
+-- "The last is share i of the result": the last wire of row i
+abbrev pub andShares : ℕ → ℕ → List ℕ
+andShares n w = upFrom n 0 (λ i. w + 5 * tri n + n * i + (n - 1))
+
+-- "An AND costs n² + 5n(n−1)/2 wires"
+abbrev pub andCost : ℕ → ℕ
+andCost n = 5 * tri n + n * n
+
+-- the new wires of plain gate g, from wire w on, where a and b are the wires of its operands' shares; l is its left operand, which
+-- is a constant's value
+abbrev pub newWires : Gadget → Kind → ℕ → ℕ → ℕ → ℕ → List ℕ → List ℕ → List Wire
 -- "NOT: one new wire, the NOT of share 1"
-newWires G NOT n g w a b = wire (gate NOT (share a 0) 0) (notOf g) ∷ []
+newWires G NOT l n g w a b = wire (gate NOT (share a 0) 0) (notOf g) ∷ []
 -- "XOR: n new wires, share by share"
-newWires G XOR n g w a b = upFrom n 0 (λ s. wire (gate XOR (share a s) (share b s)) (xorShare g s))
-newWires G AND n g w a b = andWires G n g w a b
-newWires G RANDOM n g w a b = []
-newWires G (UNKNOWN k) n g w a b = []
+newWires G XOR l n g w a b = upFrom n 0 (λ s. wire (gate XOR (share a s) (share b s)) (xorShare g s))
+newWires G AND l n g w a b = andWires G n (andPart g) w a b
+newWires G RANDOM l n g w a b = []
+-- "n constants: its value in share 1, then zeros" (Card 6)
+newWires G CONSTANT l n g w a b = upFrom n 0 (λ s. wire (gate CONSTANT (cond (eqb s 0) l 0) 0) (constantShare g s))
+-- "the NOT of each operand's share 1, left first, the AND wires, and the NOT of the result's share 1" (Card 6)
+newWires G OR l n g w a b =
+    wire (gate NOT (share a 0) 0) (orPart g leftNot)
+    ∷ wire (gate NOT (share b 0) 0) (orPart g rightNot)
+    ∷ (andWires G n (λ p. orPart g (inAnd p)) (suc (suc w)) (firstOn w a) (firstOn (suc w) b)
+    ++ (wire (gate NOT (share (andShares n (suc (suc w))) 0) 0) (orPart g lastNot) ∷ []))
+newWires G (UNKNOWN k) l n g w a b = []
 
--- how many these are: "An AND costs n² + 5n(n−1)/2 wires"
+-- how many these are
 abbrev pub cost : Kind → ℕ → ℕ
 cost NOT n = 1
 cost XOR n = n
-cost AND n = 5 * tri n + n * n
+cost AND n = andCost n
 cost RANDOM n = 0
+cost CONSTANT n = n
+cost OR n = andCost n + 3
 cost (UNKNOWN k) n = 0
 
 -- "of which n(n−1)/2 are random"
@@ -108,16 +149,18 @@ draws NOT n = 0
 draws XOR n = 0
 draws AND n = tri n
 draws RANDOM n = 0
+draws CONSTANT n = 0
+draws OR n = tri n
 draws (UNKNOWN k) n = 0
 
 -- the wires that carry the shares of the result
 abbrev pub newShares : Kind → ℕ → ℕ → List ℕ → List ℕ
--- "Shares 2 to n are the operand's wires"
-newShares NOT n w a = w ∷ drop 1 a
+newShares NOT n w a = firstOn w a
 newShares XOR n w a = upFrom n w (λ s. s)
--- "The last is share i of the result": the last wire of row i
-newShares AND n w a = upFrom n 0 (λ i. w + 5 * tri n + n * i + (n - 1))
+newShares AND n w a = andShares n w
 newShares RANDOM n w a = []
+newShares CONSTANT n w a = upFrom n w (λ s. s)
+newShares OR n w a = firstOn (suc (suc w) + andCost n) (andShares n (suc (suc w)))
 newShares (UNKNOWN k) n w a = []
 
 -- "Share s of input i is wire n·i+s−1"
@@ -134,7 +177,7 @@ masked G n g w S [] = []
 masked G n g w S (x ∷ xs) =
     let a = getD S (x .left) [] in
     let b = getD S (x .right) [] in
-    newWires G (x .kind) n g w a b
+    newWires G (x .kind) (x .left) n g w a b
     ++ masked G n (suc g) (w + cost (x .kind) n) (S ++ (newShares (x .kind) n w a ∷ [])) xs
 
 -- each plain wire's shares once the gates are masked

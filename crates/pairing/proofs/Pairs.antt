@@ -1,7 +1,7 @@
 -- Pairs in both runs: what is left of a list of pairs after some of them, for any lawful gadget. What they flip is read off wires
 -- that come before all pairs.
 -- Assumes nothing.
-use mathlib.Core.Path.{_≡_, refl, sym, ap, ap₂, _∙_, subst, subst₂}
+use mathlib.Core.Path.{_≡_, refl, sym, ap, _∙_, subst, subst₂}
 use mathlib.Core.List.{List, [], _∷_, _++_, map, map-append}
 use Prim.Native.Nat.{ℕ, suc, _+_, _-_, _*_, _≤_, _<_}
 use native.Mathlib.Omega.{arith}
@@ -19,9 +19,9 @@ use Rattle.masks.proofs.Sum.{up-all}
 use Rattle.masks.proofs.Each.{in-turn-append, in-turn-length}
 use Rattle.masks.proofs.Costs.{all-of}
 use Rattle.masks.proofs.Lawful.{Lawful}
-use Rattle.maps.specs.Maps.{flipped, pairFlip}
-use Rattle.maps.specs.Both.{BothFlip, BothReady, bitsFor}
-use Rattle.maps.proofs.Flips.{pairs-flips-local}
+use Rattle.maps.specs.Maps.{flipped}
+use Rattle.maps.specs.Both.{wiresFlip, BothFlip, BothReady, bitsFor}
+use Rattle.maps.proofs.Flips.{pairs-flips-same}
 use Rattle.maps.proofs.FlipsAt.{flipped-long}
 use Rattle.maps.proofs.Both.{BothLeft, left-end, left-long, FlipsLeft, flips-more, flips-start, tapeAfter, oneAfter, otherAfter}
 use Rattle.pieces.specs.Layout.{pairGates}
@@ -30,7 +30,7 @@ use Rattle.pairing.specs.Pairing.{sharePairs}
 -- the pairs ps are left; the runs began with the values v and u on the wires before w₀, where the shares a and b stand
 pub record PairsLeft (G : Gadget) (k w₀ : ℕ) (a b : List ℕ) (v u : ℕ → ℕ) (ps : List Pair) (ts : List ℕ) (at w : ℕ)
     (M A B m x y : List ℕ) : Type 0 where
-  pub left : FlipsLeft (inTurn 5 w ps (pairGates G a b)) (map (pairFlip G k a b v u) ps) ts at w M A B m x y
+  pub left : FlipsLeft (inTurn 5 w ps (pairGates G a b)) (map (wiresFlip G k a b v u) ps) ts at w M A B m x y
   pub one : (p : ℕ) → p < w₀ → getD x p 0 ≡ v p
   pub other : (p : ℕ) → p < w₀ → getD y p 0 ≡ u p
   pub low : w₀ ≤ w
@@ -59,20 +59,20 @@ pairs-start :
     (G : Gadget) (k w : ℕ) (a b : List ℕ) (ps : List Pair) {ts : List ℕ} {at : ℕ} {m x y : List ℕ}
     → BothReady w (5 * length ps) at (length ps) ts m x y
     → let gs = inTurn 5 w ps (pairGates G a b) in
-    let fs = map (pairFlip G k a b (λ p. getD x p 0) (λ p. getD y p 0)) ps in
+    let fs = map (wiresFlip G k a b (λ p. getD x p 0) (λ p. getD y p 0)) ps in
     PairsLeft G k w a b (λ p. getD x p 0) (λ p. getD y p 0) ps ts at w
     (tapeAfter fs ts at m)
     (oneAfter gs fs ts at w x)
     (otherAfter gs fs ts at w y)
     m x y
 pairs-start G k w a b ps {ts} {at} {m} {x} {y} R =
-    let fs = map (pairFlip G k a b (λ p. getD x p 0) (λ p. getD y p 0)) ps in
+    let fs = map (wiresFlip G k a b (λ p. getD x p 0) (λ p. getD y p 0)) ps in
     record {
       left =
           flips-start
           (subst₂ (λ (c d : ℕ). BothReady w c at d ts m x y)
           (sym (pairs-long G a b w ps))
-          (sym (length-map ps (pairFlip G k a b (λ p. getD x p 0) (λ p. getD y p 0))))
+          (sym (length-map ps (wiresFlip G k a b (λ p. getD x p 0) (λ p. getD y p 0))))
           R);
       one = λ p h. refl;
       other = λ p h. refl;
@@ -85,10 +85,10 @@ module _ {G : Gadget} {k w₀ : ℕ} {a b : List ℕ} {v u : ℕ → ℕ} {all :
   -- what the pairs that are left need
   pairs-ready : BothReady w (5 * length all) at (length all) ts m x y
   pairs-ready =
-      let fs = map (pairFlip G k a b v u) all in
+      let fs = map (wiresFlip G k a b v u) all in
       subst₂ (λ (c d : ℕ). BothReady w c at d ts m x y)
       (pairs-long G a b w all)
-      (flipped-long fs at ts (P .left .fits) ∙ length-map all (pairFlip G k a b v u))
+      (flipped-long fs at ts (P .left .fits) ∙ length-map all (wiresFlip G k a b v u))
       (P .left .left .ready)
 
   pairs-more :
@@ -96,22 +96,26 @@ module _ {G : Gadget} {k w₀ : ℕ} {a b : List ℕ} {v u : ℕ → ℕ} {all :
       → All (λ p. (p .lower < p .upper) × (p .upper < n)) ps
       → ((i : ℕ) → i < n → share a i < w₀)
       → ((i : ℕ) → i < n → share b i < w₀)
-      → BothFlip (inTurn 5 w ps (pairGates G a b)) (map (pairFlip G k a b (λ p. getD x p 0) (λ p. getD y p 0)) ps) ts at w m m′ x x′ y y′
+      → BothFlip (inTurn 5 w ps (pairGates G a b)) (map (wiresFlip G k a b (λ p. getD x p 0) (λ p. getD y p 0)) ps) ts at w m m′ x x′ y y′
       → at′ ≡ at + length ps → w′ ≡ w + 5 * length ps → PairsLeft G k w₀ a b v u qs ts at′ w′ M A B m′ x′ y′
   pairs-more L n ps qs {at′} {w′} {m′} {x′} {y′} cut inside sa sb ran next-at next-w =
       let F = pairGates G a b in
       let gs = inTurn 5 w ps F in
-      let fs = map (pairFlip G k a b v u) ps in
-      let same : map (pairFlip G k a b (λ p. getD x p 0) (λ p. getD y p 0)) ps ≡ fs =
-      pairs-flips-local G n k w₀ a b _ _ v u ps inside sa sb (P .one) (P .other) in
+      let fs = map (wiresFlip G k a b v u) ps in
+      let same : map (wiresFlip G k a b (λ p. getD x p 0) (λ p. getD y p 0)) ps ≡ fs =
+      pairs-flips-same G n k _ _ _ _ _ _ _ _ ps inside
+      (λ i h. P .one _ (sa i h))
+      (λ i h. P .one _ (sb i h))
+      (λ i h. P .other _ (sa i h))
+      (λ i h. P .other _ (sb i h)) in
       let here : BothFlip gs fs ts at w m m′ x x′ y y′ = subst (λ (l : List ℕ). BothFlip gs l ts at w m m′ x x′ y y′) same ran in
       let gates : inTurn 5 w all F ≡ gs ++ inTurn 5 (w + 5 * length ps) qs F =
       ap (λ (l : List Pair). inTurn 5 w l F) cut ∙ in-turn-append 5 w ps qs F in
-      let flips : map (pairFlip G k a b v u) all ≡ fs ++ map (pairFlip G k a b v u) qs =
-      ap (map (pairFlip G k a b v u)) cut ∙ map-append (pairFlip G k a b v u) ps qs in
-      let exact : length fs ≡ length ps = length-map ps (pairFlip G k a b v u) in
+      let flips : map (wiresFlip G k a b v u) all ≡ fs ++ map (wiresFlip G k a b v u) qs =
+      ap (map (wiresFlip G k a b v u)) cut ∙ map-append (wiresFlip G k a b v u) ps qs in
+      let exact : length fs ≡ length ps = length-map ps (wiresFlip G k a b v u) in
       let long = pairs-long G a b w ps in
-      let left = flips-more gs (inTurn 5 (w + 5 * length ps) qs F) fs (map (pairFlip G k a b v u) qs) (P .left) gates flips
+      let left = flips-more gs (inTurn 5 (w + 5 * length ps) qs F) fs (map (wiresFlip G k a b v u) qs) (P .left) gates flips
       (exact ∙ sym (pairs-draw L a b w ps)) here in
       let fits = pairs-ready in
       let room : length all ≡ length ps + length qs = ap length cut ∙ length-append ps qs in
@@ -129,8 +133,8 @@ module _ {G : Gadget} {k w₀ : ℕ} {a b : List ℕ} {v u : ℕ → ℕ} {all :
   pairs-end none =
       left-end
       (subst
-      (λ (l : List Pair). BothLeft (inTurn 5 w l (pairGates G a b)) (bitsFor (map (pairFlip G k a b v u) l) at ts)
-      (flipped (bitsFor (map (pairFlip G k a b v u) l) at ts) (map (pairFlip G k a b v u) l)) ts at w M A B m x y)
+      (λ (l : List Pair). BothLeft (inTurn 5 w l (pairGates G a b)) (bitsFor (map (wiresFlip G k a b v u) l) at ts)
+      (flipped (bitsFor (map (wiresFlip G k a b v u) l) at ts) (map (wiresFlip G k a b v u) l)) ts at w M A B m x y)
       none
       (P .left .left))
 
@@ -140,7 +144,7 @@ pub record PairsGoing (G : Gadget) (k : ℕ) (a b : List ℕ) (ps : List Pair) (
   pub start : BothReady w₀ (5 * length ps) at₀ (length ps) ts m₀ x₀ y₀
   pub left :
       let gs = inTurn 5 w₀ ps (pairGates G a b) in
-      let fs = map (pairFlip G k a b (λ p. getD x₀ p 0) (λ p. getD y₀ p 0)) ps in
+      let fs = map (wiresFlip G k a b (λ p. getD x₀ p 0) (λ p. getD y₀ p 0)) ps in
       PairsLeft G k w₀ a b (λ p. getD x₀ p 0) (λ p. getD y₀ p 0) qs ts at w
       (tapeAfter fs ts at₀ m₀)
       (oneAfter gs fs ts at₀ w₀ x₀)
@@ -162,7 +166,7 @@ module _ {G : Gadget} {k : ℕ} {a b : List ℕ} {ps : List Pair} {ts : List ℕ
       Lawful G → (n : ℕ) (now later : List Pair) {at′ w′ : ℕ} {m′ x′ y′ : List ℕ} → qs ≡ now ++ later
       → All (λ p. (p .lower < p .upper) × (p .upper < n)) now → ((i : ℕ) → i < n → share a i < w₀)
       → ((i : ℕ) → i < n → share b i < w₀)
-      → BothFlip (inTurn 5 w now (pairGates G a b)) (map (pairFlip G k a b (λ p. getD x p 0) (λ p. getD y p 0)) now) ts at w
+      → BothFlip (inTurn 5 w now (pairGates G a b)) (map (wiresFlip G k a b (λ p. getD x p 0) (λ p. getD y p 0)) now) ts at w
       m m′ x x′ y y′
       → at′ ≡ at + length now → w′ ≡ w + 5 * length now → PairsGoing G k a b ps ts at₀ w₀ m₀ x₀ y₀ later at′ w′ m′ x′ y′
   going-more L n now later cut inside sa sb ran next-at next-w =
@@ -176,7 +180,7 @@ module _ {G : Gadget} {k : ℕ} {a b : List ℕ} {ps : List Pair} {ts : List ℕ
 
   pub going-end :
       qs ≡ []
-      → BothFlip (inTurn 5 w₀ ps (pairGates G a b)) (map (pairFlip G k a b (λ p. getD x₀ p 0) (λ p. getD y₀ p 0)) ps) ts at₀ w₀
+      → BothFlip (inTurn 5 w₀ ps (pairGates G a b)) (map (wiresFlip G k a b (λ p. getD x₀ p 0) (λ p. getD y₀ p 0)) ps) ts at₀ w₀
       m₀ m x₀ x y₀ y
   going-end none = let e = pairs-end (P .left) none in record { mapped = e .0; one = e .1; other = e .2 }
 
@@ -218,18 +222,17 @@ pub one-pair :
     → ai ≡ share a i → bj ≡ share b j → aj ≡ share a j → bi ≡ share b i → p ≡ suc i → q ≡ suc j
     → let v : ℕ → ℕ = λ p. getD x p 0 in
     let u : ℕ → ℕ = λ p. getD y p 0 in
-    BothFlip (map (G .gates w ai bj aj bi) allFive) (G .flip k p q (differs v u ai bj) (differs v u aj bi) ∷ []) ts at w
+    BothFlip (map (G .gates w ai bj aj bi) allFive) (G .flip k p q (differs (v ai) (v bj) (u ai) (u bj)) (differs (v aj) (v bi) (u aj) (u bi)) ∷ []) ts at w
     m m′ x x′ y y′
-    → BothFlip (inTurn 5 w (pairOf i j ∷ []) (pairGates G a b)) (map (pairFlip G k a b v u) (pairOf i j ∷ [])) ts at w
+    → BothFlip (inTurn 5 w (pairOf i j ∷ []) (pairGates G a b)) (map (wiresFlip G k a b v u) (pairOf i j ∷ [])) ts at w
     m m′ x x′ y y′
 unfolding inTurn
 one-pair G k i j w a b ts at {ai} {bj} {aj} {bi} {p} {q} {m} {m′} {x} {x′} {y} {y′} e₁ e₂ e₃ e₄ ep eq ran =
     let v : ℕ → ℕ = λ p. getD x p 0 in
     let u : ℕ → ℕ = λ p. getD y p 0 in
     let gates : map (G .gates w ai bj aj bi) allFive ≡ pairGates G a b w (pairOf i j) = rw (e₁, e₂, e₃, e₄) refl in
-    let flip : G .flip k p q (differs v u ai bj) (differs v u aj bi) ≡ pairFlip G k a b v u (pairOf i j) =
-    ap₂ (λ (y z : ℕ). G .flip k y z (differs v u ai bj) (differs v u aj bi)) ep eq
-    ∙ ap₂ (G .flip k (suc i) (suc j)) (ap₂ (differs v u) e₁ e₂) (ap₂ (differs v u) e₃ e₄) in
+    let flip : G .flip k p q (differs (v ai) (v bj) (u ai) (u bj)) (differs (v aj) (v bi) (u aj) (u bi)) ≡ wiresFlip G k a b v u (pairOf i j) =
+    rw (ep, eq, e₁, e₂, e₃, e₄) refl in
     subst₂ (λ (gs : List Gate) (f : ℕ). BothFlip gs (f ∷ []) ts at w m m′ x x′ y y′) gates flip ran
 
 pub pair-inside : (n i j : ℕ) → i < j → j < n → All (λ p. (p .lower < p .upper) × (p .upper < n)) (pairOf i j ∷ [])

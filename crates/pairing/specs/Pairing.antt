@@ -6,8 +6,7 @@ use lib.ListN.{getD}
 use Rattle.pieces.specs.declared.Places as DP
 use Rattle.masks.specs.Shares.{upFrom, inTurn, Pair, pairOf}
 use Rattle.masks.specs.Gadgets.{isw}
-use Rattle.maps.specs.Maps.{pairFlip}
-use Rattle.maps.specs.Both.{BothFlip}
+use Rattle.maps.specs.Both.{wiresFlip, BothFlip}
 use Rattle.pieces.specs.Layout.{shareWires, pairGates}
 
 -- the pairs of share i, counted from 0, with each later one
@@ -20,5 +19,5 @@ abbrev pub PairsRan :
 PairsRan n k a b ps ts at w m m′ x x′ y y′ =
     BothFlip
     (inTurn 5 w ps (pairGates isw (shareWires n a) (shareWires n b)))
-    (map (pairFlip isw k (shareWires n a) (shareWires n b) (λ p. getD x p 0) (λ p. getD y p 0)) ps)
+    (map (wiresFlip isw k (shareWires n a) (shareWires n b) (λ p. getD x p 0) (λ p. getD y p 0)) ps)
     ts at w m m′ x x′ y y′

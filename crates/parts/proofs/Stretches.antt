@@ -8,15 +8,18 @@ use native.Mathlib.Omega.{arith}
 use lib.ListN.{length, getD, drop, replicate, length-replicate, drop-of-length-le}
 use lib.Seq.{drop-cons}
 use Rattle.tables.specs.declared.GateFields as DG
-use Rattle.tables.specs.Tables.{Kind, kindOf, Gate, noGate, Table, wires, gateOf, two, tableOf, total, wordBytes, pairBytes}
+use Rattle.tables.specs.Tables.{Kind, kindOf, Gate, noGate, Table, wires, gateOf, two, tableOf, operandsOf, total, wordBytes}
+use Rattle.tables.specs.Tables.{pairBytes}
 use Rattle.tables.specs.Says.{over}
 use Rattle.tables.specs.Inside.{putAt, GateIs}
 use Rattle.tables.proofs.Lists.{all-getD}
+use Rattle.tables.proofs.Run.{OfLeft, OfRight, read-left, read-right}
 use Rattle.tables.proofs.Format.{words-long}
 use Rattle.tables.proofs.Put.{Writing, writing-front, writing-fits, writing-piece, writing-end, put-length, put-zero}
 use Rattle.masks.specs.Gadgets.{isw}
 use Rattle.masks.specs.Wires.{cost, share, newShares, masked, outputShares, newWires}
 use Rattle.masks.proofs.Costs.{new-length, masked-length}
+use Rattle.masks.proofs.Placed.{new-wires-read}
 use Rattle.sizing.specs.declared.Plan as DP
 use Rattle.sizing.specs.Plans.{PlanReady}
 use Rattle.sizing.proofs.Planning.{plan-passed}
@@ -157,19 +160,20 @@ module _
   operands-facts = turn R (omega arith) (P .wire) is
 
   -- its operands' shares are where the arrays say
-  module _
-      {H B T : List ℕ}
-      {y z : DW.Places}
-      (L : Located (tableOf s) (p .shares) H B T)
-      (l : y ≡ placesAt H B T (x .left))
-      (r : z ≡ placesAt H B T (x .right)) where
+  module _ {H B T : List ℕ} (L : Located (tableOf s) (p .shares) H B T) where
+    abbrev y : List ℕ
+    y = shareWires (p .shares) (placesAt H B T (x .left))
+
+    abbrev z : List ℕ
+    z = shareWires (p .shares) (placesAt H B T (x .right))
+
     -- the gate's piece, and what is left after it
     operands-piece :
         let t = tableOf s in
         let n = p .shares in
         let c = gateOf t g .kind in
         operandBytes (masked isw n g w (sharesTo n t g) (stretch t g e))
-        ≡ operandBytes (newWires isw c n g w (shareWires n y) (shareWires n z))
+        ≡ operandBytes (newWires isw c (x .left) n g w y z)
         ++ operandBytes (masked isw n (suc g) (w + cost c n) (sharesTo n t (suc g)) (stretch t (suc g) e))
     unfolding masked
     operands-piece =
@@ -179,28 +183,37 @@ module _
         let S = sharesTo n t g in
         let inside : g < length (t .gates) = omega (arith, R .gates) in
         let f = operands-facts in
-        let at-left : getD S (G .left) [] ≡ shareWires n y =
-        rw (l, ← is .left) (located-at L g (x .left) (omega arith) (omega (arith, f .left, R .inputs))) in
-        let at-right : getD S (G .right) [] ≡ shareWires n z =
-        rw (r, ← is .right) (located-at L g (x .right) (omega arith) (omega (arith, f .right, R .inputs))) in
+        let o = operandsOf (kindOf (x .kind)) in
+        let at-left : OfLeft o (getD S (G .left) [] ≡ y) =
+        read-left o (p .inputs + g) (x .left) (x .right) (f .reads)
+        (λ k. rw (← is .left) (located-at L g (x .left) (omega arith) (omega (arith, k, R .inputs)))) in
+        let at-right : OfRight o (getD S (G .right) [] ≡ z) =
+        read-right o (p .inputs + g) (x .left) (x .right) (f .reads)
+        (λ k. rw (← is .right) (located-at L g (x .right) (omega arith) (omega (arith, k, R .inputs)))) in
         let next : S ++ (newShares (G .kind) n w (getD S (G .left) []) ∷ []) ≡ sharesTo n t (suc g) =
         rw (P .wire) (sym (shares-to-next n t g inside)) in
+        let same : newWires isw (G .kind) (G .left) n g w (getD S (G .left) []) (getD S (G .right) [])
+        ≡ newWires isw (G .kind) (x .left) n g w y z =
+        ap (λ (v : ℕ). newWires isw (G .kind) v n g w (getD S (G .left) []) (getD S (G .right) [])) (sym (is .left))
+        ∙ rw (← is .kind)
+        (new-wires-read isw (kindOf (x .kind)) (x .left) n g w (getD S (G .left) []) y (getD S (G .right) []) z
+        at-left at-right) in
         ap {A = List Gate} {B = List ℕ} (λ gs. operandBytes (masked isw n g w S gs)) (stretch-step t e g h (omega (arith, R .gates)))
-        ∙ operands-append (newWires isw (G .kind) n g w (getD S (G .left) []) (getD S (G .right) [])) _
-        ∙ rw (next, at-left, at-right) refl
+        ∙ operands-append (newWires isw (G .kind) (G .left) n g w (getD S (G .left) []) (getD S (G .right) [])) _
+        ∙ rw (next, same) refl
 
     pub operands-turn :
         {u : ℕ} {b′ : List ℕ}
-        → b′ ≡ putAt at (operandBytes (newWires isw (kindOf (x .kind)) (p .shares) g w (shareWires (p .shares) y) (shareWires (p .shares) z))) b
+        → b′ ≡ putAt at (operandBytes (newWires isw (kindOf (x .kind)) (x .left) (p .shares) g w y z)) b
         → u ≡ cost (kindOf (x .kind)) (p .shares)
         → Operands (tableOf s) (p .shares) whole b₀ e (g + 1) (w + u) (at + 4 * u) b′
     operands-turn {u} {b′} put₀ size =
         let t = tableOf s in
         let n = p .shares in
         let c = gateOf t g .kind in
-        let ws = newWires isw c n g w (shareWires n y) (shareWires n z) in
+        let ws = newWires isw c (x .left) n g w y z in
         let long : length (operandBytes ws) ≡ 4 * cost c n =
-        operands-long ws ∙ ap (λ (v : ℕ). 4 * v) (new-length isw c n g w (shareWires n y) (shareWires n z)) in
+        operands-long ws ∙ ap (λ (v : ℕ). 4 * v) (new-length isw c (x .left) n g w y z) in
         let put : b′ ≡ putAt at (operandBytes ws) b = rw (is .kind) at put₀ in
         rw (add-one, size, is .kind)
         (record {
@@ -216,13 +229,13 @@ module _
       let n = p .shares in
       let y = shareWires n (placesAt H B T (x .left)) in
       let z = shareWires n (placesAt H B T (x .right)) in
-      let ws = newWires isw (gateOf (tableOf s) g .kind) n g w y z in
+      let ws = newWires isw (gateOf (tableOf s) g .kind) (x .left) n g w y z in
       rw (is .kind)
       (omega (
         arith,
-        writing-fits (P .rest) (operandBytes ws) _ (operands-piece L refl refl),
+        writing-fits (P .rest) (operandBytes ws) _ (operands-piece L),
         operands-long ws,
-        new-length isw (gateOf (tableOf s) g .kind) n g w y z,
+        new-length isw (gateOf (tableOf s) g .kind) (x .left) n g w y z,
       ))
 
 -- what covers a buffer is all that it holds
@@ -236,7 +249,7 @@ kinds-long n xs =
 
 new-kinds-long : (k : Kind) (n : ℕ) → length (newKinds k n) ≡ cost k n
 new-kinds-long k n =
-    ap length (sym (new-kinds k n 0 0 [] [])) ∙ wire-kinds-long (newWires isw k n 0 0 [] []) ∙ new-length isw k n 0 0 [] []
+    ap length (sym (new-kinds k 0 n 0 0 [] [])) ∙ wire-kinds-long (newWires isw k 0 n 0 0 [] []) ∙ new-length isw k 0 n 0 0 [] []
 
 -- the kinds from gate g on and before gate e are left to write
 pub record Kinds (t : Table) (n : ℕ) (whole b₀ : List ℕ) (e g at : ℕ) (b : List ℕ) : Type 0 where

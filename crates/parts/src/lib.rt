@@ -23,13 +23,15 @@ pub fn write_kinds(table: &[u8], p: sizing::Plan, from: usize, to: usize, kinds:
     let n = p.shares;
     let gates = p.gates;
     let room = kinds.len();
-    kinds::write_xor_kinds(kinds, 0, room);
+    let mut costs = [0u16; 6];
+    masks::note_costs(n, &mut costs);
+    kinds::write_same_kinds(1, kinds, 0, room);
     let mut at = 0;
     let mut g = from;
     while g < to {
         let x = tables::gate_at(table, gates, g);
         kinds::write_kinds_of(x.kind, n, kinds, at);
-        at += masks::gate_cost(x.kind, n);
+        at += masks::noted_cost(&costs, x.kind);
         g += 1;
     }
 }
@@ -54,15 +56,15 @@ pub fn write_operands(
 {
     let n = p.shares;
     let gates = p.gates;
+    let mut costs = [0u16; 6];
+    masks::note_costs(n, &mut costs);
     let mut next = w;
     let mut at = 0;
     let mut g = from;
     while g < to {
         let x = tables::gate_at(table, gates, g);
-        let a = placing::places_at(head, base, step, x.left);
-        let b = placing::places_at(head, base, step, x.right);
-        writing::write_operands_of(x.kind, n, next, a, b, ops, at);
-        let new = masks::gate_cost(x.kind, n);
+        writing::write_operands_of(x.kind, x.left, x.right, n, next, head, base, step, ops, at);
+        let new = masks::noted_cost(&costs, x.kind);
         next += new;
         at += 4 * new;
         g += 1;

@@ -1,21 +1,24 @@
 -- The new wires of a plain gate as gates in pieces one after another, as the loops go over them; the plain gate's number does not matter.
 -- Assumes nothing.
 use mathlib.Core.Path.{_≡_, refl, sym, ap, ap₂, _∙_}
+use mathlib.Core.Bool.{cond}
 use mathlib.Core.List.{List, [], _∷_, _++_, map, map-append}
 use Prim.Native.Nat.{ℕ, zero, suc, _+_, _-_, _*_, _≤_, _<_}
 use native.Mathlib.Nat.{zero-add, add-zero}
 use native.Mathlib.Omega.{arith}
-use lib.ListN.{length, getD, length-append}
-use Rattle.tables.specs.Tables.{XOR, AND, kindOf, Gate, gate}
+use lib.Dec.{eqb}
+use lib.ListN.{length, getD, length-append, length-map}
+use Rattle.tables.specs.Tables.{NOT, XOR, AND, CONSTANT, OR, Gate, gate}
 use Rattle.masks.specs.Shares.{upFrom, inTurn, Pair, pairOf, pairs, tri, pairAt, row}
 use Rattle.masks.specs.Gadgets.{Gadget, isw}
-use Rattle.masks.specs.Wires.{Origin, driverOf, wire, andPart, sum, xorShare, share, pairWires, adding, pairWire}
-use Rattle.masks.specs.Wires.{rowWires, andWires, newWires}
-use Rattle.pieces.specs.Layout.{joined, pairGates, sumGates, highGates, lowGates, rowGates, rowsGates}
-use Rattle.pieces.specs.Layout.{xorGates}
+use Rattle.masks.specs.Wires.{Part, sum, inAnd, Origin, andPart, xorShare, constantShare, orPart, driverOf, wire, share, firstOn, pairWires}
+use Rattle.masks.specs.Wires.{adding, pairWire, rowWires, andWires, andShares, andCost, newWires}
+use Rattle.pieces.specs.Layout.{joined, sumGates, highGates, lowGates, rowGates, rowsGates}
+use Rattle.pieces.specs.Layout.{xorGates, constantGates, andGates, orGates}
 use Rattle.pieces.proofs.Bytes.{joined-long, joined-same}
 use Rattle.masks.proofs.Sum.{up-length, up-plus, up-shift}
 use Rattle.masks.proofs.Rows.{pairs-length, pair-below, pair-closed}
+use Rattle.masks.proofs.Costs.{and-length, or-driven}
 
 -- blocks for a counted list, from block c on: the block c starts at wire w + size·c
 in-turn-from :
@@ -155,11 +158,11 @@ row-long G n w v a b i h =
 
 -- a row's wires
 row-gates :
-    (G : Gadget) (n g w v : ℕ) (a b : List ℕ) (i : ℕ)
-    → map driverOf (rowWires g a b (row n (pairWire w (G .low)) (pairWire w (G .high))) v i) ≡ rowGates G n w v a b i
+    (G : Gadget) (n : ℕ) (part : Part → Origin) (w v : ℕ) (a b : List ℕ) (i : ℕ)
+    → map driverOf (rowWires part a b (row n (pairWire w (G .low)) (pairWire w (G .high))) v i) ≡ rowGates G n w v a b i
 unfolding row
-row-gates G n g w v a b i =
-    let o : ℕ → Origin = λ m. andPart g (sum i m) in
+row-gates G n part w v a b i =
+    let o : ℕ → Origin = λ m. part (sum i m) in
     let high : ℕ → ℕ = λ j. pairWire w (G .high) (pairAt n j i) in
     let low : ℕ → ℕ = λ j. pairWire w (G .low) (pairAt n i j) in
     let moved = rw add-zero at (up-plus (n - suc i) (suc i) 0 low) in
@@ -175,40 +178,49 @@ row-gates G n g w v a b i =
     )
     refl)
 
-xors-from :
-    (g m c : ℕ) (a b : List ℕ)
-    → map driverOf (upFrom m c (λ s. wire (gate XOR (share a s) (share b s)) (xorShare g s))) ≡ joined m c (xorGates a b)
+-- one gate for each share
+shares-from :
+    (m c : ℕ) (f : ℕ → Gate) (o : ℕ → Origin)
+    → map driverOf (upFrom m c (λ s. wire (f s) (o s))) ≡ joined m c (λ s. f s ∷ [])
 unfolding joined upFrom
-xors-from g zero c a b = refl
-xors-from g (suc m) c a b = rw (xors-from g m (suc c) a b) refl
+shares-from zero c f o = refl
+shares-from (suc m) c f o = rw (shares-from m (suc c) f o) refl
 
 pub xor-gates :
-    (G : Gadget) (n g w : ℕ) (a b : List ℕ) → map driverOf (newWires G XOR n g w a b) ≡ joined n 0 (xorGates a b)
-xor-gates G n g w a b = xors-from g n 0 a b
+    (G : Gadget) (l n g w : ℕ) (a b : List ℕ) → map driverOf (newWires G XOR l n g w a b) ≡ joined n 0 (xorGates a b)
+xor-gates G l n g w a b = shares-from n 0 (λ s. gate XOR (share a s) (share b s)) (xorShare g)
+
+pub constant-gates :
+    (G : Gadget) (l n g w : ℕ) (a b : List ℕ)
+    → map driverOf (newWires G CONSTANT l n g w a b) ≡ joined n 0 (constantGates l)
+constant-gates G l n g w a b = shares-from n 0 (λ s. gate CONSTANT (cond (eqb s 0) l 0) 0) (constantShare g)
 
 pub and-gates :
-    (G : Gadget) (n g w : ℕ) (a b : List ℕ)
-    → map driverOf (newWires G AND n g w a b)
-    ≡ inTurn 5 w (pairs n) (pairGates G a b) ++ rowsGates G n w (w + 5 * tri n) a b
+    (G : Gadget) (n : ℕ) (part : Part → Origin) (w : ℕ) (a b : List ℕ)
+    → map driverOf (andWires G n part w a b) ≡ andGates G n w a b
 unfolding andWires
-and-gates G n g w a b =
-    let F = pairWires G g a b in
+and-gates G n part w a b =
+    let F = pairWires G part a b in
     let v = w + 5 * tri n in
-    let R = rowWires g a b (row n (pairWire w (G .low)) (pairWire w (G .high))) in
+    let R = rowWires part a b (row n (pairWire w (G .low)) (pairWire w (G .high))) in
     let is = upFrom n 0 (λ i. i) in
     let ofRows : map driverOf (inTurn n v is R) ≡ rowsGates G n w v a b =
     in-turn-map n v is R driverOf
     ∙ (simp zero-add at (in-turn-joined n v n 0 (λ i. i) (λ u i. map driverOf (R u i))))
-    ∙ joined-same n 0 _ _ (λ i _. row-gates G n g w (v + n * i) a b i) in
+    ∙ joined-same n 0 _ _ (λ i _. row-gates G n part w (v + n * i) a b i) in
     map-append driverOf (inTurn 5 w (pairs n) F) (inTurn n v is R)
     ∙ ap₂ {A = List Gate} {B = List Gate} {C = List Gate} (λ x y. x ++ y) (in-turn-map 5 w (pairs n) F driverOf) ofRows
 
--- a byte that is no kind of a plain gate has no new wires
-pub no-wires :
-    (G : Gadget) (k n g w : ℕ) (a b : List ℕ) → (k ≡ 0 → ⊥) → (k ≡ 1 → ⊥) → (k ≡ 2 → ⊥)
-    → newWires G (kindOf k) n g w a b ≡ []
-no-wires G zero n g w a b p q r = absurd (p refl)
-no-wires G (suc zero) n g w a b p q r = absurd (q refl)
-no-wires G (suc (suc zero)) n g w a b p q r = absurd (r refl)
-no-wires G (suc (suc (suc zero))) n g w a b p q r = refl
-no-wires G (suc (suc (suc (suc k)))) n g w a b p q r = refl
+pub and-gates-long : (G : Gadget) (n w : ℕ) (a b : List ℕ) → length (andGates G n w a b) ≡ andCost n
+and-gates-long G n w a b =
+    sym (ap length (and-gates G n (andPart 0) w a b))
+    ∙ length-map (andWires G n (andPart 0) w a b) driverOf
+    ∙ and-length G n (andPart 0) w a b
+
+pub or-gates :
+    (G : Gadget) (l n g w : ℕ) (a b : List ℕ) → map driverOf (newWires G OR l n g w a b) ≡ orGates G n w a b
+or-gates G l n g w a b =
+    or-driven G l n g w a b
+    ∙ ap {A = List Gate} {B = List Gate}
+    (λ gs. gate NOT (share a 0) 0 ∷ gate NOT (share b 0) 0 ∷ (gs ++ (gate NOT (share (andShares n (suc (suc w))) 0) 0 ∷ [])))
+    (and-gates G n (λ p. orPart g (inAnd p)) (suc (suc w)) (firstOn w a) (firstOn (suc w) b))

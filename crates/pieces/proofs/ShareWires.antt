@@ -1,10 +1,11 @@
 -- The wires of shares as the code keeps them: a share's wire does not depend on how many shares are listed.
 -- Assumes nothing.
 use mathlib.Core.Path.{_≡_, refl, sym, ap, _∙_, subst}
+use mathlib.Core.List.{List}
 use Prim.Native.Nat.{ℕ, zero, suc, _+_, _-_, _*_, _≤_, _<_}
 use native.Mathlib.Omega.{arith}
 use Rattle.pieces.specs.declared.Places as DP
-use Rattle.masks.specs.Wires.{share}
+use Rattle.masks.specs.Wires.{share, firstOn}
 use Rattle.pieces.specs.Layout.{shareWires, LowShares}
 use Rattle.masks.proofs.Sum.{up-at}
 
@@ -26,3 +27,10 @@ shares-same m n (suc i) a h k =
 
 pub share-low : (n i : ℕ) (a : DP.Places) → LowShares n a → i < n → share (shareWires (suc i) a) i < 65536
 share-low n i a low h = subst (λ (w : ℕ). w < 65536) (shares-same n (suc i) i a h (omega arith)) (low i h)
+
+-- what holds of a wire and of all shares holds of the shares of which the first is on that wire
+pub first-each :
+    (P : ℕ → Type 0) (n w : ℕ) (a r : DP.Places) → shareWires n r ≡ firstOn w (shareWires n a) → P w
+    → ((i : ℕ) → i < n → P (share (shareWires n a) i)) → (i : ℕ) → i < n → P (share (shareWires n r) i)
+first-each P n w a r e h all zero k = subst (λ (l : List ℕ). P (share l 0)) (sym e) h
+first-each P n w a r e h all (suc i) k = subst (λ (l : List ℕ). P (share l (suc i))) (sym e) (all (suc i) k)

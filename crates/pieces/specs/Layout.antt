@@ -1,13 +1,15 @@
 -- For contracts inside the library only: no promise of a call cites this. How the code keeps the wires of a plain wire's
 -- shares, the new wires of a plain gate as gates in pieces one after another, as the loops go over them, and their operands' bytes.
 -- Assumes nothing.
+use mathlib.Core.Bool.{cond}
 use mathlib.Core.List.{List, [], _∷_, _++_, map}
 use Prim.Native.Nat.{ℕ, zero, suc, _+_, _-_, _*_, _<_, _≤_}
-use Rattle.tables.specs.Tables.{XOR, AND, Gate, gate, pairBytes}
+use lib.Dec.{eqb}
+use Rattle.tables.specs.Tables.{NOT, XOR, AND, CONSTANT, Gate, gate, pairBytes}
 use Rattle.pieces.specs.declared.Places as DP
-use Rattle.masks.specs.Shares.{upFrom, Pair, pairAt}
+use Rattle.masks.specs.Shares.{upFrom, inTurn, Pair, pairs, tri, pairAt}
 use Rattle.masks.specs.Gadgets.{allFive, Gadget}
-use Rattle.masks.specs.Wires.{Wire, driverOf, share, pairWire}
+use Rattle.masks.specs.Wires.{Wire, driverOf, share, firstOn, pairWire, andShares}
 
 -- share 1 on wire head, share s on wire base + (s − 2)·step
 abbrev pub shareWires : ℕ → DP.Places → List ℕ
@@ -59,6 +61,22 @@ rowsGates G n w v a b = joined n 0 (λ i. rowGates G n w (v + n * i) a b i)
 -- one share of an XOR
 abbrev pub xorGates : List ℕ → List ℕ → ℕ → List Gate
 xorGates a b s = gate XOR (share a s) (share b s) ∷ []
+
+-- one share of a constant of value l
+abbrev pub constantGates : ℕ → ℕ → List Gate
+constantGates l s = gate CONSTANT (cond (eqb s 0) l 0) 0 ∷ []
+
+-- an AND, from wire w on: the pairs, then the rows
+abbrev pub andGates : Gadget → ℕ → ℕ → List ℕ → List ℕ → List Gate
+andGates G n w a b = inTurn 5 w (pairs n) (pairGates G a b) ++ rowsGates G n w (w + 5 * tri n) a b
+
+-- an OR, from wire w on: two NOTs, the AND, and the NOT of its result's share 1
+abbrev pub orGates : Gadget → ℕ → ℕ → List ℕ → List ℕ → List Gate
+orGates G n w a b =
+    gate NOT (share a 0) 0
+    ∷ gate NOT (share b 0) 0
+    ∷ (andGates G n (suc (suc w)) (firstOn w a) (firstOn (suc w) b)
+    ++ (gate NOT (share (andShares n (suc (suc w))) 0) 0 ∷ []))
 
 -- the wires of both operands' n shares are below 65,536
 pub record ReadsShares (n : ℕ) (a b : DP.Places) : Type 0 where

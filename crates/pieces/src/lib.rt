@@ -1,7 +1,8 @@
 // Where the shares of a plain wire are kept, which wires the rows of an AND add, and the operands of one gate.
 ghost use mathlib.Core.Path.{_≡_};
-ghost use Prim.Native.Nat.{_+_, _*_, _≤_, _<_, ℕ, suc};
-ghost use Rattle.masks.specs.Wires.{share};
+ghost use Prim.Native.Nat.{_+_, _-_, _*_, _≤_, _<_, ℕ, suc};
+ghost use Rattle.masks.specs.Shares.{tri};
+ghost use Rattle.masks.specs.Wires.{share, firstOn, andShares};
 ghost use Rattle.pieces.specs.Layout.{shareWires};
 ghost use mathlib.Core.List.{_++_};
 ghost use lib.ListN.{length};
@@ -37,6 +38,25 @@ pub fn share_wire(a: Places, i: usize) -> usize
         return a.head;
     }
     later_wire(a, i)
+}
+
+// The places of shares of which the first is on wire w, the others where they were.
+pub fn first_on(w: usize, a: Places) -> Places
+    ensures { λ r. ⌜ ((n : ℕ) → shareWires n r ≡ firstOn w (shareWires n a)) ⌝ }
+{
+    Places {
+        head: w,
+        base: a.base,
+        step: a.step,
+    }
+}
+
+// The wire of share 1 of the result of an AND whose first wire is w: the last wire of its first row.
+pub fn and_first(n: usize, w: usize) -> usize
+    requires { ⌜ (1 ≤ n) × (n ≤ 31) × (w ≤ 65535) ⌝ }
+    ensures { λ r. ⌜ (r ≡ share (andShares n w) 0) × (r ≡ w + 5 * tri n + (n - 1)) ⌝ }
+{
+    w + 5 * masks::pair_count(n) + (n - 1)
 }
 
 // Writes one gate's operands: two fields.

@@ -10,11 +10,11 @@ use lib.Dec.{eqb}
 use lib.ListN.{length, getD, take, drop, length-set, length-append, take-append-drop, List·getD-append}
 use lib.Seq.{getD-set-same, getD-set-other, length-take-le, take-suc, take-length, getD-append-seam}
 use borrow.Author.Tests.{eqb-true, eqb-false}
-use Rattle.tables.specs.Tables.{Kind, kindOf, Gate, noGate, Table, wires, gateOf, total}
+use Rattle.tables.specs.Tables.{Kind, OR, kindOf, Gate, noGate, Table, wires, gateOf, total}
 use Rattle.tables.proofs.Run.{total-append}
 use Rattle.pieces.specs.declared.Places as DP
 use Rattle.masks.specs.Shares.{upFrom, tri}
-use Rattle.masks.specs.Wires.{cost, newShares, inputShares, sharesAfter}
+use Rattle.masks.specs.Wires.{firstOn, andCost, cost, newShares, inputShares, sharesAfter}
 use Rattle.pieces.specs.Layout.{shareWires}
 use Rattle.placing.specs.Located.{placesAt, Small, Room, Put, Holds, Noted, sharesTo, allShares, Located, gateWire}
 use Rattle.masks.proofs.Sum.{up-length, up-plus, up-shift, up-cong}
@@ -59,27 +59,34 @@ square-more (suc m) = omega (arith, square-more m)
 
 -- the places as the code chooses them, by the byte of the kind
 pub new-places-are :
-    {head base step other-base other-step : ℕ} (k n w d : ℕ) (a : DP.Places) → 1 ≤ n → n ≤ 31
-    → w + cost (kindOf k) n ≤ 65535 → Small a → k < 3 → d ≡ tri n
-    → other-base ≡ cond (eqb k 1) (w + 1) (w + 5 * d + (n - 1) + n) → other-step ≡ cond (eqb k 1) 1 n
-    → head ≡ cond (eqb k 2) (w + 5 * d + (n - 1)) w → base ≡ cond (eqb k 0) (a .base) other-base
+    {first head base step other-base other-step : ℕ} (k n w : ℕ) (a : DP.Places) → k ≤ 2 → 1 ≤ n → n ≤ 31
+    → w + cost (kindOf k) n ≤ 65535 → Small a → first ≡ w + 5 * tri n + (n - 1) → other-base ≡ cond (eqb k 1) (w + 1) (first + n)
+    → other-step ≡ cond (eqb k 1) 1 n → head ≡ cond (eqb k 2) first w → base ≡ cond (eqb k 0) (a .base) other-base
     → step ≡ cond (eqb k 0) (a .step) other-step
     → (shareWires n (placesOf head base step) ≡ newShares (kindOf k) n w (shareWires n a)) × Small (placesOf head base step)
-new-places-are zero n w d a some few fits small h e p q f b t =
+new-places-are zero n w a h some few fits small e p q f b t =
     rw (f, b, t) (refl, record { head = omega arith; base = small .base; step = small .step })
-new-places-are (suc zero) n w d a some few fits small h e p q f b t =
-    rw (f, b, t, p, q)
-    (shares-run n w some, record { head = omega arith; base = omega arith; step = omega arith })
-new-places-are (suc (suc zero)) n w d a some few fits small h e p q f b t =
+new-places-are (suc zero) n w a h some few fits small e p q f b t =
+    rw (f, b, t, p, q) (shares-run n w some, record { head = omega arith; base = omega arith; step = omega arith })
+new-places-are (suc (suc zero)) n w a h some few fits small e p q f b t =
     rw (f, b, t, p, q, e) (
       shares-rows n (w + 5 * tri n) (w + 5 * tri n + (n - 1)) some refl,
-      record {
-        head = omega (arith, square-more n);
-        base = omega (arith, square-more n);
-        step = omega arith;
-      },
+      record { head = omega (arith, square-more n); base = omega (arith, square-more n); step = omega arith },
     )
-new-places-are (suc (suc (suc k))) n w d a some few fits small h e p q f b t = absurd (omega arith)
+new-places-are (suc (suc (suc k))) n w a h some few fits small e p q f b t = absurd (omega arith)
+
+-- an OR's shares: those of its AND, with share 1 on its last wire
+pub or-places-are :
+    {first cost-of : ℕ} (n w : ℕ) → 1 ≤ n → n ≤ 31 → w + cost OR n ≤ 65535 → first ≡ w + 2 + 5 * tri n + (n - 1) → cost-of ≡ andCost n
+    → ((a : List ℕ) → shareWires n (placesOf (w + 2 + cost-of) (first + n) n) ≡ newShares OR n w a)
+    × Small (placesOf (w + 2 + cost-of) (first + n) n)
+or-places-are n w some few fits e c =
+    let v = suc (suc w) in
+    let same : w + 2 ≡ v = omega arith in
+    rw (e, c, same) (
+      (λ a. ap {A = List ℕ} {B = List ℕ} (firstOn (v + andCost n)) (shares-rows n (v + 5 * tri n) (v + 5 * tri n + (n - 1)) some refl)),
+      record { head = omega arith; base = omega (arith, square-more n); step = omega arith },
+    )
 
 -- the numbers of one wire written: there, and everywhere else
 module _ {p : ℕ} {a : DP.Places} {H B T H′ B′ T′ : List ℕ} (W : Put p a H B T H′ B′ T′) where

@@ -8,12 +8,14 @@ use native.Mathlib.Numerals.{add-one}
 use native.Mathlib.Omega.{arith}
 use lib.ListN.{length, getD, replicate, length-replicate}
 use Rattle.tables.specs.declared.GateFields as DG
-use Rattle.tables.specs.Tables.{kindOf, Table, gateOf, tableOf, total}
+use Rattle.tables.specs.Tables.{kindOf, Table, gateOf, tableOf, operandsOf, total}
 use Rattle.tables.specs.Inside.{GateIs}
+use Rattle.tables.proofs.Run.{OfLeft, read-left}
 use Rattle.pieces.specs.declared.Places as DW
 use Rattle.masks.specs.Shares.{upFrom}
 use Rattle.masks.specs.Wires.{cost, newShares, inputShares, sharesAfter}
 use Rattle.masks.proofs.Sum.{up-length, up-append}
+use Rattle.masks.proofs.Placed.{new-shares-read}
 use Rattle.sizing.specs.declared.Plan as DP
 use Rattle.sizing.specs.Plans.{PlanReady}
 use Rattle.pieces.specs.Layout.{shareWires}
@@ -124,12 +126,12 @@ module _ {s : List ℕ} {p : DP.Plan} (R : PlanReady s p) where
         let inside : g < length (t .gates) = omega (arith, R .gates) in
         let S = sharesTo n t g in
         let long : length S ≡ t .inputs + g = shares-to-length n t g (omega arith) in
-        let left : x .left < t .inputs + g = omega (arith, turn R h (P .wire) is .left, R .inputs) in
-        let kept : shareWires n (placesAt H B T (x .left)) ≡ getD S (x .left) [] = P .noted .holds (x .left) (omega (arith, long)) in
-        let old : shareWires n a ≡ getD S (gateOf t g .left) [] = rw (places, ← is .left) kept in
+        let old : OfLeft (operandsOf (kindOf (x .kind))) (shareWires n a ≡ getD S (gateOf t g .left) []) =
+        read-left (operandsOf (kindOf (x .kind))) (p .inputs + g) (x .left) (x .right) (turn R h (P .wire) is .reads)
+        (λ k. rw (places, ← is .left) (P .noted .holds (x .left) (omega (arith, long, R .inputs)))) in
         let one : shareWires n r ≡ newShares (gateOf t g .kind) n (gateWire n t g) (getD S (gateOf t g .left) []) =
         subst (λ (v : ℕ). shareWires n r ≡ newShares (gateOf t g .kind) n v (getD S (gateOf t g .left) [])) (P .wire)
-        (rw (is .kind, old) at new) in
+        (rw (is .kind) at (new ∙ new-shares-read (kindOf (x .kind)) n w (shareWires n a) (getD S (gateOf t g .left) []) old)) in
         rw add-one
         (record {
           noted = rw (shares-to-next n t g inside, ← one) (noted-next (P .noted) (omega (arith, long, R .inputs)) room W);

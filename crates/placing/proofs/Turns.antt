@@ -1,18 +1,19 @@
 -- What a plan that is ready says of a plain gate: its kind, its operands and its wires.
 -- Assumes nothing.
-use mathlib.Core.Path.{_≡_, refl, sym, _∙_, subst}
+use mathlib.Core.Path.{_≡_, refl, sym, _∙_}
 use mathlib.Core.Bool.{true, false}
 use mathlib.Core.List.{List, [], _∷_}
 use Prim.Native.Nat.{ℕ, zero, suc, _+_, _*_, _≤_, _<_}
-use native.Mathlib.Nat.{add-zero}
 use native.Mathlib.Omega.{arith}
 use lib.ListN.{length, getD}
 use Rattle.tables.specs.declared.GateFields as DG
 use Rattle.tables.specs.Refusals.{passed}
-use Rattle.tables.specs.Tables.{kindOf, Gate, noGate, gateOf, tableOf, known, operandsOf, operandsOk, isRandom, randomFault, total}
-use Rattle.tables.specs.Inside.{HasGates, HasOutputs, GateIs}
-use Rattle.tables.proofs.Accept.{accepted, operands-below, cond-refused, has-gates, has-outputs, gates-of-length, outputs-of-length}
-use Rattle.tables.proofs.Format.{SoundGates, gates-passed}
+use Rattle.tables.specs.Tables.{kindOf, Gate, noGate, gateOf, tableOf, known, operandsOf, isRandom, randomFault, total}
+use Rattle.tables.specs.Inside.{HasGates, HasOutputs, PlainByte, GateIs}
+use Rattle.tables.proofs.Run.{Reads}
+use Rattle.tables.proofs.Accept.{accepted, operands-read, operands-below, cond-refused, has-gates, has-outputs, gates-of-length}
+use Rattle.tables.proofs.Accept.{outputs-of-length}
+use Rattle.tables.proofs.Format.{gates-passed, sound-at}
 use Rattle.masks.specs.Shares.{upFrom}
 use Rattle.masks.specs.Gadgets.{isw}
 use Rattle.masks.specs.Wires.{cost}
@@ -27,21 +28,6 @@ use Rattle.pieces.specs.Layout.{LowShares}
 use Rattle.placing.specs.Located.{placesAt, Room, Located, allShares, gateWire}
 use Rattle.placing.proofs.Located.{all-shares-length, gate-wire-left, gate-wire-next}
 
-sound-at :
-    (w : ℕ) (gs : List Gate) (g : ℕ) → SoundGates w gs → g < length gs
-    → let x = getD gs g noGate in
-    (known (x .kind) ≡ true) × (operandsOk (w + g) (operandsOf (x .kind)) (x .left) (x .right) ≡ true)
-unfolding SoundGates
-sound-at w [] g p h = absurd (omega arith)
-sound-at w (x ∷ xs) zero p h = rw add-zero (p .0)
-sound-at w (x ∷ xs) (suc g) p h =
-    let y = getD xs g noGate in
-    let z = sound-at (suc w) xs g (p .1) (omega arith) in (
-      z .0,
-      subst (λ (v : ℕ). operandsOk v (operandsOf (y .kind)) (y .left) (y .right) ≡ true) {x = suc w + g} {y = w + suc g} (omega arith)
-          (z .1),
-    )
-
 random-at :
     (i : ℕ) (gs : List Gate) (g : ℕ) → passed (randomFault i gs) ≡ true → g < length gs → isRandom (getD gs g noGate .kind) ≡ false
 unfolding randomFault
@@ -50,19 +36,39 @@ random-at i (x ∷ xs) zero p h = cond-refused (isRandom (x .kind)) (randomFault
 random-at i (x ∷ xs) (suc g) p h =
     random-at (suc i) xs g (cond-refused (isRandom (x .kind)) (randomFault (suc i) xs) 7 i refl p .1) (omega arith)
 
-plain-byte : (k : ℕ) → known (kindOf k) ≡ true → isRandom (kindOf k) ≡ false → k < 3
-plain-byte zero p q = omega arith
-plain-byte (suc zero) p q = omega arith
-plain-byte (suc (suc zero)) p q = omega arith
-plain-byte (suc (suc (suc zero))) p q = let z : _≡_ {A = ℕ} 0 1 = cc in omega arith
-plain-byte (suc (suc (suc (suc k)))) p q = let z : _≡_ {A = ℕ} 0 1 = cc in omega arith
+plain-byte : (k : ℕ) → known (kindOf k) ≡ true → isRandom (kindOf k) ≡ false → PlainByte k
+plain-byte zero p q = (omega arith, λ e. omega (arith, e))
+plain-byte (suc zero) p q = (omega arith, λ e. omega (arith, e))
+plain-byte (suc (suc zero)) p q = (omega arith, λ e. omega (arith, e))
+plain-byte (suc (suc (suc zero))) p q = let z : _≡_ {A = ℕ} 0 1 = cc in absurd (omega arith)
+plain-byte (suc (suc (suc (suc zero)))) p q = (omega arith, λ e. omega (arith, e))
+plain-byte (suc (suc (suc (suc (suc zero))))) p q = (omega arith, λ e. omega (arith, e))
+plain-byte (suc (suc (suc (suc (suc (suc k)))))) p q = let z : _≡_ {A = ℕ} 0 1 = cc in absurd (omega arith)
 
 -- at gate g, whose fields are r and whose first masked wire is w
 pub record Turn (I n g w : ℕ) (r : DG.GateFields) : Type 0 where
-  pub kind : r .kind < 3
-  pub left : r .left < I + g
+  pub kind : PlainByte (r .kind)
+  pub left : r .left ≤ I + g
   pub right : r .right < I + g
+  pub reads : Reads (I + g) (kindOf (r .kind)) (r .left) (r .right)
   pub fits : w + cost (kindOf (r .kind)) n ≤ 65535
+
+-- the left operand of a constant is its value, that of any other gate an earlier wire
+early-left : (k l r w : ℕ) → PlainByte k → Reads w (kindOf k) l r → (k ≡ 4 → ⊥) → l < w
+early-left zero l r w p h c = h
+early-left (suc zero) l r w p h c = h .0
+early-left (suc (suc zero)) l r w p h c = h .0
+early-left (suc (suc (suc zero))) l r w p h c = absurd (p .1 refl)
+early-left (suc (suc (suc (suc zero)))) l r w p h c = absurd (c refl)
+early-left (suc (suc (suc (suc (suc zero))))) l r w p h c = h .0
+early-left (suc (suc (suc (suc (suc (suc k)))))) l r w p h c = absurd (omega (arith, p .0))
+
+module _ {I n g w : ℕ} {r : DG.GateFields} (T : Turn I n g w r) where
+  pub turn-early : (r .kind ≡ 4 → ⊥) → r .left < I + g
+  turn-early c = early-left (r .kind) (r .left) (r .right) (I + g) (T .kind) (T .reads) c
+
+  pub turn-value : r .kind ≡ 4 → r .left ≤ 1
+  turn-value e = rw e at (T .reads)
 
 -- the numbers of a plan
 pub record Sized (s : List ℕ) (p : DP.Plan) : Type 0 where
@@ -108,6 +114,8 @@ module _ {s : List ℕ} {p : DP.Plan} (R : PlanReady s p) where
         kind = plain-byte (r .kind) (rw (is .kind) (sound .0)) (rw (is .kind) (random-at 0 (t .gates) g (q .random) inside));
         left = omega (arith, below .0, is .left, R .inputs);
         right = omega (arith, below .1, is .right, R .inputs);
+        reads = rw (is .kind, is .left, is .right, R .inputs)
+            (operands-read (t .inputs + g) (operandsOf (x .kind)) (x .left) (x .right) (sound .1));
         fits =
             rw (is .kind)
             (omega (arith, e, gate-wire-next n t g inside, gate-wire-left n t (suc g), plan-wires, plan-fits R .wires));

@@ -1,8 +1,9 @@
 // Where the shares of every plain wire are in the masked table.
-ghost use mathlib.Core.Bool.{cond};
 ghost use mathlib.Core.Path.{_≡_};
-ghost use Prim.Native.Nat.{_+_, _*_, _≤_, _<_};
+ghost use mathlib.Core.List.{List};
+ghost use Prim.Native.Nat.{_+_, _*_, _≤_, _<_, ℕ};
 ghost use Rattle.tables.specs.Tables.{kindOf, tableOf};
+ghost use Rattle.tables.specs.Inside.{PlainByte};
 ghost use Rattle.masks.specs.Wires.{cost, newShares, inputShares};
 ghost use Rattle.pieces.specs.Layout.{shareWires};
 ghost use Rattle.sizing.specs.Plans.{PlanReady};
@@ -20,28 +21,40 @@ pub fn places_at(head: &[u16], base: &[u16], step: &[u16], p: usize) -> pieces::
     }
 }
 
-// One of two numbers, by a test.
-fn either(test: bool, yes: usize, no: usize) -> usize
-    ensures { λ r. ⌜ r ≡ cond test yes no ⌝ }
+// Where the shares of the result of a constant or an OR are, where its first wire is w.
+fn further_places(kind: u8, n: usize, w: usize) -> pieces::Places
+    requires { ⌜ (2 < kind) × PlainByte kind × (1 ≤ n) × (n ≤ 31) × (w + cost (kindOf kind) n ≤ 65535) ⌝ }
+    ensures { λ r. ⌜ ((a : List ℕ) → shareWires n r ≡ newShares (kindOf kind) n w a) × Small r ⌝ }
 {
-    if test {
-        return yes;
+    if kind == 4 {
+        return pieces::Places {
+            head: w,
+            base: w + 1,
+            step: 1,
+        };
     }
-    no
+    pieces::Places {
+        head: w + 2 + masks::and_cost(n),
+        base: pieces::and_first(n, w + 2) + n,
+        step: n,
+    }
 }
 
 // Where the shares of a plain gate's result are, where its first wire is w and its left operand's shares are at a.
 fn new_places(kind: u8, n: usize, w: usize, a: pieces::Places) -> pieces::Places
-    requires { ⌜ (kind < 3) × (1 ≤ n) × (n ≤ 31) × (w + cost (kindOf kind) n ≤ 65535) × Small a ⌝ }
+    requires { ⌜ PlainByte kind × (1 ≤ n) × (n ≤ 31) × (w + cost (kindOf kind) n ≤ 65535) × Small a ⌝ }
     ensures { λ r. ⌜ (shareWires n r ≡ newShares (kindOf kind) n w (shareWires n a)) × Small r ⌝ }
 {
-    let last = w + 5 * masks::pair_count(n) + (n - 1);
-    let base = either(kind == 1, w + 1, last + n);
-    let step = either(kind == 1, 1, n);
+    if kind > 2 {
+        return further_places(kind, n, w);
+    }
+    let last = pieces::and_first(n, w);
+    let base = tables::either(kind == 1, w + 1, last + n);
+    let step = tables::either(kind == 1, 1, n);
     pieces::Places {
-        head: either(kind == 2, last, w),
-        base: either(kind == 0, a.base, base),
-        step: either(kind == 0, a.step, step),
+        head: tables::either(kind == 2, last, w),
+        base: tables::either(kind == 0, a.base, base),
+        step: tables::either(kind == 0, a.step, step),
     }
 }
 
@@ -88,6 +101,8 @@ fn place_gates(table: &[u8], p: sizing::Plan, head: &mut [u16], base: &mut [u16]
     let n = p.shares;
     let inputs = p.inputs;
     let gates = p.gates;
+    let mut costs = [0u16; 6];
+    masks::note_costs(n, &mut costs);
     let mut w = n * inputs;
     let mut g = 0;
     while g < gates {
@@ -95,7 +110,7 @@ fn place_gates(table: &[u8], p: sizing::Plan, head: &mut [u16], base: &mut [u16]
         let a = places_at(head, base, step, x.left);
         let r = new_places(x.kind, n, w, a);
         put_places(head, base, step, inputs + g, r);
-        w += masks::gate_cost(x.kind, n);
+        w += masks::noted_cost(&costs, x.kind);
         g += 1;
     }
 }

@@ -22,27 +22,25 @@ both-bits P p q r t (suc zero) (suc zero) h k = t
 both-bits P p q r t (suc zero) (suc (suc b)) h k = absurd (omega arith)
 both-bits P p q r t (suc (suc a)) b h k = absurd (omega arith)
 
--- the truth tables of NOT, XOR and AND
+-- the truth tables of NOT, XOR, AND and OR
 abbrev pub truth : ℕ → ℕ → ℕ → ℕ
-truth k a b = 2147 / 2 ^ (4 * k + 2 * a + b) % 2
+truth k a b = 14682211 / 2 ^ (4 * k + 2 * a + b) % 2
 
-truth-not : (a b : ℕ) → a ≤ 1 → b ≤ 1 → truth 0 a b ≡ 1 - a
-truth-not = both-bits (λ a b. truth 0 a b ≡ 1 - a) refl refl refl refl
-
-truth-xor : (a b : ℕ) → a ≤ 1 → b ≤ 1 → truth 1 a b ≡ (a + b) % 2
-truth-xor = both-bits (λ a b. truth 1 a b ≡ (a + b) % 2) refl refl refl refl
-
-truth-and : (a b : ℕ) → a ≤ 1 → b ≤ 1 → truth 2 a b ≡ a * b
-truth-and = both-bits (λ a b. truth 2 a b ≡ a * b) refl refl refl refl
-
+-- a kind that is neither random nor a constant goes by the truth tables
 truth-driven :
-    (k a b : ℕ) → k ≤ 3 → (k ≡ 3 → ⊥) → a ≤ 1 → b ≤ 1 → (l m c : ℕ) (v : ℕ → ℕ) → v l ≡ a → v m ≡ b
+    (k a b : ℕ) → k ≤ 5 → (k ≡ 3 → ⊥) → (k ≡ 4 → ⊥) → a ≤ 1 → b ≤ 1 → (l m c : ℕ) (v : ℕ → ℕ) → v l ≡ a → v m ≡ b
     → truth k a b ≡ driven (kindOf k) l m v c
-truth-driven zero a b h n ha hb l m c v p q = rw p (truth-not a b ha hb)
-truth-driven (suc zero) a b h n ha hb l m c v p q = rw (p, q) (truth-xor a b ha hb)
-truth-driven (suc (suc zero)) a b h n ha hb l m c v p q = rw (p, q) (truth-and a b ha hb)
-truth-driven (suc (suc (suc zero))) a b h n ha hb l m c v p q = absurd (n refl)
-truth-driven (suc (suc (suc (suc k)))) a b h n ha hb l m c v p q = absurd (omega arith)
+truth-driven zero a b h n o ha hb l m c v p q =
+    rw p (both-bits (λ a b. truth 0 a b ≡ 1 - a) refl refl refl refl a b ha hb)
+truth-driven (suc zero) a b h n o ha hb l m c v p q =
+    rw (p, q) (both-bits (λ a b. truth 1 a b ≡ (a + b) % 2) refl refl refl refl a b ha hb)
+truth-driven (suc (suc zero)) a b h n o ha hb l m c v p q =
+    rw (p, q) (both-bits (λ a b. truth 2 a b ≡ a * b) refl refl refl refl a b ha hb)
+truth-driven (suc (suc (suc zero))) a b h n o ha hb l m c v p q = absurd (n refl)
+truth-driven (suc (suc (suc (suc zero)))) a b h n o ha hb l m c v p q = absurd (o refl)
+truth-driven (suc (suc (suc (suc (suc zero))))) a b h n o ha hb l m c v p q =
+    rw (p, q) (both-bits (λ a b. truth 5 a b ≡ 1 - (1 - a) * (1 - b)) refl refl refl refl a b ha hb)
+truth-driven (suc (suc (suc (suc (suc (suc k)))))) a b h n o ha hb l m c v p q = absurd (omega arith)
 
 -- a gate that is not random takes no bit
 drawn-none : (k : ℕ) → (k ≡ 3 → ⊥) → drawn (kindOf k) ≡ 0
@@ -50,16 +48,21 @@ drawn-none zero h = refl
 drawn-none (suc zero) h = refl
 drawn-none (suc (suc zero)) h = refl
 drawn-none (suc (suc (suc zero))) h = absurd (h refl)
-drawn-none (suc (suc (suc (suc k)))) h = refl
+drawn-none (suc (suc (suc (suc zero)))) h = refl
+drawn-none (suc (suc (suc (suc (suc zero))))) h = refl
+drawn-none (suc (suc (suc (suc (suc (suc k)))))) h = refl
 
--- a random gate takes the next bit; any other goes by the truth tables
-module _ {k a b : ℕ} {rs : List ℕ} {c : ℕ} {r : DD.Drawn} (ready : GateReady k a b rs c) where
-  pub says-random : k ≡ 3 → r .value ≡ getD rs c 0 → r .next ≡ c + 1 → GateSays k a b rs c r
-  says-random e v n = record { value = λ l m u p q. rw e v; next = rw e n }
+-- a random gate takes the next bit, a constant is its left operand; any other goes by the truth tables
+module _ {k l a b : ℕ} {rs : List ℕ} {c : ℕ} {r : DD.Drawn} (ready : GateReady k a b rs c) where
+  pub says-random : k ≡ 3 → r .value ≡ getD rs c 0 → r .next ≡ c + 1 → GateSays k l a b rs c r
+  says-random e v n = record { value = λ m u p q. rw e v; next = rw e n }
 
-  pub says-truth : (k ≡ 3 → ⊥) → r .value ≡ truth k a b → r .next ≡ c → GateSays k a b rs c r
-  says-truth h v n =
-      record {
-        value = λ l m u p q. v ∙ truth-driven k a b (ready .known) h (ready .left) (ready .right) l m _ u p q;
-        next = rw (drawn-none k h, add-zero) n;
-      }
+  pub says-constant : k ≡ 4 → r .value ≡ l % 2 → r .next ≡ c → GateSays k l a b rs c r
+  says-constant e v n = record { value = λ m u p q. rw e v; next = rw (e, add-zero) n }
+
+  pub says-truth :
+      (k ≡ 3 → ⊥) → (k ≡ 4 → ⊥) → r .value ≡ truth k a b → r .next ≡ c → GateSays k l a b rs c r
+  says-truth h j v n = record {
+    value = λ m u p q. v ∙ truth-driven k a b (ready .known) h j (ready .left h j) (ready .right) l m _ u p q;
+    next = rw (drawn-none k h, add-zero) n;
+  }

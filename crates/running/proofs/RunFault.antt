@@ -9,15 +9,15 @@ use lib.Dec.{eqb, ltb}
 use lib.ListN.{length}
 use borrow.Author.Tests.{eqb-true, not-false}
 use Rattle.tables.specs.Refusals.{fault, passed, orElse, refusedIf, badBit}
-use Rattle.tables.specs.declared.Counts as DC
 use Rattle.tables.specs.Tables.{wires, word, tableOf, tableFault}
-use Rattle.tables.specs.Counted.{countsOf}
 use Rattle.tables.specs.Runs.{randoms}
 use Rattle.tables.specs.Packing.{bytesFor, spareFault}
 use Rattle.tables.specs.Says.{suppliedFault, lentFault}
 use Rattle.tables.proofs.Tests.{and-true}
 use Rattle.tables.proofs.Accept.{inputs-of, gates-of-length, outputs-of-length, wires-of, accepted-few}
 use Rattle.tables.proofs.Total.{count-randoms, count-small}
+use Rattle.counts.specs.declared.ThreeKinds as DT
+use Rattle.counts.specs.Three.{threeOf}
 
 -- two counts that are right
 pub counts-right : (a n b m : ℕ) → not (eqb a n && eqb b m) ≡ false → (a ≡ n) × (b ≡ m)
@@ -27,28 +27,28 @@ counts-right a n b m h =
 
 -- an accepted table has few random gates
 pub few-randoms :
-    (s : List ℕ) {c : DC.Counts} → passed (tableFault s) ≡ true → c ≡ countsOf (tableOf s .gates) → c .randoms ≤ 65535
+    (s : List ℕ) {c : DT.ThreeKinds} → passed (tableFault s) ≡ true → c ≡ threeOf 3 (tableOf s .gates) → c .first ≤ 65535
 few-randoms s h e =
     omega (
       arith,
-      ap (λ (x : DC.Counts). x .randoms) e,
+      ap (λ (x : DT.ThreeKinds). x .first) e,
       count-small 3 (tableOf s .gates),
       gates-of-length s,
       accepted-few s h,
     )
 
-module _ (s xs rs : List ℕ) {n m : ℕ} {c : DC.Counts} (inputs : n ≡ word s 0) (counts : c ≡ countsOf (tableOf s .gates))
-    (bytes : m ≡ bytesFor (c .randoms)) where
+module _ (s xs rs : List ℕ) {n m : ℕ} {c : DT.ThreeKinds} (inputs : n ≡ word s 0) (counts : c ≡ threeOf 3 (tableOf s .gates))
+    (bytes : m ≡ bytesFor (c .first)) where
   supplied-is :
       suppliedFault (tableOf s) xs rs
       ≡ orElse
       (refusedIf (not (eqb (length xs) n && eqb (length rs) m)) 10)
-      (orElse (badBit 0 xs) (spareFault (length xs) (c .randoms) rs))
+      (orElse (badBit 0 xs) (spareFault (length xs) (c .first) rs))
   unfolding suppliedFault
   supplied-is =
       let i : tableOf s .inputs ≡ n = inputs-of s ∙ sym inputs in
-      let d : randoms (tableOf s .gates) ≡ c .randoms =
-      sym (ap (λ (x : DC.Counts). x .randoms) counts ∙ count-randoms (tableOf s .gates)) in
+      let d : randoms (tableOf s .gates) ≡ c .first =
+      sym (ap (λ (x : DT.ThreeKinds). x .first) counts ∙ count-randoms (tableOf s .gates)) in
       rw (i, d, bytes)
 
   pub supplied-wrong :
@@ -57,7 +57,7 @@ module _ (s xs rs : List ℕ) {n m : ℕ} {c : DC.Counts} (inputs : n ≡ word s
 
   pub supplied-bits :
       not (eqb (length xs) n && eqb (length rs) m) ≡ false
-      → suppliedFault (tableOf s) xs rs ≡ orElse (badBit 0 xs) (spareFault (length xs) (c .randoms) rs)
+      → suppliedFault (tableOf s) xs rs ≡ orElse (badBit 0 xs) (spareFault (length xs) (c .first) rs)
   supplied-bits e = supplied-is ∙ rw e
 
 pub lent-is :

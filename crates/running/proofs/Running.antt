@@ -1,39 +1,54 @@
 -- The gate loop of a run. Its invariant says what is left: the values from wire n + i on of the whole run, which solves the gates.
 -- Assumes nothing.
-use mathlib.Core.Path.{_≡_, sym, ap, subst, _∙_}
+use mathlib.Core.Path.{_≡_, refl, sym, ap, subst, _∙_}
 use mathlib.Core.Bool.{true}
 use mathlib.Core.List.{List, [], _∷_, _++_, append-assoc}
-use Prim.Native.Nat.{ℕ, zero, suc, _+_, _≤_, _<_}
+use Prim.Native.Nat.{ℕ, zero, suc, _+_, _-_, _≤_, _<_}
 use native.Mathlib.Nat.{add-zero, add-suc}
 use native.Mathlib.Omega.{arith}
 use lib.ListN.{length, getD, take, drop, set, length-append, length-drop, take-append-drop, drop-of-length-le, List·getD-append}
 use lib.Seq.{length-take-le, getD-take, take-take, take-length, take-append-seam, drop-cons}
 use Rattle.running.specs.declared.Drawn as DD
 use Rattle.tables.specs.declared.GateFields as DG
-use Rattle.tables.specs.Tables.{Kind, NOT, XOR, AND, RANDOM, UNKNOWN, kindOf, Gate, noGate, Table, gateOf, tableOf, known, operandsOf, total}
+use Rattle.tables.specs.Tables.{Kind, NOT, XOR, AND, RANDOM, CONSTANT, OR, UNKNOWN, kindOf, Gate, noGate, Table}
+use Rattle.tables.specs.Tables.{gateOf, tableOf, known, operandsOf, total}
 use Rattle.tables.specs.Runs.{Bits, driven, drawn, runFrom, randoms}
 use Rattle.tables.specs.Says.{over}
 use Rattle.tables.specs.Inside.{putAt, HasGates, GateIs}
 use Rattle.running.specs.Running.{GateReady, GateSays, RunReady}
 use Rattle.tables.proofs.Put.{Writing, writing-kept, writing-byte, writing-end, over-length}
-use Rattle.tables.proofs.Run.{Solves, Earlier, driven-local, run-length, run-bits, run-solves}
+use Rattle.tables.proofs.Run.{Solves, Reads, Earlier, driven-local, run-length, run-bits, run-solves}
 use Rattle.tables.proofs.Accept.{inputs-of, gates-of-length, gates-are, accepted, accepted-few, has-gates}
 use Rattle.tables.proofs.Accept.{operands-below}
 use Rattle.tables.proofs.Format.{SoundGates, sound-earlier, passed-sound-gates}
 
-known-small : (k : ℕ) → known (kindOf k) ≡ true → k ≤ 3
+known-small : (k : ℕ) → known (kindOf k) ≡ true → k ≤ 5
 known-small zero h = omega arith
 known-small (suc zero) h = omega arith
 known-small (suc (suc zero)) h = omega arith
 known-small (suc (suc (suc zero))) h = omega arith
-known-small (suc (suc (suc (suc k)))) h = let z : _≡_ {A = ℕ} 0 1 = cc in omega arith
+known-small (suc (suc (suc (suc zero)))) h = omega arith
+known-small (suc (suc (suc (suc (suc zero))))) h = omega arith
+known-small (suc (suc (suc (suc (suc (suc k)))))) h = let z : _≡_ {A = ℕ} 0 1 = cc in omega arith
 
 drawn-small : (k : Kind) → drawn k ≤ 1
 drawn-small NOT = omega arith
 drawn-small XOR = omega arith
 drawn-small AND = omega arith
 drawn-small RANDOM = omega arith
+drawn-small CONSTANT = omega arith
+drawn-small OR = omega arith
 drawn-small (UNKNOWN k) = omega arith
+
+-- a kind that is neither random nor a constant reads its left operand
+reads-left : (k w l r : ℕ) → k ≤ 5 → (k ≡ 3 → ⊥) → (k ≡ 4 → ⊥) → Reads w (kindOf k) l r → l < w
+reads-left zero w l r h n o e = e
+reads-left (suc zero) w l r h n o e = e .0
+reads-left (suc (suc zero)) w l r h n o e = e .0
+reads-left (suc (suc (suc zero))) w l r h n o e = absurd (n refl)
+reads-left (suc (suc (suc (suc zero)))) w l r h n o e = absurd (o refl)
+reads-left (suc (suc (suc (suc (suc zero))))) w l r h n o e = e .0
+reads-left (suc (suc (suc (suc (suc (suc k)))))) w l r h n o e = absurd (omega arith)
 
 -- a run begins with what it was given
 run-front : (gs : List Gate) (rs vs : List ℕ) → take (length vs) (runFrom gs rs vs) ≡ vs
@@ -78,8 +93,9 @@ module _ {s rs vs : List ℕ} {n g : ℕ} (r : RunReady s rs vs n g) where
   pub ready-gates : HasGates s g
   ready-gates = has-gates s (r .accepted) (r .gates)
 
-  pub ready-more : {i : ℕ} → i < g → i < length (tableOf s .gates)
-  ready-more h = omega (arith, gates-are ready-gates)
+  -- the gate that drives wire w
+  pub ready-more : {w : ℕ} → n ≤ w → w < n + g → w - n < length (tableOf s .gates)
+  ready-more h k = omega (arith, h, k, gates-are ready-gates)
 
   front-long : length (take n vs) ≡ n
   front-long = length-take-le n vs (omega (arith, r .room))
@@ -146,8 +162,8 @@ module _
   left-few : c + suc (length later) ≤ 65536
   left-few = omega (arith, r .few, ap length gates-left)
 
-  -- both operands, also where they are not read
-  pub earlier : (this .left < n + i) × (this .right < n + i)
+  -- both operands, also where they are not read: a constant's left one may be the wire that it drives
+  earlier : (this .left ≤ n + i) × (this .right < n + i)
   unfolding SoundGates
   earlier =
       operands-below (n + i) (operandsOf (this .kind)) (this .left) (this .right) (omega (arith, r .some-input))
@@ -161,11 +177,8 @@ module _
       ∙ getD-take (n + i) (over ran start) w 0 k
       ∙ List·getD-append ran (drop (length ran) start) 0 w (omega (arith, r .long))
 
-  pub value-bit : (w : ℕ) → w < n + i → getD vs w 0 ≤ 1
+  value-bit : (w : ℕ) → w < n + i → getD vs w 0 ≤ 1
   value-bit w k = rw (value-same w k) (r .bits w)
-
-  pub value-there : (w : ℕ) → w < n + i → w < length vs
-  value-there w k = omega (arith, r .writing .room)
 
   random-there : this .kind ≡ kindOf 3 → c < length rs
   random-there e =
@@ -204,29 +217,52 @@ module _
 
   -- the gate that was read: it is ready, and its value makes the turn
   module _ {x : DG.GateFields} (is : GateIs this x) where
-    pub left-earlier : x .left < n + i
-    left-earlier = omega (arith, is .left, earlier .0)
-
-    pub right-earlier : x .right < n + i
+    right-earlier : x .right < n + i
     right-earlier = omega (arith, is .right, earlier .1)
 
-    pub gate-ready : GateReady (x .kind) (getD vs (x .left) 0) (getD vs (x .right) 0) rs c
+    -- both have a place among the values
+    pub left-there : x .left < length vs
+    left-there = omega (arith, is .left, earlier .0, wire-there)
+
+    pub right-there : x .right < length vs
+    right-there = omega (arith, right-earlier, wire-there)
+
+    byte-small : x .kind ≤ 5
     unfolding SoundGates
+    byte-small = known-small (x .kind) (rw (is .kind) (left-sound .0 .0))
+
+    left-earlier : (x .kind ≡ 3 → ⊥) → (x .kind ≡ 4 → ⊥) → x .left < n + i
+    unfolding Earlier
+    left-earlier h j =
+        reads-left (x .kind) (n + i) (x .left) (x .right) byte-small h j
+        (rw (is .kind, is .left, is .right) (sound-earlier (n + i) (this ∷ later) left-sound .0))
+
+    pub gate-ready : GateReady (x .kind) (getD vs (x .left) 0) (getD vs (x .right) 0) rs c
     gate-ready = record {
-      known = known-small (x .kind) (rw (is .kind) (left-sound .0 .0));
-      left = value-bit (x .left) left-earlier;
+      known = byte-small;
+      left = λ h j. value-bit (x .left) (left-earlier h j);
       right = value-bit (x .right) right-earlier;
       random = λ e. random-there (sym (is .kind) ∙ ap kindOf e);
       few = omega (arith, left-few);
     }
 
     pub gate-turn :
-        (d : DD.Drawn) → GateSays (x .kind) (getD vs (x .left) 0) (getD vs (x .right) 0) rs c d
+        (d : DD.Drawn) → GateSays (x .kind) (x .left) (getD vs (x .left) 0) (getD vs (x .right) 0) rs c d
         → Running t rs start n (set vs (n + i) (d .value)) (d .next) (suc i)
     gate-turn d says =
         running-turn
-        (rw (is .kind) at (says .value (this .left) (this .right) (λ w. getD vs w 0) (rw (is .left)) (rw (is .right))) ∙ drives)
+        (rw (is .kind, is .left) at (says .value (this .right) (λ w. getD vs w 0) refl (rw (is .right))) ∙ drives)
         (rw (is .kind) at (says .next))
+
+-- what gate w - n made, said of wire w
+pub wire-turn :
+    {t : Table} {rs start : List ℕ} {n : ℕ} (vs : List ℕ) (x : ℕ) {c : ℕ} (w : ℕ) → n ≤ w
+    → Running t rs start n (set vs (n + (w - n)) x) c (suc (w - n)) → Running t rs start n (set vs w x) c (w + 1 - n)
+wire-turn {t} {rs} {start} {n} vs x {c} w h r =
+    subst (λ (p : ℕ). Running t rs start n (set vs p x) c (w + 1 - n)) {x = n + (w - n)} {y = w} (omega (arith, h))
+    (subst (λ (i : ℕ). Running t rs start n (set vs (n + (w - n)) x) c i) {x = suc (w - n)} {y = w + 1 - n}
+    (omega (arith, h))
+    r)
 
 pub running-end :
     {t : Table} {rs start : List ℕ} {n : ℕ} {vs : List ℕ} {c i : ℕ} → Running t rs start n vs c i

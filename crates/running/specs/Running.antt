@@ -14,18 +14,18 @@ use Rattle.tables.specs.Runs.{Bits, driven, drawn, run, randoms}
 use Rattle.tables.specs.Packing.{tapeOf}
 use Rattle.tables.specs.Inside.{HasOutputs}
 
--- a known kind, two bits, and a random bit where the kind takes one; few bits were taken
+-- a known kind, two bits, the left one where the kind reads it, and a random bit where the kind takes one; few bits were taken
 pub record GateReady (kind a b : ℕ) (rs : List ℕ) (at : ℕ) : Type 0 where
-  pub known : kind ≤ 3
-  pub left : a ≤ 1
+  pub known : kind ≤ 5
+  pub left : (kind ≡ 3 → ⊥) → (kind ≡ 4 → ⊥) → a ≤ 1
   pub right : b ≤ 1
   pub random : kind ≡ 3 → at < length rs
   pub few : at < 65536
 
--- the value of a gate whose operands have the values a and b, and the number of the next random bit
-pub record GateSays (kind a b : ℕ) (rs : List ℕ) (at : ℕ) (r : DD.Drawn) : Type 0 where
+-- the value of a gate with left operand l, whose operands have the values a and b, and the number of the next random bit
+pub record GateSays (kind l a b : ℕ) (rs : List ℕ) (at : ℕ) (r : DD.Drawn) : Type 0 where
   pub value :
-      (l m : ℕ) (v : ℕ → ℕ) → v l ≡ a → v m ≡ b → r .value ≡ driven (kindOf kind) l m v (getD rs at 0)
+      (m : ℕ) (v : ℕ → ℕ) → v l ≡ a → v m ≡ b → r .value ≡ driven (kindOf kind) l m v (getD rs at 0)
   pub next : r .next ≡ at + drawn (kindOf kind)
 
 -- an accepted table s with n inputs and g gates, enough random bits rs, and values vs that begin with the inputs' bits

@@ -15,18 +15,25 @@ struct Drawn {
     next: usize,
 }
 
-// The truth tables of NOT, XOR and AND: bit 4·kind + 2·a + b is what a gate of this kind makes of a and b.
-const TRUTH: u32 = 0x863;
+// The truth tables of NOT, XOR, AND and OR: bit 4·kind + 2·a + b is what a gate of this kind makes of a and b.
+const TRUTH: u32 = 0xE00863;
 
-// What a gate drives, from its operands' values.
-fn gate_value(kind: u8, a: u8, b: u8, random: &[u8], at: usize) -> Drawn
+// What a gate drives, from its left operand and its operands' values.
+fn gate_value(kind: u8, left: usize, a: u8, b: u8, random: &[u8], at: usize) -> Drawn
     requires { ⌜ GateReady kind a b (unpacked (now random)) at ⌝ }
-    ensures { λ r. ⌜ GateSays kind a b (unpacked (now (random .entry))) at r ⌝ }
+    ensures { λ r. ⌜ GateSays kind left a b (unpacked (now (random .entry))) at r ⌝ }
 {
     if kind == 3 {
         return Drawn {
             value: bits::tape_bit(random, at),
             next: at + 1,
+        };
+    }
+    if kind == 4 {
+        let bit = (left % 2) as u8;
+        return Drawn {
+            value: bit,
+            next: at,
         };
     }
     let row = 4 * kind + 2 * a + b;
@@ -36,7 +43,7 @@ fn gate_value(kind: u8, a: u8, b: u8, random: &[u8], at: usize) -> Drawn
     }
 }
 
-// Runs the gates over values that begin with the inputs.
+// Runs the gates over values that begin with the inputs: gate w - inputs drives wire w.
 fn run_gates(table: &[u8], inputs: usize, gates: usize, random: &[u8], values: &mut [u8])
     requires { ⌜ RunReady (now table) (unpacked (now random)) (now values) inputs gates ⌝ }
     ensures { λ _.
@@ -48,16 +55,17 @@ fn run_gates(table: &[u8], inputs: usize, gates: usize, random: &[u8], values: &
         (now (values .entry))
         ⌝ }
 {
+    let end = inputs + gates;
     let mut next: usize = 0;
-    let mut g: usize = 0;
-    while g < gates {
-        let x = tables::gate_at(table, gates, g);
+    let mut w = inputs;
+    while w < end {
+        let x = tables::gate_at(table, gates, w - inputs);
         let left = x.left;
         let right = x.right;
-        let turn = gate_value(x.kind, values[left], values[right], random, next);
-        values[inputs + g] = turn.value;
+        let turn = gate_value(x.kind, left, values[left], values[right], random, next);
+        values[w] = turn.value;
         next = turn.next;
-        g += 1;
+        w += 1;
     }
 }
 
@@ -78,7 +86,7 @@ fn supplied_fault(table: &[u8], inputs: &[u8], random: &[u8]) -> tables::Refusal
     requires { ⌜ passed (tableFault (now table)) ≡ true ⌝ }
     ensures { λ r. ⌜ Refused (suppliedFault (tableOf (now (table .entry))) (now (inputs .entry)) (now (random .entry))) r ⌝ }
 {
-    let draws = counts::count_kinds(table, tables::field(table, 2)).randoms;
+    let draws = counts::count_three(table, tables::field(table, 2), 3).first;
     let bytes = bits::bytes_for(draws);
     if !((inputs.len() == tables::field(table, 0)) & (random.len() == bytes)) {
         return tables::refuse(10, 0);

@@ -13,7 +13,7 @@ use lib.ListN.{length, drop, drop-of-length-le}
 use lib.Seq.{drop-cons}
 use Rattle.tables.specs.declared.Refusal as DR
 use Rattle.tables.specs.Refusals.{Fault, fault, none, passed, orElse, refusedIf}
-use Rattle.tables.specs.Tables.{NOT, XOR, AND, kindOf, noGate, gateOf, Table, wires, word, tableOf}
+use Rattle.tables.specs.Tables.{NOT, XOR, AND, CONSTANT, OR, kindOf, noGate, gateOf, Table, wires, word, tableOf}
 use Rattle.tables.specs.Tables.{tableBytes, tableFault, isRandom, randomFault}
 use Rattle.tables.specs.Counted.{countsOf}
 use Rattle.tables.specs.Says.{Refused}
@@ -57,7 +57,9 @@ other-random zero h = refl
 other-random (suc zero) h = refl
 other-random (suc (suc zero)) h = refl
 other-random (suc (suc (suc zero))) h = absurd (h refl)
-other-random (suc (suc (suc (suc b)))) h = refl
+other-random (suc (suc (suc (suc zero)))) h = refl
+other-random (suc (suc (suc (suc (suc zero))))) h = refl
+other-random (suc (suc (suc (suc (suc (suc b)))))) h = refl
 
 module _ {t : Table} {i b : ℕ} (S : Searching t i) (h : i < length (t .gates)) (e : kindOf b ≡ gateOf t i .kind) where
   pub search-found : b ≡ 3 → randomFault 0 (t .gates) ≡ fault 7 i
@@ -73,31 +75,32 @@ pub search-end : {t : Table} {i : ℕ} → Searching t i → length (t .gates) �
 unfolding randomFault
 search-end {t} {i} S h = S .rest ∙ rw (drop-of-length-le (t .gates) {i = i} h)
 
--- the gates' totals, kind by kind
-pub totals-say :
-    {c : DC.Counts} {n of-not of-xor of-and draw : ℕ}
-    → of-not ≡ cost NOT n → of-xor ≡ cost XOR n → of-and ≡ cost AND n → draw ≡ draws AND n
-    → TotalsSay c n (record { wires = c .nots * of-not + c .xors * of-xor + c .ands * of-and; draws = c .ands * draw })
-totals-say a b d e = record { wires = rw (a, b, d) (omega arith); draws = rw e (omega arith) }
-
 -- so many gates, inputs or outputs, times what is at most m
 pub few-times : (c v m : ℕ) → c ≤ 65535 → v ≤ m → c * v ≤ 65535 * m
 few-times c v m h k = mul-le-mul {n₂ = 65535} {m₂ = m} h k
 
 -- the totals of counts that a table can have
 module _ {c : DC.Counts} {n : ℕ} {r : DT.Totals} (F : FewGates c) (few : n ≤ 31) (T : TotalsSay c n r) where
-  pub few-total-wires : r .wires ≤ 3 * (65535 * 3286)
+  pub few-total-wires : r .wires ≤ 5 * (65535 * 3289)
   few-total-wires =
       omega (
         arith,
         T .wires,
-        few-times (c .nots) (cost NOT n) 3286 (F .nots) (cost-small NOT n few),
-        few-times (c .xors) (cost XOR n) 3286 (F .xors) (cost-small XOR n few),
-        few-times (c .ands) (cost AND n) 3286 (F .ands) (cost-small AND n few),
+        few-times (c .nots) (cost NOT n) 3289 (F .nots) (cost-small NOT n few),
+        few-times (c .xors) (cost XOR n) 3289 (F .xors) (cost-small XOR n few),
+        few-times (c .ands) (cost AND n) 3289 (F .ands) (cost-small AND n few),
+        few-times (c .constants) (cost CONSTANT n) 3289 (F .constants) (cost-small CONSTANT n few),
+        few-times (c .ors) (cost OR n) 3289 (F .ors) (cost-small OR n few),
       )
 
-  pub few-total-draws : r .draws ≤ 65535 * 465
-  few-total-draws = omega (arith, T .draws, few-times (c .ands) (draws AND n) 465 (F .ands) (draws-small AND n few))
+  pub few-total-draws : r .draws ≤ 2 * (65535 * 465)
+  few-total-draws =
+      omega (
+        arith,
+        T .draws,
+        few-times (c .ands) (draws AND n) 465 (F .ands) (draws-small AND n few),
+        few-times (c .ors) (draws OR n) 465 (F .ors) (draws-small OR n few),
+      )
 
 pub few-shares : {s : List ℕ} {o : ℕ} → Maskable s o → sharesOf o ≤ 31
 few-shares {o = o} M = omega (arith, order-range o (M .order) .1)
@@ -118,6 +121,8 @@ countable {s} {o} M hi hq e =
             nots = omega (arith, count-small 0 gs, gates-of-length s, few);
             xors = omega (arith, count-small 1 gs, gates-of-length s, few);
             ands = omega (arith, count-small 2 gs, gates-of-length s, few);
+            constants = omega (arith, count-small 4 gs, gates-of-length s, few);
+            ors = omega (arith, count-small 5 gs, gates-of-length s, few);
           });
     }
 

@@ -24,6 +24,8 @@ pub record FewGates (c : DC.Counts) : Type 0 where
   pub nots : c .nots ≤ 65535
   pub xors : c .xors ≤ 65535
   pub ands : c .ands ≤ 65535
+  pub constants : c .constants ≤ 65535
+  pub ors : c .ors ≤ 65535
 
 -- what so many gates of each kind cost and draw at n shares
 pub record TotalsSay (c : DC.Counts) (n : ℕ) (r : DT.Totals) : Type 0 where

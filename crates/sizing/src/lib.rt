@@ -1,11 +1,12 @@
 // What a plain table and an order come to: refusals 1 to 8, or the sizes of the masked table.
 ghost use mathlib.Core.Path.{_≡_};
-ghost use Prim.Native.Nat.{_≤_};
-ghost use Rattle.tables.specs.Tables.{tableOf, randomFault, total};
+ghost use Prim.Native.Nat.{_*_, _≤_};
+ghost use Rattle.tables.specs.Tables.{kindOf, tableOf, randomFault, total};
 ghost use Rattle.tables.specs.Counted.{ofKind};
 ghost use Rattle.tables.specs.Says.{Refused};
 ghost use Rattle.tables.specs.Inside.{HasGates};
 ghost use Rattle.masks.specs.Gadgets.{isw};
+ghost use Rattle.masks.specs.Wires.{cost, draws};
 ghost use Rattle.masks.specs.Says.{plainFault};
 ghost use Rattle.sizing.specs.Plans.{FewGates, TotalsSay, Countable, PlannedBy, PlanSays, PlanFits, planBytes};
 
@@ -51,17 +52,34 @@ fn random_fault(table: &[u8], gates: usize, randoms: usize) -> tables::Refusal
     tables::refuse(0, 0)
 }
 
+// What so many gates of one kind cost at n shares.
+fn kind_wires(count: usize, kind: u8, n: usize) -> usize
+    requires { ⌜ (count ≤ 65535) × (kind ≤ 5) × (n ≤ 31) ⌝ }
+    ensures { λ r. ⌜ (r ≡ count * cost (kindOf kind) n) × (r ≤ 65535 * 3289) ⌝ }
+{
+    count * masks::gate_cost(kind, n)
+}
+
+// What so many gates of one kind draw at n shares.
+fn kind_draws(count: usize, kind: u8, n: usize) -> usize
+    requires { ⌜ (count ≤ 65535) × (n ≤ 31) ⌝ }
+    ensures { λ r. ⌜ (r ≡ count * draws (kindOf kind) n) × (r ≤ 65535 * 465) ⌝ }
+{
+    count * masks::gate_draws(kind, n)
+}
+
 // What so many gates of each kind cost and draw at n shares.
 fn gate_totals(counts: tables::Counts, n: usize) -> Totals
     requires { ⌜ FewGates counts × (n ≤ 31) ⌝ }
     ensures { λ r. ⌜ TotalsSay counts n r ⌝ }
 {
-    let ands = counts.ands;
     Totals {
-        wires: counts.nots * masks::gate_cost(0, n)
-            + counts.xors * masks::gate_cost(1, n)
-            + ands * masks::gate_cost(2, n),
-        draws: ands * masks::gate_draws(2, n),
+        wires: kind_wires(counts.nots, 0, n)
+            + kind_wires(counts.xors, 1, n)
+            + kind_wires(counts.ands, 2, n)
+            + kind_wires(counts.constants, 4, n)
+            + kind_wires(counts.ors, 5, n),
+        draws: kind_draws(counts.ands, 2, n) + kind_draws(counts.ors, 5, n),
     }
 }
 

@@ -8,25 +8,27 @@ use native.Mathlib.Omega.{arith}
 use lib.ListN.{length, getD, take, drop, drop-of-length-le}
 use lib.Seq.{drop-cons}
 use Rattle.tables.specs.declared.GateFields as DG
-use Rattle.tables.specs.Tables.{Kind, kindOf, Gate, noGate, Table, gateOf, tableOf, total}
+use Rattle.tables.specs.Tables.{kindOf, Gate, noGate, Table, gateOf, tableOf, operandsOf, total}
 use Rattle.tables.specs.Inside.{ranOn, GateIs}
+use Rattle.tables.proofs.Run.{read-left, read-right}
 use Rattle.masks.specs.Gadgets.{isw}
 use Rattle.masks.specs.Wires.{driverOf, share, newWires, newShares, cost, draws, masked, inputShares, sharesAfter}
 use Rattle.masks.proofs.Lawful.{isw-lawful}
-use Rattle.masks.proofs.Placed.{placed-at, placed-inputs, share-below}
+use Rattle.masks.proofs.Placed.{placed-at, placed-inputs, share-below, new-wires-read}
 use Rattle.sizing.specs.declared.Plan as DP
 use Rattle.sizing.specs.Plans.{PlanReady}
 use Rattle.sizing.proofs.Planning.{plan-passed}
 use Rattle.maps.specs.Maps.{flipped, gateFlips, mapGates}
 use Rattle.maps.specs.Both.{BothFlip, BothReady, flipsAt}
 use Rattle.maps.proofs.Begun.{plain-inputs}
+use Rattle.maps.proofs.Flips.{gate-flips-read}
 use Rattle.maps.proofs.Both.{left-long}
 use Rattle.maps.proofs.MapGates.{GatesLeft, gates-start, gates-ready, gates-more, gates-end}
 use Rattle.pieces.specs.declared.Places as DW
 use Rattle.pieces.specs.Layout.{shareWires}
 use Rattle.placing.specs.Located.{placesAt, Room, Located, sharesTo, gateWire}
 use Rattle.placing.proofs.Located.{gate-wire-next, shares-to-next, shares-to-length, located-at}
-use Rattle.placing.proofs.Turns.{Turn, turn, plan-sized, located-room}
+use Rattle.placing.proofs.Turns.{Turn, turn, turn-early, turn-value, plan-sized, located-room}
 use Rattle.steps.specs.Steps.{StepReady, GateRan}
 
 -- the gates from g on are left, from wire w and from a place of the tape on; then the buffers are M, A and B
@@ -108,17 +110,11 @@ module _ {s : List ℕ} {p : DP.Plan} {k : ℕ} {ts M A B : List ℕ} {g w at : 
   facts : Turn (p .inputs) n g w r
   facts = turn R h (P .wire) is
 
-  left-are : getD S (this .left) [] ≡ shareWires n a
-  left-are = rw (← is .left) (located-at Z g (r .left) (omega (arith, inside)) (omega (arith, facts .left, R .inputs)))
+  left-are : r .left < p .inputs + g → getD S (this .left) [] ≡ shareWires n a
+  left-are h = rw (← is .left) (located-at Z g (r .left) (omega (arith, inside)) (omega (arith, h, R .inputs)))
 
-  right-are : getD S (this .right) [] ≡ shareWires n b
-  right-are = rw (← is .right) (located-at Z g (r .right) (omega (arith, inside)) (omega (arith, facts .right, R .inputs)))
-
-  -- this gate in both runs, by its kind and its operands' shares
-  abbrev GateOf : Kind → List ℕ → List ℕ → List ℕ → List ℕ → List ℕ → Type 0
-  GateOf c l r m′ x′ y′ =
-      BothFlip (map driverOf (newWires isw c n g w l r)) (gateFlips isw c n k l r (λ q. getD x q 0) (λ q. getD y q 0)) ts at w
-      m m′ x x′ y y′
+  right-are : r .right < p .inputs + g → getD S (this .right) [] ≡ shareWires n b
+  right-are h = rw (← is .right) (located-at Z g (r .right) (omega (arith, inside)) (omega (arith, h, R .inputs)))
 
   -- the gates that are left: this one, and those after it
   here : GatesLeft isw n k g w S (this ∷ drop (suc g) (t .gates)) ts at M A B m x y
@@ -137,32 +133,45 @@ module _ {s : List ℕ} {p : DP.Plan} {k : ℕ} {ts M A B : List ℕ} {g w at : 
     located-room R Z (omega (arith, facts .right)),
   )
 
-  pub step-ready : StepReady (r .kind) n w a b ts at m x y
+  pub step-ready : StepReady (r .kind) (r .left) n w a b ts at m x y
   step-ready =
       let z = plan-sized R in
       record {
         plain = facts .kind;
+        value = turn-value facts;
         some = omega (arith, z .some);
-        shares = record {
+        shares = λ c. record {
           few = z .few;
           low = omega (arith, facts .fits);
-          left = λ i l. subst (λ (ws : List ℕ). share ws i < w) left-are (before (this .left) (omega (arith, facts .left, is .left)) i l);
+          left = λ i l.
+              subst (λ (ws : List ℕ). share ws i < w) (left-are (turn-early facts c))
+              (before (this .left) (omega (arith, turn-early facts c, is .left)) i l);
           right = λ i l.
-              subst (λ (ws : List ℕ). share ws i < w) right-are (before (this .right) (omega (arith, facts .right, is .right)) i l);
+              subst (λ (ws : List ℕ). share ws i < w) (right-are (facts .right)) (before (this .right) (omega (arith, facts .right, is .right)) i l);
         };
         wires = facts .fits;
         both = rw (is .kind) (gates-ready isw-lawful here);
       }
 
   pub step-turn :
-      {c d : ℕ} {m′ x′ y′ : List ℕ} → GateRan (r .kind) n k g w a b ts at m m′ x x′ y y′ → c ≡ cost (kindOf (r .kind)) n
+      {c d : ℕ} {m′ x′ y′ : List ℕ} → GateRan (r .kind) (r .left) n k g w a b ts at m m′ x x′ y y′ → c ≡ cost (kindOf (r .kind)) n
       → d ≡ draws (kindOf (r .kind)) n → Stepping t n k ts M A B (g + 1) (w + c) (at + d) m′ x′ y′
   step-turn {c} {d} {m′} {x′} {y′} ran size bits =
       let kind = this .kind in
-      let of-kind : GateOf kind (shareWires n a) (shareWires n b) m′ x′ y′ =
-      subst (λ (z : Kind). GateOf z (shareWires n a) (shareWires n b) m′ x′ y′) (is .kind) ran in
-      let of-shares : GateOf kind (getD S (this .left) []) (getD S (this .right) []) m′ x′ y′ =
-      subst₂ (λ (l r : List ℕ). GateOf kind l r m′ x′ y′) (sym left-are) (sym right-are) of-kind in
+      let l = getD S (this .left) [] in
+      let e = getD S (this .right) [] in
+      let v : ℕ → ℕ = λ q. getD x q 0 in
+      let u : ℕ → ℕ = λ q. getD y q 0 in
+      let read = read-left (operandsOf (kindOf (r .kind))) (p .inputs + g) (r .left) (r .right) (facts .reads) (λ h. sym (left-are h)) in
+      let read′ = read-right (operandsOf (kindOf (r .kind))) (p .inputs + g) (r .left) (r .right) (facts .reads) (λ h. sym (right-are h)) in
+      let gates : map driverOf (newWires isw (kindOf (r .kind)) (r .left) n g w (shareWires n a) (shareWires n b))
+      ≡ map driverOf (newWires isw kind (this .left) n g w l e) =
+      ap (map driverOf) (new-wires-read isw (kindOf (r .kind)) (r .left) n g w _ l _ e read read′)
+      ∙ rw (is .kind, is .left) in
+      let flips : gateFlips isw (kindOf (r .kind)) n k (shareWires n a) (shareWires n b) v u ≡ gateFlips isw kind n k l e v u =
+      gate-flips-read isw (kindOf (r .kind)) n k _ l _ e v u read read′ ∙ rw (is .kind) in
+      let of-shares : BothFlip (map driverOf (newWires isw kind (this .left) n g w l e)) (gateFlips isw kind n k l e v u) ts at w m m′ x x′ y y′ =
+      subst₂ (λ (gs : List Gate) (fs : List ℕ). BothFlip gs fs ts at w m m′ x x′ y y′) gates flips ran in
       let next : S ++ (newShares kind n w (getD S (this .left) []) ∷ []) ≡ sharesTo n t (suc g) =
       rw (P .wire) (sym (shares-to-next n t g inside)) in
       rw (add-one, size, bits, is .kind)

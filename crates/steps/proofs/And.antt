@@ -13,8 +13,7 @@ use Rattle.masks.specs.Gadgets.{isw}
 use Rattle.masks.specs.Wires.{cost}
 use Rattle.masks.proofs.Rows.{pairs-length}
 use Rattle.masks.proofs.Lawful.{isw-lawful}
-use Rattle.maps.specs.Maps.{pairFlip}
-use Rattle.maps.specs.Both.{BothFlip, BothReady}
+use Rattle.maps.specs.Both.{wiresFlip, BothFlip, BothReady}
 use Rattle.maps.proofs.Both.{flips-after, flips-append, both-none, both-less}
 use Rattle.pieces.specs.declared.Places as DP
 use Rattle.pieces.specs.Layout.{shareWires, pairGates, rowGates, rowsGates}
@@ -39,7 +38,7 @@ module _ (n k w : ℕ) (a b : DP.Places) {ts : List ℕ} {at : ℕ} {m x y m₁ 
   rows = rowsGates isw n w (w + 5 * tri n) A B
 
   abbrev flips : List ℕ
-  flips = map (pairFlip isw k A B (λ p. getD x p 0) (λ p. getD y p 0)) (pairs n)
+  flips = map (wiresFlip isw k A B (λ p. getD x p 0) (λ p. getD y p 0)) (pairs n)
 
   cross-long : length cross ≡ 5 * tri n
   cross-long = pairs-long isw A B w (pairs n) ∙ ap (λ (c : ℕ). 5 * c) (pairs-length n 0)
@@ -50,7 +49,7 @@ module _ (n k w : ℕ) (a b : DP.Places) {ts : List ℕ} {at : ℕ} {m x y m₁ 
       (λ i h. row-long isw n w (w + 5 * tri n + n * i) A B i (omega arith))
 
   flips-long : length flips ≡ tri n
-  flips-long = length-map (pairs n) (pairFlip isw k A B (λ p. getD x p 0) (λ p. getD y p 0)) ∙ pairs-length n 0
+  flips-long = length-map (pairs n) (wiresFlip isw k A B (λ p. getD x p 0) (λ p. getD y p 0)) ∙ pairs-length n 0
 
   flips-exact : length flips ≡ randoms cross
   flips-exact = flips-long ∙ sym (pairs-draw isw-lawful A B w (pairs n) ∙ pairs-length n 0)

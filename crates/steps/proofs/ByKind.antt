@@ -1,74 +1,131 @@
 -- A plain gate in both runs, kind by kind.
 -- Assumes nothing.
-use mathlib.Core.Path.{_≡_, sym, subst, subst₂}
-use mathlib.Core.List.{List, [], _∷_, _++_, map}
-use Prim.Native.Nat.{ℕ, _+_, _*_, _≤_, _<_}
+use mathlib.Core.Path.{_≡_, refl, sym, subst, subst₂}
+use mathlib.Core.List.{List, [], _∷_, map}
+use Prim.Native.Nat.{ℕ, zero, suc, _≤_, _<_}
+use native.Mathlib.Omega.{arith}
+use lib.Dec.{eqb}
 use lib.ListN.{getD}
-use Rattle.tables.specs.Tables.{NOT, AND, gate}
-use Rattle.tables.specs.Inside.{ranOn, RunsTo}
-use Rattle.masks.specs.Shares.{inTurn, pairs, tri}
+use Rattle.tables.specs.Tables.{Kind, NOT, AND, OR, kindOf, Gate, gate}
+use Rattle.tables.specs.Inside.{ranOn, RunsTo, PlainByte}
 use Rattle.masks.specs.Gadgets.{isw}
-use Rattle.masks.specs.Wires.{cost, share}
-use Rattle.maps.specs.Maps.{pairFlip}
-use Rattle.maps.specs.Both.{BothFlip, BothReady}
+use Rattle.masks.specs.Wires.{andPart, driverOf, newWires}
+use Rattle.maps.specs.Maps.{gateFlips}
+use Rattle.maps.specs.Both.{BothFlip}
 use Rattle.maps.proofs.Both.{both-none}
 use Rattle.pieces.specs.declared.Places as DP
-use Rattle.pieces.specs.Layout.{shareWires, joined, pairGates, rowsGates, xorGates}
-use Rattle.pieces.proofs.Pieces.{and-gates, xor-gates}
+use Rattle.pieces.specs.Layout.{shareWires, joined, xorGates, constantGates}
+use Rattle.pieces.proofs.Pieces.{and-gates, or-gates, xor-gates, constant-gates}
 use Rattle.driving.specs.Driving.{SharesBefore}
-use Rattle.driving.proofs.Before.{left-before}
-use Rattle.steps.specs.Steps.{StepReady, GateRan}
+use Rattle.steps.specs.Steps.{productKind, productGates, StepReady, GateRan}
+use Rattle.steps.proofs.Or.{ProductReady}
 
-module _ {kind n w : ℕ} {a b : DP.Places} {ts : List ℕ} {at : ℕ} {m x y : List ℕ} (R : StepReady kind n w a b ts at m x y) where
-  ready-as : (k : ℕ) → kind ≡ k → StepReady k n w a b ts at m x y
-  ready-as k e = subst (λ (z : ℕ). StepReady z n w a b ts at m x y) e R
+module _ {kind left n w : ℕ} {a b : DP.Places} {ts : List ℕ} {at : ℕ} {m x y : List ℕ} (R : StepReady kind left n w a b ts at m x y) where
+  ready-as : (k : ℕ) → kind ≡ k → StepReady k left n w a b ts at m x y
+  ready-as k e = subst (λ (z : ℕ). StepReady z left n w a b ts at m x y) e R
 
-  pub and-ready : kind ≡ 2 → SharesBefore n w a b × (w + cost AND n ≤ 65535) × BothReady w (cost AND n) at (tri n) ts m x y
-  and-ready e = let r = ready-as 2 e in (r .shares, r .wires, r .both)
+  -- the shares of a gate that is no constant
+  shares-as : (k : ℕ) → (k ≡ 4 → ⊥) → kind ≡ k → SharesBefore n w a b
+  shares-as k h e = ready-as k e .shares h
 
   pub xor-ready : kind ≡ 1 → SharesBefore n w a b × RunsTo w n x × RunsTo w n y
-  xor-ready e = let r = ready-as 1 e in (r .shares, r .both .one, r .both .other)
+  xor-ready e = let r = ready-as 1 e in (shares-as 1 (λ z. omega (arith, z)) e, r .both .one, r .both .other)
 
-  pub not-ready : kind ≡ 0 → RunsTo w 1 x × RunsTo w 1 y
-  not-ready e = let r = ready-as 0 e in (r .both .one, r .both .other)
+  pub constant-ready : kind ≡ 4 → (left ≤ 1) × RunsTo w n x × RunsTo w n y
+  constant-ready e = let r = ready-as 4 e in (R .value e, r .both .one, r .both .other)
 
-  pub not-left : {l : ℕ} → l ≡ share (shareWires n a) 0 → l < w
-  not-left e = left-before (R .shares) (R .some) e
+  pub not-ready : kind ≡ 0 → (a .head < w) × RunsTo w 1 x × RunsTo w 1 y
+  not-ready e = let r = ready-as 0 e in (shares-as 0 (λ z. omega (arith, z)) e .left 0 (R .some), r .both .one, r .both .other)
 
-module _ {kind : ℕ} (n k g w : ℕ) (a b : DP.Places) (ts : List ℕ) (at : ℕ) {m x x′ y y′ : List ℕ} where
-  pub and-gate :
-      {m′ : List ℕ} → kind ≡ 2
-      → BothFlip
-      (inTurn 5 w (pairs n) (pairGates isw (shareWires n a) (shareWires n b))
-      ++ rowsGates isw n w (w + 5 * tri n) (shareWires n a) (shareWires n b))
-      (map (pairFlip isw k (shareWires n a) (shareWires n b) (λ p. getD x p 0) (λ p. getD y p 0)) (pairs n)) ts at w m m′ x x′ y y′
-      → GateRan kind n k g w a b ts at m m′ x x′ y y′
-  and-gate e ran = rw (e, and-gates isw n g w (shareWires n a) (shareWires n b)) ran
+-- gates that draw nothing
+none-drawn :
+    (kind left n k g w : ℕ) (a b : DP.Places) (ts : List ℕ) (at : ℕ) {m x x′ y y′ : List ℕ} (gs : List Gate)
+    → map driverOf (newWires isw (kindOf kind) left n g w (shareWires n a) (shareWires n b)) ≡ gs
+    → gateFlips isw (kindOf kind) n k (shareWires n a) (shareWires n b) (λ p. getD x p 0) (λ p. getD y p 0) ≡ []
+    → x′ ≡ ranOn gs [] w x → y′ ≡ ranOn gs [] w y → GateRan kind left n k g w a b ts at m m x x′ y y′
+none-drawn kind left n k g w a b ts at {m} {x} {x′} {y} {y′} gs are none one other =
+    subst₂ (λ (hs : List Gate) (fs : List ℕ). BothFlip hs fs ts at w m m x x′ y y′) (sym are) (sym none) (both-none gs at w ts m one other)
 
+module _ {kind : ℕ} (left n k g w : ℕ) (a b : DP.Places) (ts : List ℕ) (at : ℕ) {m x x′ y y′ : List ℕ} where
   pub xor-gate :
       kind ≡ 1 → x′ ≡ ranOn (joined n 0 (xorGates (shareWires n a) (shareWires n b))) [] w x
       → y′ ≡ ranOn (joined n 0 (xorGates (shareWires n a) (shareWires n b))) [] w y
-      → GateRan kind n k g w a b ts at m m x x′ y y′
+      → GateRan kind left n k g w a b ts at m m x x′ y y′
   xor-gate e one other =
-      rw (e, xor-gates isw n g w (shareWires n a) (shareWires n b))
-      (both-none (joined n 0 (xorGates (shareWires n a) (shareWires n b))) at w ts m one other)
+      none-drawn kind left n k g w a b ts at (joined n 0 (xorGates (shareWires n a) (shareWires n b)))
+      (rw e (xor-gates isw left n g w (shareWires n a) (shareWires n b)))
+      (rw e)
+      one
+      other
+
+  pub constant-gate :
+      {l : ℕ} → kind ≡ 4 → l ≡ left → x′ ≡ ranOn (joined n 0 (constantGates l)) [] w x → y′ ≡ ranOn (joined n 0 (constantGates l)) [] w y
+      → GateRan kind left n k g w a b ts at m m x x′ y y′
+  constant-gate {l} e value one other =
+      none-drawn kind left n k g w a b ts at (joined n 0 (constantGates l))
+      (rw (e, value) (constant-gates isw left n g w (shareWires n a) (shareWires n b)))
+      (rw e)
+      one
+      other
 
   pub not-gate :
-      {l : ℕ} → kind ≡ 0 → l ≡ share (shareWires n a) 0 → x′ ≡ ranOn (gate NOT l 0 ∷ []) [] w x
-      → y′ ≡ ranOn (gate NOT l 0 ∷ []) [] w y → GateRan kind n k g w a b ts at m m x x′ y y′
-  not-gate {l} e first one other =
-      let all : BothFlip (gate NOT l 0 ∷ []) [] ts at w m m x x′ y y′ = both-none (gate NOT l 0 ∷ []) at w ts m one other in
-      rw e (subst (λ (z : ℕ). BothFlip (gate NOT z 0 ∷ []) [] ts at w m m x x′ y y′) first all)
+      kind ≡ 0 → x′ ≡ ranOn (gate NOT (a .head) 0 ∷ []) [] w x → y′ ≡ ranOn (gate NOT (a .head) 0 ∷ []) [] w y
+      → GateRan kind left n k g w a b ts at m m x x′ y y′
+  not-gate e one other = none-drawn kind left n k g w a b ts at (gate NOT (a .head) 0 ∷ []) (rw e) (rw e) one other
+
+-- a plain gate that is no NOT, no XOR and no constant is an AND or an OR
+product-cases :
+    (P : ℕ → Type 0) → P 2 → P 5 → (kind : ℕ) → PlainByte kind → (kind ≡ 4 → ⊥) → (kind ≡ 0 → ⊥) → (kind ≡ 1 → ⊥) → P kind
+product-cases P and or zero plain h k l = absurd (k refl)
+product-cases P and or (suc zero) plain h k l = absurd (l refl)
+product-cases P and or (suc (suc zero)) plain h k l = and
+product-cases P and or (suc (suc (suc zero))) plain h k l = absurd (plain .1 refl)
+product-cases P and or (suc (suc (suc (suc zero)))) plain h k l = absurd (h refl)
+product-cases P and or (suc (suc (suc (suc (suc zero))))) plain h k l = or
+product-cases P and or (suc (suc (suc (suc (suc (suc kind)))))) plain h k l = absurd (omega (arith, plain .0))
+
+pub product-ready :
+    {kind left n w : ℕ} {a b : DP.Places} {ts : List ℕ} {at : ℕ} {m x y : List ℕ} → StepReady kind left n w a b ts at m x y
+    → (kind ≡ 4 → ⊥) → (kind ≡ 0 → ⊥) → (kind ≡ 1 → ⊥) → ProductReady (eqb kind 5) n w a b ts at m x y
+product-ready {kind} {left} {n} {w} {a} {b} {ts} {at} {m} {x} {y} R h k l =
+    product-cases (λ z. StepReady z left n w a b ts at m x y → ProductReady (eqb z 5) n w a b ts at m x y)
+    (λ r. (r .some, r .shares (λ z. omega (arith, z)), r .wires, r .both))
+    (λ r. (r .some, r .shares (λ z. omega (arith, z)), r .wires, r .both))
+    kind
+    (R .plain)
+    h
+    k
+    l
+    R
+
+pub product-gate :
+    (kind left n k g w : ℕ) (a b : DP.Places) (ts : List ℕ) (at : ℕ) {m m′ x x′ y y′ : List ℕ} → PlainByte kind → (kind ≡ 4 → ⊥)
+    → (kind ≡ 0 → ⊥) → (kind ≡ 1 → ⊥)
+    → BothFlip (productGates (eqb kind 5) n w (shareWires n a) (shareWires n b))
+    (gateFlips isw (productKind (eqb kind 5)) n k (shareWires n a) (shareWires n b) (λ p. getD x p 0) (λ p. getD y p 0)) ts at w m m′ x x′ y y′
+    → GateRan kind left n k g w a b ts at m m′ x x′ y y′
+product-gate kind left n k g w a b ts at {m} {m′} {x} {x′} {y} {y′} plain h i l =
+    let flips : Kind → List ℕ = λ kd. gateFlips isw kd n k (shareWires n a) (shareWires n b) (λ p. getD x p 0) (λ p. getD y p 0) in
+    let Ran : Kind → List Gate → Type 0 = λ kd gs. BothFlip gs (flips kd) ts at w m m′ x x′ y y′ in
+    product-cases
+    (λ z. Ran (productKind (eqb z 5)) (productGates (eqb z 5) n w (shareWires n a) (shareWires n b)) → GateRan z left n k g w a b ts at m m′ x x′ y y′)
+    (λ r. subst (Ran AND) (sym (and-gates isw n (andPart g) w (shareWires n a) (shareWires n b))) r)
+    (λ r. subst (Ran OR) (sym (or-gates isw left n g w (shareWires n a) (shareWires n b))) r)
+    kind
+    plain
+    h
+    i
+    l
 
 -- places that were read are where the shares are
 pub ready-where :
-    {kind n w : ℕ} {a a′ b b′ : DP.Places} {ts : List ℕ} {at : ℕ} {m x y : List ℕ} → StepReady kind n w a′ b′ ts at m x y → a ≡ a′
-    → b ≡ b′ → StepReady kind n w a b ts at m x y
-ready-where {kind} {n} {w} {ts = ts} {at} {m} {x} {y} R ea eb =
-    subst₂ {A = DP.Places} {B = DP.Places} (λ a b. StepReady kind n w a b ts at m x y) (sym ea) (sym eb) R
+    {kind left n w : ℕ} {a a′ b b′ : DP.Places} {ts : List ℕ} {at : ℕ} {m x y : List ℕ} → StepReady kind left n w a′ b′ ts at m x y → a ≡ a′
+    → b ≡ b′ → StepReady kind left n w a b ts at m x y
+ready-where {kind} {left} {n} {w} {ts = ts} {at} {m} {x} {y} R ea eb =
+    subst₂ {A = DP.Places} {B = DP.Places} (λ a b. StepReady kind left n w a b ts at m x y) (sym ea) (sym eb) R
 
 pub ran-where :
-    (kind n k g w : ℕ) {a a′ b b′ : DP.Places} (ts : List ℕ) (at : ℕ) (m m′ x x′ y y′ : List ℕ) → a ≡ a′ → b ≡ b′
-    → GateRan kind n k g w a b ts at m m′ x x′ y y′ → GateRan kind n k g w a′ b′ ts at m m′ x x′ y y′
-ran-where kind n k g w ts at m m′ x x′ y y′ ea eb ran =
-    subst₂ {A = DP.Places} {B = DP.Places} (λ a b. GateRan kind n k g w a b ts at m m′ x x′ y y′) ea eb ran
+    (kind left n k g w : ℕ) {a a′ b b′ : DP.Places} (ts : List ℕ) (at : ℕ) (m m′ x x′ y y′ : List ℕ) → a ≡ a′ → b ≡ b′
+    → GateRan kind left n k g w a b ts at m m′ x x′ y y′ → GateRan kind left n k g w a′ b′ ts at m m′ x x′ y y′
+ran-where kind left n k g w ts at m m′ x x′ y y′ ea eb ran =
+    subst₂ {A = DP.Places} {B = DP.Places} (λ a b. GateRan kind left n k g w a b ts at m m′ x x′ y y′) ea eb ran

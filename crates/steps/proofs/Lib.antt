@@ -1,4 +1,5 @@
 -- Laws of a gate in both runs, and of all gates.
 mod And
+mod Or
 mod ByKind
 mod AllGates

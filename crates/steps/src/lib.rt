@@ -1,19 +1,22 @@
 // The steps of the map: a plain gate in both runs, and all gates in table order.
-ghost use mathlib.Core.List.{_++_, map};
-ghost use Prim.Native.Nat.{_+_, _*_, _≤_, ℕ};
+ghost use mathlib.Core.Path.{_≡_};
+ghost use mathlib.Core.Bool.{true, cond};
+ghost use mathlib.Core.List.{[], map};
+ghost use Prim.Native.Nat.{_+_, _*_, _≤_, _<_, ℕ};
 ghost use lib.ListN.{getD};
 ghost use Rattle.tables.specs.Tables.{AND, tableOf, total};
+ghost use Rattle.tables.specs.Inside.{ranOn, RunsTo};
 ghost use Rattle.tables.specs.Packing.{unpacked};
-ghost use Rattle.masks.specs.Shares.{inTurn, pairs, tri};
+ghost use Rattle.masks.specs.Shares.{pairs, tri};
 ghost use Rattle.masks.specs.Gadgets.{isw};
-ghost use Rattle.masks.specs.Wires.{cost, draws};
-ghost use Rattle.maps.specs.Maps.{pairFlip};
-ghost use Rattle.maps.specs.Both.{BothFlip, BothReady};
+ghost use Rattle.masks.specs.Wires.{andCost, cost, draws};
+ghost use Rattle.maps.specs.Maps.{gateFlips};
+ghost use Rattle.maps.specs.Both.{wiresFlip, BothFlip, BothReady};
 ghost use Rattle.sizing.specs.Plans.{PlanReady};
-ghost use Rattle.pieces.specs.Layout.{shareWires, pairGates, rowsGates};
+ghost use Rattle.pieces.specs.Layout.{shareWires, andGates};
 ghost use Rattle.placing.specs.Located.{placesAt, Room, Located};
 ghost use Rattle.driving.specs.Driving.{SharesBefore};
-ghost use Rattle.steps.specs.Steps.{StepReady, GateRan, GatesRan};
+ghost use Rattle.steps.specs.Steps.{productKind, productGates, notGates, lastGates, StepReady, GateRan, GatesRan};
 
 // An AND in both runs, from wire w and from a place of the tape on: the pairs, then the rows.
 fn map_and(
@@ -31,10 +34,9 @@ fn map_and(
     requires { ⌜ SharesBefore n w a b × (w + cost AND n ≤ 65535)
         × BothReady w (cost AND n) at (tri n) (unpacked (now tape)) (unpacked (now mapped)) (now one) (now other) ⌝ }
     ensures { λ _. ⌜ BothFlip
-        (inTurn 5 w (pairs n) (pairGates isw (shareWires n a) (shareWires n b))
-        ++ rowsGates isw n w (w + 5 * tri n) (shareWires n a) (shareWires n b))
+        (andGates isw n w (shareWires n a) (shareWires n b))
         (map
-        (pairFlip isw k (shareWires n a) (shareWires n b) (λ p. getD (now (one .entry)) p 0) (λ p. getD (now (other .entry)) p 0))
+        (wiresFlip isw k (shareWires n a) (shareWires n b) (λ p. getD (now (one .entry)) p 0) (λ p. getD (now (other .entry)) p 0))
         (pairs n))
         (unpacked (now (tape .entry))) at w
         (unpacked (now (mapped .entry))) (unpacked (now (mapped .exit))) (now (one .entry)) (now (one .exit)) (now (other .entry)) (now (other .exit)) ⌝ }
@@ -43,6 +45,64 @@ fn map_and(
     pairing::map_pairs(k, n, w, a, b, tape, at, mapped, one, other);
     driving::run_rows(one, v, w, n, a, b);
     driving::run_rows(other, v, w, n, a, b);
+}
+
+// The two NOTs that an OR begins with, in both runs, on wires w and w + 1; an AND begins with none.
+fn run_first_nots(or: bool, w: usize, left: usize, right: usize, one: &mut [u8], other: &mut [u8])
+    requires { ⌜ (or ≡ true → RunsTo w 2 (now one) × RunsTo w 2 (now other) × (left < w) × (right < w)) ⌝ }
+    ensures { λ _. ⌜ (now (one .exit) ≡ cond or (ranOn (notGates left right) [] w (now (one .entry))) (now (one .entry)))
+        × (now (other .exit) ≡ cond or (ranOn (notGates left right) [] w (now (other .entry))) (now (other .entry))) ⌝ }
+{
+    if or {
+        driving::run_nots(one, w, left, right);
+        driving::run_nots(other, w, left, right);
+    }
+}
+
+// The NOT that an OR ends with, in both runs, where its AND's first wire is w; an AND ends with none.
+fn run_last_not(or: bool, n: usize, w: usize, one: &mut [u8], other: &mut [u8])
+    requires { ⌜ (or ≡ true → (1 ≤ n) × (n ≤ 31) × (w + andCost n ≤ 65535)
+        × RunsTo (w + andCost n) 1 (now one) × RunsTo (w + andCost n) 1 (now other)) ⌝ }
+    ensures { λ _. ⌜ (now (one .exit) ≡ cond or (ranOn (lastGates n w) [] (w + andCost n) (now (one .entry))) (now (one .entry)))
+        × (now (other .exit) ≡ cond or (ranOn (lastGates n w) [] (w + andCost n) (now (other .entry))) (now (other .entry))) ⌝ }
+{
+    if or {
+        let last = pieces::and_first(n, w);
+        let end = w + masks::and_cost(n);
+        driving::run_not(one, end, last);
+        driving::run_not(other, end, last);
+    }
+}
+
+// An AND or an OR in both runs, from wire w and from a place of the tape on. `map_and` is called here alone, and no branch
+// stands around the call: so the compiler makes one function of both, and an AND is as fast as if there were no ORs.
+fn map_product(
+    or: bool,
+    k: usize,
+    n: usize,
+    w: usize,
+    a: pieces::Places,
+    b: pieces::Places,
+    tape: &[u8],
+    at: usize,
+    mapped: &mut [u8],
+    one: &mut [u8],
+    other: &mut [u8],
+)
+    requires { ⌜ (1 ≤ n) × SharesBefore n w a b × (w + cost (productKind or) n ≤ 65535)
+        × BothReady w (cost (productKind or) n) at (tri n) (unpacked (now tape)) (unpacked (now mapped)) (now one) (now other) ⌝ }
+    ensures { λ _. ⌜ BothFlip
+        (productGates or n w (shareWires n a) (shareWires n b))
+        (gateFlips isw (productKind or) n k (shareWires n a) (shareWires n b) (λ p. getD (now (one .entry)) p 0) (λ p. getD (now (other .entry)) p 0))
+        (unpacked (now (tape .entry))) at w
+        (unpacked (now (mapped .entry))) (unpacked (now (mapped .exit))) (now (one .entry)) (now (one .exit)) (now (other .entry)) (now (other .exit)) ⌝ }
+{
+    let x = pieces::first_on(tables::either(or, w, a.head), a);
+    let y = pieces::first_on(tables::either(or, w + 1, b.head), b);
+    let v = tables::either(or, w + 2, w);
+    run_first_nots(or, w, a.head, b.head, one, other);
+    map_and(k, n, v, x, y, tape, at, mapped, one, other);
+    run_last_not(or, n, v, one, other);
 }
 
 // A plain gate in both runs, from wire w and from a place of the tape on, where three arrays say where its operands' shares are.
@@ -63,28 +123,32 @@ fn map_gate(
     other: &mut [u8],
 )
     requires { ⌜ Room (left + 1) (now head) (now base) (now step) × Room (right + 1) (now head) (now base) (now step)
-        × StepReady kind n w (placesAt (now head) (now base) (now step) left) (placesAt (now head) (now base) (now step) right)
+        × StepReady kind left n w (placesAt (now head) (now base) (now step) left) (placesAt (now head) (now base) (now step) right)
         (unpacked (now tape)) at (unpacked (now mapped)) (now one) (now other) ⌝ }
-    ensures { λ _. ⌜ ((g : ℕ) → GateRan kind n k g w
+    ensures { λ _. ⌜ ((g : ℕ) → GateRan kind left n k g w
         (placesAt (now (head .entry)) (now (base .entry)) (now (step .entry)) left)
         (placesAt (now (head .entry)) (now (base .entry)) (now (step .entry)) right)
         (unpacked (now (tape .entry))) at
         (unpacked (now (mapped .entry))) (unpacked (now (mapped .exit))) (now (one .entry)) (now (one .exit)) (now (other .entry)) (now (other .exit))) ⌝ }
 {
+    if kind == 4 {
+        driving::run_constants(one, w, n, left as u8);
+        driving::run_constants(other, w, n, left as u8);
+        return;
+    }
     let a = placing::places_at(head, base, step, left);
     if kind == 0 {
-        let first = pieces::share_wire(a, 0);
-        driving::run_not(one, w, first);
-        driving::run_not(other, w, first);
+        driving::run_not(one, w, a.head);
+        driving::run_not(other, w, a.head);
         return;
     }
     let b = placing::places_at(head, base, step, right);
-    if kind == 2 {
-        map_and(k, n, w, a, b, tape, at, mapped, one, other);
+    if kind == 1 {
+        driving::run_xors(one, w, n, a, b);
+        driving::run_xors(other, w, n, a, b);
         return;
     }
-    driving::run_xors(one, w, n, a, b);
-    driving::run_xors(other, w, n, a, b);
+    map_product(kind == 5, k, n, w, a, b, tape, at, mapped, one, other);
 }
 
 // All gates of a plan in both runs, from a place of the tape on: both runs begin with the values of the inputs' shares, whatever
@@ -110,6 +174,8 @@ pub fn map_gates(
 {
     let n = p.shares;
     let gates = p.gates;
+    let mut costs = [0u16; 6];
+    masks::note_costs(n, &mut costs);
     let mut w = n * p.inputs;
     let mut next = at;
     let mut g = 0;
@@ -131,7 +197,7 @@ pub fn map_gates(
             one,
             other,
         );
-        w += masks::gate_cost(x.kind, n);
+        w += masks::noted_cost(&costs, x.kind);
         next += masks::gate_draws(x.kind, n);
         g += 1;
     }

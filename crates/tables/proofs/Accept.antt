@@ -9,9 +9,9 @@ use lib.Dec.{eqb, ltb}
 use lib.ListN.{length, drop}
 use borrow.Author.Tests.{ltb-true, ltb-false, eqb-true, eqb-false, not-false}
 use Rattle.tables.specs.Refusals.{Fault, fault, none, passed, orElse, refusedIf}
-use Rattle.tables.specs.Tables.{Kind, NOT, XOR, AND, RANDOM, UNKNOWN, Gate, Table, wires, word, gatesFrom}
-use Rattle.tables.specs.Tables.{wordsFrom, tableOf, tableLong, known, Operands, none-read, left-read}
-use Rattle.tables.specs.Tables.{both-read, operandsOf, operandsOk, total, gateFault, gatesFault, outputsFault}
+use Rattle.tables.specs.Tables.{Kind, NOT, XOR, AND, RANDOM, CONSTANT, OR, UNKNOWN, Gate, Table, wires}
+use Rattle.tables.specs.Tables.{word, gatesFrom, wordsFrom, tableOf, tableLong, known, Operands, none-read, left-read}
+use Rattle.tables.specs.Tables.{both-read, value-stated, operandsOf, operandsOk, total, gateFault, gatesFault, outputsFault}
 use Rattle.tables.specs.Tables.{sizesBad, tableFault, isRandom, randomFault}
 use Rattle.tables.specs.Runs.{drawn, randoms}
 use Rattle.tables.specs.Inside.{HasGates, HasOutputs}
@@ -48,7 +48,7 @@ pub given : (b : Bool) {A : Type 0} → Given b A → (b ≡ true) × A
 given true h = (refl, h)
 given false h = absurd h
 
-plain-reads : (w : ℕ) (k : Kind) (l r : ℕ) → PlainGate w k l r → Reads w k l r
+pub plain-reads : (w : ℕ) (k : Kind) (l r : ℕ) → PlainGate w k l r → Reads w k l r
 plain-reads w k l r h = given (isPlain k) h .1
 
 pub plain-earlier : (w : ℕ) (gs : List Gate) → PlainGates w gs → Earlier w gs
@@ -62,6 +62,8 @@ plain-drawn w NOT l r h = refl
 plain-drawn w XOR l r h = refl
 plain-drawn w AND l r h = refl
 plain-drawn w RANDOM l r h = absurd h
+plain-drawn w CONSTANT l r h = refl
+plain-drawn w OR l r h = refl
 plain-drawn w (UNKNOWN k) l r h = refl
 
 plain-randoms : (w : ℕ) (gs : List Gate) → PlainGates w gs → randoms gs ≡ 0
@@ -183,20 +185,27 @@ gate-passed i w g h =
     let a = cond-passed (known (g .kind)) (cond ok none (fault 4 i)) 3 i refl h in
     (a .0, cond-passed ok none 4 i refl (a .1) .0)
 
--- good operands are earlier wires, and those that are not read are 0
+-- good operands that are read are earlier wires, and a value that is stated is a bit
 pub operands-read : (w : ℕ) (o : Operands) (l r : ℕ) → operandsOk w o l r ≡ true → ReadBefore w o l r
 operands-read w none-read l r h = tt
 operands-read w left-read l r h = ltb-true l w (and-true (ltb l w) (eqb r 0) h .0)
 operands-read w both-read l r h =
     let a = and-true (ltb l w) (ltb r w) h in (ltb-true l w (a .0), ltb-true r w (a .1))
+operands-read w value-stated l r h = omega (arith, ltb-true l 2 (and-true (ltb l 2) (eqb r 0) h .0))
 
-pub operands-below : (w : ℕ) (o : Operands) (l r : ℕ) → 1 ≤ w → operandsOk w o l r ≡ true → (l < w) × (r < w)
+-- read or not, no operand is after wire w, which is no input; only a value that is stated can be w
+pub operands-below : (w : ℕ) (o : Operands) (l r : ℕ) → 1 ≤ w → operandsOk w o l r ≡ true → (l ≤ w) × (r < w)
 operands-below w none-read l r p h =
     let a = and-true (eqb l 0) (eqb r 0) h in
     (omega (arith, eqb-true l 0 (a .0)), omega (arith, eqb-true r 0 (a .1)))
 operands-below w left-read l r p h =
-    let a = and-true (ltb l w) (eqb r 0) h in (ltb-true l w (a .0), omega (arith, eqb-true r 0 (a .1)))
-operands-below w both-read l r p h = operands-read w both-read l r h
+    let a = and-true (ltb l w) (eqb r 0) h in
+    (omega (arith, ltb-true l w (a .0)), omega (arith, eqb-true r 0 (a .1)))
+operands-below w both-read l r p h =
+    let a = operands-read w both-read l r h in (omega (arith, a .0), a .1)
+operands-below w value-stated l r p h =
+    let a = and-true (ltb l 2) (eqb r 0) h in
+    (omega (arith, ltb-true l 2 (a .0)), omega (arith, eqb-true r 0 (a .1)))
 
 given-by : (b : Bool) {A : Type 0} → b ≡ true → A → Given b A
 given-by true e a = a

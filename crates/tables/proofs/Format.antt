@@ -1,18 +1,18 @@
 -- Reading what is written: a sound table's bytes have the stated length, pass the checks and read back as the table.
 -- Each part is read from the front of what is left, whatever follows it.
 -- Assumes nothing.
-use mathlib.Core.Path.{_≡_, refl, sym, ap, _∙_}
+use mathlib.Core.Path.{_≡_, refl, sym, ap, _∙_, subst}
 use mathlib.Core.Bool.{true}
 use mathlib.Core.List.{List, [], _∷_, _++_, append-assoc, append-nil}
-use Prim.Native.Nat.{ℕ, suc, _+_, _*_, _/_, _%_, _≤_, _<_}
+use Prim.Native.Nat.{ℕ, zero, suc, _+_, _*_, _/_, _%_, _≤_, _<_}
 use native.Mathlib.Nat.{add-zero}
 use native.Mathlib.Omega.{arith}
-use lib.ListN.{length, drop, length-append}
+use lib.ListN.{length, getD, drop, length-append}
 use lib.Seq.{drop-at, drop-drop}
 use borrow.Author.Tests.{lt-ltb, le-ltb, eq-eqb, ne-eqb}
 use Rattle.tables.specs.Refusals.{none, passed}
-use Rattle.tables.specs.Tables.{Kind, NOT, XOR, AND, RANDOM, UNKNOWN, kindOf, kindByte, Gate, Table, wires}
-use Rattle.tables.specs.Tables.{word, two, gatesFrom, wordsFrom, tableOf, kindBytes, pairBytes, wordBytes}
+use Rattle.tables.specs.Tables.{Kind, NOT, XOR, AND, RANDOM, CONSTANT, OR, UNKNOWN, kindOf, kindByte, Gate, noGate}
+use Rattle.tables.specs.Tables.{Table, wires, word, two, gatesFrom, wordsFrom, tableOf, kindBytes, pairBytes, wordBytes}
 use Rattle.tables.specs.Tables.{tableBytes, tableLong, known, operandsOf, operandsOk, gateFault, gatesFault}
 use Rattle.tables.specs.Tables.{outputsFault, tableFault}
 use Rattle.tables.proofs.Tests.{both-passed}
@@ -78,6 +78,8 @@ kind-back NOT h = refl
 kind-back XOR h = refl
 kind-back AND h = refl
 kind-back RANDOM h = refl
+kind-back CONSTANT h = refl
+kind-back OR h = refl
 kind-back (UNKNOWN k) h = cc
 
 words-back : (ws y : List ℕ) → wordsFrom (length ws) (wordBytes ws ++ y) ≡ ws
@@ -208,6 +210,8 @@ kind-byte NOT h = omega arith
 kind-byte XOR h = omega arith
 kind-byte AND h = omega arith
 kind-byte RANDOM h = omega arith
+kind-byte CONSTANT h = omega arith
+kind-byte OR h = omega arith
 kind-byte (UNKNOWN k) h = let z : _≡_ {A = ℕ} 0 1 = cc in omega arith
 
 kinds-bytes : (w : ℕ) (gs : List Gate) → SoundGates w gs → Bytes (kindBytes gs)
@@ -259,3 +263,28 @@ passed-sound s b h =
       gates = passed-sound-gates s h;
       outputs = outputs-passed 0 (wires (tableOf s)) (tableOf s .outputs) (c .outputs);
     }
+
+-- a gate that passes the checks, by its number
+pub sound-at :
+    (w : ℕ) (gs : List Gate) (g : ℕ) → SoundGates w gs → g < length gs
+    → let x = getD gs g noGate in
+    (known (x .kind) ≡ true) × (operandsOk (w + g) (operandsOf (x .kind)) (x .left) (x .right) ≡ true)
+unfolding SoundGates
+sound-at w [] g p h = absurd (omega arith)
+sound-at w (x ∷ xs) zero p h = rw add-zero (p .0)
+sound-at w (x ∷ xs) (suc g) p h =
+    let y = getD xs g noGate in
+    let z = sound-at (suc w) xs g (p .1) (omega arith) in (
+      z .0,
+      subst (λ (v : ℕ). operandsOk v (operandsOf (y .kind)) (y .left) (y .right) ≡ true) {x = suc w + g} {y = w + suc g} (omega arith)
+          (z .1),
+    )
+
+pub known-byte : (k : ℕ) → known (kindOf k) ≡ true → k ≤ 5
+known-byte zero h = omega arith
+known-byte (suc zero) h = omega arith
+known-byte (suc (suc zero)) h = omega arith
+known-byte (suc (suc (suc zero))) h = omega arith
+known-byte (suc (suc (suc (suc zero)))) h = omega arith
+known-byte (suc (suc (suc (suc (suc zero))))) h = omega arith
+known-byte (suc (suc (suc (suc (suc (suc k)))))) h = let z : _≡_ {A = ℕ} 0 1 = cc in omega arith

@@ -8,8 +8,8 @@ use native.Mathlib.Omega.{arith}
 use lib.Bits.{bitAnd, bitXor}
 use lib.ListN.{length, getD, drop, length-append, length-drop, List·getD-append}
 use lib.Seq.{drop-drop, getD-drop, getD-at, drop-append-le}
-use Rattle.tables.specs.Tables.{Kind, NOT, XOR, AND, RANDOM, UNKNOWN, Gate, Operands, none-read, left-read}
-use Rattle.tables.specs.Tables.{both-read, operandsOf, total}
+use Rattle.tables.specs.Tables.{Kind, NOT, XOR, AND, RANDOM, CONSTANT, OR, UNKNOWN, Gate, Operands}
+use Rattle.tables.specs.Tables.{none-read, left-read, both-read, value-stated, operandsOf, total}
 use Rattle.tables.specs.Runs.{Bits, xor, driven, drawn, runFrom, readAll, randoms}
 use Rattle.tables.proofs.Lists.{bits-nil, bits-cons, bits-append, bits-drop}
 
@@ -19,15 +19,42 @@ Solves w c [] r v = Unit {0}
 Solves w c (g ∷ gs) r v =
     (v w ≡ driven (g .kind) (g .left) (g .right) v (r c)) × Solves (suc w) (c + drawn (g .kind)) gs r v
 
--- the operands that are read come before wire w
+-- the operands that are read come before wire w, and a value that is stated is a bit
 abbrev pub ReadBefore : ℕ → Operands → ℕ → ℕ → Type 0
 ReadBefore w none-read l r = Unit {0}
 ReadBefore w left-read l r = l < w
 ReadBefore w both-read l r = (l < w) × (r < w)
+ReadBefore w value-stated l r = l ≤ 1
 
 -- the wires that a gate reads come before wire w
 abbrev pub Reads : ℕ → Kind → ℕ → ℕ → Type 0
 Reads w k l r = ReadBefore w (operandsOf k) l r
+
+-- what is known of the left operand, and of the right one, where it is read
+abbrev pub OfLeft : Operands → Type 0 → Type 0
+OfLeft none-read T = Unit {0}
+OfLeft left-read T = T
+OfLeft both-read T = T
+OfLeft value-stated T = Unit {0}
+
+abbrev pub OfRight : Operands → Type 0 → Type 0
+OfRight none-read T = Unit {0}
+OfRight left-read T = Unit {0}
+OfRight both-read T = T
+OfRight value-stated T = Unit {0}
+
+-- a fact of an operand that comes before wire w, where it is read
+pub read-left : (o : Operands) (w l r : ℕ) {T : Type 0} → ReadBefore w o l r → (l < w → T) → OfLeft o T
+read-left none-read w l r h t = tt
+read-left left-read w l r h t = t h
+read-left both-read w l r h t = t (h .0)
+read-left value-stated w l r h t = tt
+
+pub read-right : (o : Operands) (w l r : ℕ) {T : Type 0} → ReadBefore w o l r → (r < w → T) → OfRight o T
+read-right none-read w l r h t = tt
+read-right left-read w l r h t = tt
+read-right both-read w l r h t = t (h .1)
+read-right value-stated w l r h t = tt
 
 unfoldable pub Earlier : ℕ → List Gate → Type 0
 Earlier w [] = Unit {0}
@@ -41,6 +68,8 @@ driven-local NOT l r w b v u h e = ap (λ (y : ℕ). 1 - y) (e l h)
 driven-local XOR l r w b v u h e = rw (e l (h .0), e r (h .1))
 driven-local AND l r w b v u h e = rw (e l (h .0), e r (h .1))
 driven-local RANDOM l r w b v u h e = refl
+driven-local CONSTANT l r w b v u h e = refl
+driven-local OR l r w b v u h e = rw (e l (h .0), e r (h .1))
 driven-local (UNKNOWN k) l r w b v u h e = refl
 
 pub bit-mul : (x y : ℕ) → x ≤ 1 → y ≤ 1 → x * y ≤ 1
@@ -68,6 +97,8 @@ driven-bit NOT l r b v h hb = omega arith
 driven-bit XOR l r b v h hb = omega arith
 driven-bit AND l r b v h hb = bit-mul (v l) (v r) (h l) (h r)
 driven-bit RANDOM l r b v h hb = hb
+driven-bit CONSTANT l r b v h hb = omega arith
+driven-bit OR l r b v h hb = omega arith
 driven-bit (UNKNOWN k) l r b v h hb = omega arith
 
 pub run-length : (gs : List Gate) (rs vs : List ℕ) → length (runFrom gs rs vs) ≡ length vs + length gs
@@ -153,6 +184,8 @@ front-bit NOT l r m v ss rest e = refl
 front-bit XOR l r m v ss rest e = refl
 front-bit AND l r m v ss rest e = refl
 front-bit RANDOM l r m v ss rest e = List·getD-append ss rest 0 0 (omega arith)
+front-bit CONSTANT l r m v ss rest e = refl
+front-bit OR l r m v ss rest e = refl
 front-bit (UNKNOWN k) l r m v ss rest e = refl
 
 -- only as many random bits matter as there are random gates

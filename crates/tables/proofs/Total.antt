@@ -10,25 +10,29 @@ use lib.ListN.{length, getD, take, drop, drop-of-length-le}
 use lib.Seq.{drop-cons}
 use borrow.Author.Tests.{ne-eqb}
 use Rattle.tables.specs.Refusals.{none}
-use Rattle.tables.specs.Tables.{Kind, NOT, XOR, AND, RANDOM, UNKNOWN, kindOf, Gate, noGate, Table, gateOf}
-use Rattle.tables.specs.Tables.{isRandom, randomFault, total}
+use Rattle.tables.specs.Tables.{Kind, NOT, XOR, AND, RANDOM, CONSTANT, OR, UNKNOWN, kindOf, Gate, noGate}
+use Rattle.tables.specs.Tables.{Table, gateOf, isRandom, randomFault, total}
 use Rattle.tables.specs.Counted.{ofKind}
 use Rattle.tables.specs.Runs.{drawn, randoms}
 
 -- a byte that is a kind, and one that is not
-pub kind-same : (k b : ℕ) → b ≤ 3 → k ≡ b → 1 ≡ ofKind b (kindOf k)
+pub kind-same : (k b : ℕ) → b ≤ 5 → k ≡ b → 1 ≡ ofKind b (kindOf k)
 kind-same k zero h e = rw e
 kind-same k (suc zero) h e = rw e
 kind-same k (suc (suc zero)) h e = rw e
 kind-same k (suc (suc (suc zero))) h e = rw e
-kind-same k (suc (suc (suc (suc b)))) h e = absurd (omega arith)
+kind-same k (suc (suc (suc (suc zero)))) h e = rw e
+kind-same k (suc (suc (suc (suc (suc zero))))) h e = rw e
+kind-same k (suc (suc (suc (suc (suc (suc b)))))) h e = absurd (omega arith)
 
 pub kind-other : (k b : ℕ) → (k ≡ b → ⊥) → 0 ≡ ofKind b (kindOf k)
 kind-other zero b h = rw (ne-eqb b 0 (λ e. h (omega (arith, e))))
 kind-other (suc zero) b h = rw (ne-eqb b 1 (λ e. h (omega (arith, e))))
 kind-other (suc (suc zero)) b h = rw (ne-eqb b 2 (λ e. h (omega (arith, e))))
 kind-other (suc (suc (suc zero))) b h = rw (ne-eqb b 3 (λ e. h (omega (arith, e))))
-kind-other (suc (suc (suc (suc k)))) b h = refl
+kind-other (suc (suc (suc (suc zero)))) b h = rw (ne-eqb b 4 (λ e. h (omega (arith, e))))
+kind-other (suc (suc (suc (suc (suc zero))))) b h = rw (ne-eqb b 5 (λ e. h (omega (arith, e))))
+kind-other (suc (suc (suc (suc (suc (suc k)))))) b h = refl
 
 -- the total of the gates from number i on
 pub total-next :
@@ -76,6 +80,8 @@ count-randoms = total-same (ofKind 3) drawn drawn-kind
     drawn-kind XOR = refl
     drawn-kind AND = refl
     drawn-kind RANDOM = refl
+    drawn-kind CONSTANT = refl
+    drawn-kind OR = refl
     drawn-kind (UNKNOWN k) = refl
 
 -- a table with no gate of kind 3 is plain
@@ -92,6 +98,8 @@ count-plain i (g ∷ gs) e =
     not-random XOR h = refl
     not-random AND h = refl
     not-random RANDOM h = absurd (omega (arith, h))
+    not-random CONSTANT h = refl
+    not-random OR h = refl
     not-random (UNKNOWN k) h = refl
 
 -- no kind has more gates than there are
@@ -107,4 +115,6 @@ count-small b gs = omega (arith, total-small (ofKind b) 1 at-most-one gs)
     at-most-one XOR = one (eqb b 1)
     at-most-one AND = one (eqb b 2)
     at-most-one RANDOM = one (eqb b 3)
+    at-most-one CONSTANT = one (eqb b 4)
+    at-most-one OR = one (eqb b 5)
     at-most-one (UNKNOWN k) = omega arith

@@ -25,6 +25,10 @@ pub record HasOutputs (s : List ℕ) (g q : ℕ) : Type 0 where
   pub outputs : q ≡ word s 4
   pub long : 6 + 5 * g + 2 * q ≤ length s
 
+-- the byte of a kind that a plain table may have
+abbrev pub PlainByte : ℕ → Type 0
+PlainByte k = (k ≤ 5) × (k ≡ 3 → ⊥)
+
 -- the fields of a gate as they were read
 pub record GateIs (g : Gate) (r : DG.GateFields) : Type 0 where
   pub kind : kindOf (r .kind) ≡ g .kind

@@ -4,7 +4,7 @@
 use mathlib.Core.List.{List, [], _∷_, _++_}
 use Prim.Native.Nat.{ℕ, _+_, _-_, _*_, _%_, _≤_}
 use lib.ListN.{getD, drop}
-use Rattle.tables.specs.Tables.{Kind, NOT, XOR, AND, RANDOM, UNKNOWN, Gate, Table, total}
+use Rattle.tables.specs.Tables.{Kind, NOT, XOR, AND, RANDOM, CONSTANT, OR, UNKNOWN, Gate, Table, total}
 
 -- bits, past the list's end too: "one byte a bit, 0 or 1"
 abbrev pub Bits : List ℕ → Type 0
@@ -14,12 +14,14 @@ Bits vs = (i : ℕ) → getD vs i 0 ≤ 1
 abbrev pub xor : ℕ → ℕ → ℕ
 xor a b = (a + b) % 2
 
--- what a gate drives: v gives the value of each earlier wire, b is the next random bit
+-- what a gate drives: v gives the value of each earlier wire, b is the next random bit, and l is a constant's value, 0 or 1
 abbrev pub driven : Kind → ℕ → ℕ → (ℕ → ℕ) → ℕ → ℕ
 driven NOT l r v b = 1 - v l
 driven XOR l r v b = xor (v l) (v r)
 driven AND l r v b = v l * v r
 driven RANDOM l r v b = b
+driven CONSTANT l r v b = l % 2
+driven OR l r v b = 1 - (1 - v l) * (1 - v r)
 driven (UNKNOWN k) l r v b = 0
 
 -- how many random bits a gate takes
@@ -28,6 +30,8 @@ drawn NOT = 0
 drawn XOR = 0
 drawn AND = 0
 drawn RANDOM = 1
+drawn CONSTANT = 0
+drawn OR = 0
 drawn (UNKNOWN k) = 0
 
 -- the gates in turn, each adding its value; random gates take their bits in wire order

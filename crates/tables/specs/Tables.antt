@@ -9,9 +9,9 @@ use lib.Dec.{eqb, ltb}
 use lib.ListN.{length, getD, drop}
 use Rattle.tables.specs.Refusals.{Fault, fault, none, orElse, refusedIf}
 
--- "Kinds: 0 NOT of left; 1 XOR; 2 AND; 3 random bit"; any other byte is no kind
+-- "Kinds: 0 NOT of left; 1 XOR; 2 AND; 3 random bit"; "Kind 4 is a constant", "Kind 5 is OR" (Card 6); any other byte is no kind
 pub data Kind : Type 0 where
-  NOT XOR AND RANDOM : Kind
+  NOT XOR AND RANDOM CONSTANT OR : Kind
   UNKNOWN : ℕ → Kind
 
 -- the kind that a byte states
@@ -20,7 +20,9 @@ kindOf zero = NOT
 kindOf (suc zero) = XOR
 kindOf (suc (suc zero)) = AND
 kindOf (suc (suc (suc zero))) = RANDOM
-kindOf (suc (suc (suc (suc k)))) = UNKNOWN (suc (suc (suc (suc k))))
+kindOf (suc (suc (suc (suc zero)))) = CONSTANT
+kindOf (suc (suc (suc (suc (suc zero))))) = OR
+kindOf (suc (suc (suc (suc (suc (suc k)))))) = UNKNOWN (suc (suc (suc (suc (suc (suc k))))))
 
 -- the byte of a kind
 abbrev pub kindByte : Kind → ℕ
@@ -28,6 +30,8 @@ kindByte NOT = 0
 kindByte XOR = 1
 kindByte AND = 2
 kindByte RANDOM = 3
+kindByte CONSTANT = 4
+kindByte OR = 5
 kindByte (UNKNOWN k) = k
 
 -- a gate: its kind and its operands
@@ -114,31 +118,37 @@ tableBytes t =
 abbrev pub tableLong : ℕ → ℕ → ℕ
 tableLong g o = 6 + 5 * g + 2 * o
 
--- "3 kind above 3"
+-- "3 kind above 3"; "Refusal 3 then starts at kind 6" (Card 6)
 abbrev pub known : Kind → Bool
 known NOT = true
 known XOR = true
 known AND = true
 known RANDOM = true
+known CONSTANT = true
+known OR = true
 known (UNKNOWN k) = false
 
--- which operands a gate reads: none, the left one, or both
+-- which operands a gate reads: none, the left one, or both; or it reads none, and the left one states its value
 pub data Operands : Type 0 where
-  none-read left-read both-read : Operands
+  none-read left-read both-read value-stated : Operands
 
--- "NOT of left"; "random bit"
+-- "NOT of left"; "random bit"; "left operand 0 or 1 is its value" (Card 6)
 abbrev pub operandsOf : Kind → Operands
 operandsOf NOT = left-read
 operandsOf XOR = both-read
 operandsOf AND = both-read
 operandsOf RANDOM = none-read
+operandsOf CONSTANT = value-stated
+operandsOf OR = both-read
 operandsOf (UNKNOWN k) = none-read
 
--- "An operand is an earlier wire. The unused right operand of NOT and both of a random gate are 0"
+-- "An operand is an earlier wire. The unused right operand of NOT and both of a random gate are 0"; a constant: "left operand 0
+-- or 1 is its value, right is 0" (Card 6)
 abbrev pub operandsOk : ℕ → Operands → ℕ → ℕ → Bool
 operandsOk w none-read l r = eqb l 0 && eqb r 0
 operandsOk w left-read l r = ltb l w && eqb r 0
 operandsOk w both-read l r = ltb l w && ltb r w
+operandsOk w value-stated l r = ltb l 2 && eqb r 0
 
 -- "the gates one by one (3 before 4)": gate i, which drives wire w
 abbrev pub gateFault : ℕ → ℕ → Gate → Fault
@@ -182,6 +192,8 @@ isRandom NOT = false
 isRandom XOR = false
 isRandom AND = false
 isRandom RANDOM = true
+isRandom CONSTANT = false
+isRandom OR = false
 isRandom (UNKNOWN k) = false
 
 -- 7 at the first random gate

@@ -1,5 +1,6 @@
 // The gate-table format: what the calls answer, two-byte fields, gates and bytes.
 ghost use mathlib.Core.Path.{_≡_};
+ghost use mathlib.Core.Bool.{cond};
 ghost use Prim.Native.Nat.{_+_, _≤_, _<_};
 ghost use lib.ListN.{length, getD};
 ghost use Rattle.tables.specs.Refusals.{Fault, fault, orElse, refusedIf};
@@ -38,6 +39,8 @@ pub struct Counts {
     pub xors: usize,
     pub ands: usize,
     pub randoms: usize,
+    pub constants: usize,
+    pub ors: usize,
 }
 
 // A refusal by its number and place, or none where both are 0.
@@ -146,11 +149,21 @@ pub fn output_at(table: &[u8], gates: usize, outputs: usize, o: usize) -> usize
 
 // 1 where a byte is a kind, else 0: a number, so that a sum over kinds needs no branch.
 pub fn is_kind(byte: u8, kind: u8) -> u8
-    requires { ⌜ kind ≤ 3 ⌝ }
+    requires { ⌜ kind ≤ 5 ⌝ }
     ensures { λ r. ⌜ (r ≡ ofKind kind (kindOf byte)) × (r ≤ 1) ⌝ }
 {
     if byte == kind {
         return 1;
     }
     0
+}
+
+// One of two numbers, by a test.
+pub fn either(test: bool, yes: usize, no: usize) -> usize
+    ensures { λ r. ⌜ r ≡ cond test yes no ⌝ }
+{
+    if test {
+        return yes;
+    }
+    no
 }

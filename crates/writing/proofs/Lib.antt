@@ -1,2 +1,4 @@
--- Pairs by their numbers.
+-- Pairs by their numbers; the bytes of an OR.
 mod PairNumbers
+mod OrBytes
+mod Written

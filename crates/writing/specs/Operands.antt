@@ -6,14 +6,17 @@ use mathlib.Core.List.{List}
 use Prim.Native.Nat.{ℕ, _+_, _*_, _≤_, _<_}
 use lib.ListN.{length}
 use Rattle.tables.specs.Tables.{kindOf}
+use Rattle.tables.specs.Inside.{PlainByte}
 use Rattle.masks.specs.Shares.{pairAt}
 use Rattle.masks.specs.Wires.{cost}
 use Rattle.pieces.specs.declared.Places as DP
 use Rattle.pieces.specs.Layout.{ReadsShares}
 use Rattle.writing.specs.declared.Pair as DQ
 
--- what writing the operands of a plain gate's new wires takes: wires that a field can hold, and room for them
-pub record OperandRoom (kind n w : ℕ) (a b : DP.Places) (at : ℕ) (ops : List ℕ) : Type 0 where
+-- what writing the operands of a plain gate's new wires takes: wires, or a value, that a field can hold, and room for them
+pub record OperandRoom (kind value n w : ℕ) (a b : DP.Places) (at : ℕ) (ops : List ℕ) : Type 0 where
+  pub plain : PlainByte kind
+  pub small : value < 65536
   pub some : 1 ≤ n
   pub shares : ReadsShares n a b
   pub wires : w + cost (kindOf kind) n ≤ 65536

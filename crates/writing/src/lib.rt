@@ -1,15 +1,17 @@
 // Writing the operands of the new wires of one masked gate.
 ghost use mathlib.Core.Path.{_≡_};
-ghost use mathlib.Core.List.{_++_, map};
+ghost use mathlib.Core.List.{map};
 ghost use Prim.Native.Nat.{_+_, _*_, _≤_, _<_, ℕ, suc};
 ghost use lib.ListN.{length};
 ghost use Rattle.tables.specs.Inside.{putAt};
-ghost use Rattle.tables.specs.Tables.{kindOf, pairBytes, AND};
+ghost use Rattle.tables.specs.Tables.{kindOf, pairBytes, AND, OR};
 ghost use Rattle.masks.specs.Shares.{inTurn, pairs, tri};
 ghost use Rattle.masks.specs.Gadgets.{allFive, isw};
 ghost use Rattle.masks.specs.Wires.{cost, newWires};
 ghost use Rattle.writing.specs.Operands.{OperandRoom, PairRoom, PairNo};
-ghost use Rattle.pieces.specs.Layout.{shareWires, operandBytes, joined, ReadsShares, pairGates, rowsGates, xorGates};
+ghost use Rattle.pieces.specs.Layout.{shareWires, operandBytes, joined, ReadsShares, pairGates, xorGates};
+ghost use Rattle.pieces.specs.Layout.{constantGates, andGates, orGates};
+ghost use Rattle.placing.specs.Located.{placesAt, Room};
 
 // Writes the operands of a pair's five wires, from wire w on.
 fn write_pair(ops: &mut [u8], at: usize, w: usize, ai: usize, bj: usize, aj: usize, bi: usize)
@@ -87,39 +89,85 @@ fn write_xor(ops: &mut [u8], at: usize, n: usize, a: pieces::Places, b: pieces::
     }
 }
 
+// Writes the operands of a constant's shares: its value in the first, zeros in the others.
+fn write_constant(ops: &mut [u8], at: usize, n: usize, value: usize)
+    requires { ⌜ (at + 4 * n ≤ length (now ops)) × (value < 65536) ⌝ }
+    ensures { λ _. ⌜ now (ops .exit) ≡ putAt at (pairBytes (joined n 0 (constantGates value))) (now (ops .entry)) ⌝ }
+{
+    let mut left = value;
+    let mut s = 0;
+    while s < n {
+        pieces::put_gate(ops, at + 4 * s, left, 0);
+        left = 0;
+        s += 1;
+    }
+}
+
 // Writes the operands of an AND's wires, from wire w on: the pairs, then the rows.
 fn write_and(ops: &mut [u8], at: usize, w: usize, n: usize, a: pieces::Places, b: pieces::Places)
     requires { ⌜ ReadsShares n a b × (w + cost AND n ≤ 65536) × (at + 4 * cost AND n ≤ length (now ops)) ⌝ }
     ensures { λ _. ⌜ now (ops .exit)
-        ≡ putAt at
-        (pairBytes (inTurn 5 w (pairs n) (pairGates isw (shareWires n a) (shareWires n b))
-        ++ rowsGates isw n w (w + 5 * tri n) (shareWires n a) (shareWires n b)))
-        (now (ops .entry)) ⌝ }
+        ≡ putAt at (pairBytes (andGates isw n w (shareWires n a) (shareWires n b))) (now (ops .entry)) ⌝ }
 {
     let v = write_pairs(ops, at, w, n, a, b);
     rows::write_rows(ops, at + 4 * (v - w), v, w, n, a, b);
 }
 
-// Writes the operands of a plain gate's new wires, from wire w on, where a and b keep its operands' shares.
+// Writes the operands of an OR's wires, from wire w on: the NOTs of both first shares, the AND, the NOT of its first share.
+fn write_or(ops: &mut [u8], at: usize, w: usize, n: usize, a: pieces::Places, b: pieces::Places)
+    requires { ⌜ (1 ≤ n) × ReadsShares n a b × (w + cost OR n ≤ 65536) × (at + 4 * cost OR n ≤ length (now ops)) ⌝ }
+    ensures { λ _. ⌜ now (ops .exit)
+        ≡ putAt at (pairBytes (orGates isw n w (shareWires n a) (shareWires n b))) (now (ops .entry)) ⌝ }
+{
+    let last = pieces::and_first(n, w + 2);
+    let end = at + 8 + 4 * masks::and_cost(n);
+    let x = pieces::first_on(w, a);
+    let y = pieces::first_on(w + 1, b);
+    pieces::put_gate(ops, at, a.head, 0);
+    pieces::put_gate(ops, at + 4, b.head, 0);
+    write_and(ops, at + 8, w + 2, n, x, y);
+    pieces::put_gate(ops, end, last, 0);
+}
+
+// Writes the operands of a plain gate's new wires, from wire w on, where three arrays say where its operands' shares are; a
+// constant's left operand is its value. A NOT reads one number of the arrays.
 pub fn write_operands_of(
     kind: u8,
+    left: usize,
+    right: usize,
     n: usize,
     w: usize,
-    a: pieces::Places,
-    b: pieces::Places,
+    head: &[u16],
+    base: &[u16],
+    step: &[u16],
     ops: &mut [u8],
     at: usize,
 )
-    requires { ⌜ OperandRoom kind n w a b at (now ops) ⌝ }
+    requires { ⌜ Room (left + 1) (now head) (now base) (now step) × Room (right + 1) (now head) (now base) (now step)
+        × OperandRoom kind left n w (placesAt (now head) (now base) (now step) left) (placesAt (now head) (now base) (now step) right)
+        at (now ops) ⌝ }
     ensures { λ _. ⌜ ((g : ℕ) → now (ops .exit)
-        ≡ putAt at (operandBytes (newWires isw (kindOf kind) n g w (shareWires n a) (shareWires n b))) (now (ops .entry))) ⌝ }
+        ≡ putAt at (operandBytes (newWires isw (kindOf kind) left n g w
+        (shareWires n (placesAt (now (head .entry)) (now (base .entry)) (now (step .entry)) left))
+        (shareWires n (placesAt (now (head .entry)) (now (base .entry)) (now (step .entry)) right)))) (now (ops .entry))) ⌝ }
 {
+    if kind == 0 {
+        pieces::put_gate(ops, at, head[left] as usize, 0);
+        return;
+    }
+    if kind == 4 {
+        write_constant(ops, at, n, left);
+        return;
+    }
+    let a = placing::places_at(head, base, step, left);
+    let b = placing::places_at(head, base, step, right);
+    if kind == 1 {
+        write_xor(ops, at, n, a, b);
+        return;
+    }
     if kind == 2 {
         write_and(ops, at, w, n, a, b);
-    } else if kind == 1 {
-        write_xor(ops, at, n, a, b);
-    } else if kind == 0 {
-        let left = pieces::share_wire(a, 0);
-        pieces::put_gate(ops, at, left, 0);
+        return;
     }
+    write_or(ops, at, w, n, a, b);
 }

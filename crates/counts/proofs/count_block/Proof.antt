@@ -1,64 +1,59 @@
--- `counts::count_block` meets its contract. The loop's invariant: of each kind, the gates before the block and those counted in
--- it make the gates so far.
+-- `counts::count_block` meets its contract. The loop's invariant: of each of three kinds, the gates before the block and those counted
+-- in it make the gates so far; and they stay few.
 -- Assumes nothing.
-use mathlib.Core.Path.{_≡_, ap, _∙_}
-use Prim.Native.Nat.{ℕ, _-_, _≤_}
-use native.Mathlib.Numerals.{add-one}
+use mathlib.Core.Path.{_≡_}
+use Prim.Native.Nat.{_+_, _-_, _≤_}
 use native.Mathlib.Omega.{arith}
 use borrow.Author.Needs.{needs}
-use lib.ListN.{take}
-use Rattle.tables.specs.declared.Counts as DC
 use Rattle.tables.specs.Tables.{tableOf}
-use Rattle.tables.specs.Counted.{ofKind, countsOf}
-use Rattle.tables.proofs.Accept.{gates-are}
-use Rattle.counts.proofs.Counting.{Block, block-start, block-turn, block-end, counting-room, counting-small}
+use Rattle.counts.proofs.Counting.{gate-inside, Block, block-start, block-turn, block-end, block-small}
 use Rattle.counts.proofs.count_block.Statement.{statement}
 use Rattle.counts.proofs.count_block.Tie as tie
 
 abbrev Inv-loop : tie.InvT-loop
-Inv-loop table gates from to counted nots₀ xors₀ ands₀ randoms₀ g₀ nots xors ands randoms g =
-    (g ≤ to) × Block (tableOf table .gates) from g counted nots xors ands randoms
+Inv-loop table gates kind from to counted first₀ second₀ third₀ g₀ first second third g =
+    (g ≤ to)
+    × Block kind (tableOf table .gates) from g counted first second third
+    × (counted .first + first ≤ 65535) × (counted .second + second ≤ 65535) × (counted .third + third ≤ 65535)
 
 abbrev μ-loop : tie.MeasureT-loop
-μ-loop table gates from to counted nots₀ xors₀ ands₀ randoms₀ g₀ nots xors ands randoms g = to - g
+μ-loop table gates kind from to counted first₀ second₀ third₀ g₀ first second third g = to - g
 
 loop-holds : tie.Need-loop-holds Inv-loop μ-loop
-loop-holds c = (omega (arith, c .before .pre .1), block-start (c .before .pre .4))
+loop-holds c =
+    let start = c .before in
+    let before : start .args .from ≤ start .args .to = omega (arith, start .pre .2) in
+    let inside : start .args .from ≤ start .args .gates = omega (arith, before, start .pre .3) in
+    let block = block-start (start .pre .5) in
+    let few = block-small (start .pre .0) block inside in
+    (before, block, few .0, few .1, few .2)
 
 gate-at-requires : tie.Need-gate-at-requires Inv-loop μ-loop
-gate-at-requires c κs = (c .before .before .before .pre .0, omega (arith, c .loop-test .taken, c .before .before .before .pre .2))
+gate-at-requires c κs = search needs
 
 is-kind-requires : tie.Need-is-kind-requires Inv-loop μ-loop
-is-kind-requires c κs = omega arith
+is-kind-requires c κs = search needs
 
-add-nots : tie.Need-add-nots Inv-loop μ-loop
-add-nots c =
-    let p = c .before .before .before in
-    record { fits = counting-room (p .loop .inv .1 .nots) (c .before .before .loop-test .taken) (p .before .before .pre .3) (c .is-kind .ensures .1) }
+add-first : tie.Need-add-first Inv-loop μ-loop
+add-first c = search needs
+
+add-is-kind : tie.Need-add-is-kind Inv-loop μ-loop
+add-is-kind c = search needs
 
 is-kind-requires-2 : tie.Need-is-kind-requires-2 Inv-loop μ-loop
-is-kind-requires-2 c κs = omega arith
+is-kind-requires-2 c κs = search needs
 
-add-xors : tie.Need-add-xors Inv-loop μ-loop
-add-xors c =
-    let p = c .before .before .before .before in
-    record { fits = counting-room (p .loop .inv .1 .xors) (c .before .before .before .loop-test .taken) (p .before .before .pre .3) (c .is-kind2 .ensures .1) }
+add-second : tie.Need-add-second Inv-loop μ-loop
+add-second c = search needs
+
+add-is-kind-2 : tie.Need-add-is-kind-2 Inv-loop μ-loop
+add-is-kind-2 c = search needs
 
 is-kind-requires-3 : tie.Need-is-kind-requires-3 Inv-loop μ-loop
-is-kind-requires-3 c κs = omega arith
+is-kind-requires-3 c κs = search needs
 
-add-ands : tie.Need-add-ands Inv-loop μ-loop
-add-ands c =
-    let p = c .before .before .before .before .before in
-    record { fits = counting-room (p .loop .inv .1 .ands) (c .before .before .before .before .loop-test .taken) (p .before .before .pre .3) (c .is-kind3 .ensures .1) }
-
-is-kind-requires-4 : tie.Need-is-kind-requires-4 Inv-loop μ-loop
-is-kind-requires-4 c κs = omega arith
-
-add-randoms : tie.Need-add-randoms Inv-loop μ-loop
-add-randoms c =
-    let p = c .before .before .before .before .before .before in
-    record { fits = counting-room (p .loop .inv .1 .randoms) (c .before .before .before .before .before .loop-test .taken) (p .before .before .pre .3) (c .is-kind4 .ensures .1) }
+add-third : tie.Need-add-third Inv-loop μ-loop
+add-third c = search needs
 
 add-g : tie.Need-add-g Inv-loop μ-loop
 add-g c = search needs
@@ -68,69 +63,40 @@ loop-less c = search needs
 
 loop-again : tie.Need-loop-again Inv-loop μ-loop
 loop-again c =
-    let p = c .before .before .before .before .before .before in
-    let long = gates-are (p .before .before .pre .0) in
-    let inside = p .before .before .pre .2 in
-    let kind = c .before .before .before .before .gate-at .ensures .kind in (
-      omega (arith, c .before .before .before .before .before .loop-test .taken),
-      rw add-one
-          (block-turn (p .loop .inv .1) (omega (arith, c .before .before .before .before .before .loop-test .taken, inside, long))
-          (c .before .before .before .is-kind .ensures .0 ∙ ap (ofKind 0) kind, c .before .before .before .is-kind .ensures .1)
-          (c .before .before .is-kind2 .ensures .0 ∙ ap (ofKind 1) kind, c .before .before .is-kind2 .ensures .1)
-          (c .before .is-kind3 .ensures .0 ∙ ap (ofKind 2) kind, c .before .is-kind3 .ensures .1)
-          (c .is-kind4 .ensures .0 ∙ ap (ofKind 3) kind, c .is-kind4 .ensures .1)),
-    )
-
-cast-t14 : tie.Need-cast-t14 Inv-loop μ-loop
-cast-t14 c =
-    let p = c .before in
-    record { fits = omega (arith, p .loop .inv .1 .nots .few, p .loop .inv .0, p .before .before .pre .3) }
-
-add-t15 : tie.Need-add-t15 Inv-loop μ-loop
-add-t15 c =
-    let p = c .before .before in
-    let small = counting-small (p .before .before .pre .0) (p .loop .inv .1 .nots) (p .loop .inv .0) (p .before .before .pre .2) in
-    record { fits = omega (arith, small) }
-
-cast-t16 : tie.Need-cast-t16 Inv-loop μ-loop
-cast-t16 c =
-    let p = c .before .before in
-    record { fits = omega (arith, p .loop .inv .1 .xors .few, p .loop .inv .0, p .before .before .pre .3) }
-
-add-t17 : tie.Need-add-t17 Inv-loop μ-loop
-add-t17 c =
-    let p = c .before .before .before in
-    let small = counting-small (p .before .before .pre .0) (p .loop .inv .1 .xors) (p .loop .inv .0) (p .before .before .pre .2) in
-    record { fits = omega (arith, small) }
-
-cast-t18 : tie.Need-cast-t18 Inv-loop μ-loop
-cast-t18 c =
-    let p = c .before .before .before in
-    record { fits = omega (arith, p .loop .inv .1 .ands .few, p .loop .inv .0, p .before .before .pre .3) }
-
-add-t19 : tie.Need-add-t19 Inv-loop μ-loop
-add-t19 c =
     let p = c .before .before .before .before in
-    let small = counting-small (p .before .before .pre .0) (p .loop .inv .1 .ands) (p .loop .inv .0) (p .before .before .pre .2) in
-    record { fits = omega (arith, small) }
+    let start = p .before .before .before in
+    let further : p .before .loop .g + 1 ≤ start .args .to = omega (arith, p .loop-test .taken) in
+    let inside = gate-inside (start .pre .0) (p .loop-test .taken) (start .pre .3) in
+    let kind = c .before .before .before .gate-at .ensures .kind in
+    let block =
+    block-turn (p .before .loop .inv .1) inside kind (c .before .before .is-kind .ensures) (c .before .is-kind2 .ensures) (c .is-kind3 .ensures) in
+    let few = block-small (start .pre .0) block (omega (arith, further, start .pre .3)) in
+    (further, block, few .0, few .1, few .2)
 
-cast-t20 : tie.Need-cast-t20 Inv-loop μ-loop
-cast-t20 c =
-    let p = c .before .before .before .before in
-    record { fits = omega (arith, p .loop .inv .1 .randoms .few, p .loop .inv .0, p .before .before .pre .3) }
+cast-t15 : tie.Need-cast-t15 Inv-loop μ-loop
+cast-t15 c = search needs
 
-add-t21 : tie.Need-add-t21 Inv-loop μ-loop
-add-t21 c =
-    let p = c .before .before .before .before .before in
-    let small = counting-small (p .before .before .pre .0) (p .loop .inv .1 .randoms) (p .loop .inv .0) (p .before .before .pre .2) in
-    record { fits = omega (arith, small) }
+add-t16 : tie.Need-add-t16 Inv-loop μ-loop
+add-t16 c = search needs
+
+cast-t17 : tie.Need-cast-t17 Inv-loop μ-loop
+cast-t17 c = search needs
+
+add-t18 : tie.Need-add-t18 Inv-loop μ-loop
+add-t18 c = search needs
+
+cast-t19 : tie.Need-cast-t19 Inv-loop μ-loop
+cast-t19 c = search needs
+
+add-t20 : tie.Need-add-t20 Inv-loop μ-loop
+add-t20 c = search needs
 
 returns : tie.Need-returns Inv-loop μ-loop
 returns c =
-    let p = c .before .before .before .before .before in
-    let gs = tableOf (p .before .before .args .table .now) .gates in
-    let last : p .loop .g ≡ p .before .before .args .to = omega (arith, p .loop .inv .0, c .before .before .before .before .loop-test .left) in
-    block-end (p .loop .inv .1) ∙ ap {A = ℕ} {B = DC.Counts} (λ i. countsOf (take i gs)) last
+    let test = c .before .before .before in
+    let p = test .before in
+    let last : p .loop .g ≡ p .before .before .args .to = omega (arith, p .loop .inv .0, test .loop-test .left) in
+    block-end (rw last at (p .loop .inv .1))
 
 pub count-block-spec : {M : Type 1} → statement M
 count-block-spec =
@@ -141,22 +107,20 @@ count-block-spec =
     loop-holds
     gate-at-requires
     is-kind-requires
-    add-nots
+    add-first
+    add-is-kind
     is-kind-requires-2
-    add-xors
+    add-second
+    add-is-kind-2
     is-kind-requires-3
-    add-ands
-    is-kind-requires-4
-    add-randoms
+    add-third
     add-g
     loop-less
     loop-again
-    cast-t14
-    add-t15
-    cast-t16
-    add-t17
-    cast-t18
-    add-t19
-    cast-t20
-    add-t21
+    cast-t15
+    add-t16
+    cast-t17
+    add-t18
+    cast-t19
+    add-t20
     returns)

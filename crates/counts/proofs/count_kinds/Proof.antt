@@ -1,59 +1,41 @@
--- `counts::count_kinds` meets its contract. The loop's invariant: the counts are those of the gates before the next block.
+-- `counts::count_kinds` meets its contract: where the first three kinds are all gates, there are none of the others.
 -- Assumes nothing.
-use mathlib.Core.Path.{_≡_}
-use Prim.Native.Nat.{_-_, _≤_}
 use native.Mathlib.Omega.{arith}
 use borrow.Author.Needs.{needs}
-use lib.ListN.{take}
 use Rattle.tables.specs.Tables.{tableOf}
-use Rattle.tables.specs.Counted.{countsOf}
 use Rattle.tables.proofs.Accept.{gates-are}
-use Rattle.counts.proofs.Counting.{counted-none, counted-all}
+use Rattle.counts.proofs.Counting.{six-counted, three-small, none-further}
 use Rattle.counts.proofs.count_kinds.Statement.{statement}
 use Rattle.counts.proofs.count_kinds.Tie as tie
 
-abbrev Inv-loop : tie.InvT-loop
-Inv-loop table gates counts₀ g₀ counts g = (g ≤ gates) × (counts ≡ countsOf (take g (tableOf table .gates)))
+count-three-requires : tie.Need-count-three-requires
+count-three-requires c κs = search needs
 
-abbrev μ-loop : tie.MeasureT-loop
-μ-loop table gates counts₀ g₀ counts g = gates - g
+add-if1 : tie.Need-add-if1
+add-if1 c = record { fits = omega (arith, three-small (c .before .before .before .pre) (c .before .count-three .ensures)) }
 
-loop-holds : tie.Need-loop-holds Inv-loop μ-loop
-loop-holds c = (omega arith, counted-none (tableOf (c .before .args .table .now) .gates))
+add-if1-2 : tie.Need-add-if1-2
+add-if1-2 c =
+    let p = c .before .before in
+    record { fits = omega (arith, three-small (p .before .before .pre) (p .count-three .ensures)) }
 
-block-end-requires : tie.Need-block-end-requires Inv-loop μ-loop
-block-end-requires c κs = search needs
-
-count-block-requires : tie.Need-count-block-requires Inv-loop μ-loop
-count-block-requires c κs =
-    let p = c .before .before in (
-      p .before .before .pre,
-      c .block-end .ensures .0,
-      c .block-end .ensures .1,
-      c .block-end .ensures .2,
-      p .loop .inv .1,
-    )
-
-loop-less : tie.Need-loop-less Inv-loop μ-loop
-loop-less c = omega (arith, c .before .block-end .ensures .0, c .before .block-end .ensures .1)
-
-loop-again : tie.Need-loop-again Inv-loop μ-loop
-loop-again c = (c .before .block-end .ensures .1, c .count-block .ensures)
-
-returns : tie.Need-returns Inv-loop μ-loop
+returns : tie.Need-returns
 returns c =
-    let p = c .before in
-    counted-all (tableOf (p .before .before .args .table .now) .gates) (p .loop .g) (p .loop .inv .1) (omega (arith, gates-are (p .before .before .pre), c .loop-test .left))
+    let p = c .before .before .before in
+    let start = p .before .before in
+    let gs = tableOf (start .args .table .now) .gates in
+    let low = p .count-three .ensures in
+    six-counted gs low (none-further gs low (omega (arith, c .if1 .taken, gates-are (start .pre))))
+
+count-three-requires-2 : tie.Need-count-three-requires-2
+count-three-requires-2 c κs = search needs
+
+returns-2 : tie.Need-returns-2
+returns-2 c =
+    let p = c .before .before .before .before in
+    six-counted (tableOf (p .before .before .args .table .now) .gates) (p .count-three .ensures) (c .count-three2 .ensures)
 
 pub count-kinds-spec : {M : Type 1} → statement M
 count-kinds-spec =
     tie.close
-    (tie.spec
-    Inv-loop
-    μ-loop
-    loop-holds
-    block-end-requires
-    count-block-requires
-    loop-less
-    loop-again
-    returns)
+    (tie.spec count-three-requires add-if1 add-if1-2 returns count-three-requires-2 returns-2)

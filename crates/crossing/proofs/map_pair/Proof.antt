@@ -56,7 +56,7 @@ returns c =
     let v : ℕ → ℕ = λ p. getD (a .one .now) p 0 in
     let u : ℕ → ℕ = λ p. getD (a .other .now) p 0 in
     both-one (map (isw .gates (a .w) (a .ai) (a .bj) (a .aj) (a .bi)) allFive)
-    (isw .flip (a .k) (a .i) (a .j) (differs v u (a .ai) (a .bj)) (differs v u (a .aj) (a .bi)))
+    (isw .flip (a .k) (a .i) (a .j) (differs (v (a .ai)) (v (a .bj)) (u (a .ai)) (u (a .bj))) (differs (v (a .aj)) (v (a .bi)) (u (a .aj)) (u (a .bi))))
     (bit .tape-bit .result)
     (bitXor (bit .tape-bit .result) (flip .flip-pair .result))
     (a .at)

@@ -1,6 +1,5 @@
 -- `gates::gate_flaws` meets its contract: what it ors is 0 only where each part is, and then no test of a gate fails.
 -- Assumes nothing.
-use mathlib.Core.Path.{refl}
 use borrow.Author.Needs.{needs}
 use Rattle.gates.proofs.Gates.{flaws-none}
 use Rattle.gates.proofs.gate_flaws.Statement.{statement}
@@ -15,17 +14,12 @@ late-requires-2 c κs = search needs
 unused-requires : tie.Need-unused-requires
 unused-requires c κs = tt
 
-cast-result : tie.Need-cast-result
-cast-result c = search needs
-
 returns : tie.Need-returns
 returns c = λ z.
-    flaws-none _ _ _ _ (c .before .before .late .result) (c .before .late2 .result) (c .unused .result) _ z
+    flaws-none _ _ _ _ (c .before .before .late .result) (c .before .late2 .result) (c .unused .result) z
     (c .before .before .late .ensures)
     (c .before .late2 .ensures)
     (c .unused .ensures)
-    refl
 
 pub gate-flaws-spec : {M : Type 1} → statement M
-gate-flaws-spec =
-    tie.close (tie.spec late-requires late-requires-2 unused-requires cast-result returns)
+gate-flaws-spec = tie.close (tie.spec late-requires late-requires-2 unused-requires returns)

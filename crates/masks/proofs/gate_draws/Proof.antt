@@ -1,8 +1,8 @@
--- `masks::gate_draws` meets its contract: only an AND draws, a bit for each pair.
+-- `masks::gate_draws` meets its contract: only an AND and an OR draw, a bit for each pair.
 -- Assumes nothing.
-use mathlib.Core.Path.{sym}
+use mathlib.Core.Path.{sym, _∙_}
 use borrow.Author.Needs.{needs}
-use Rattle.masks.proofs.Figures.{other-draws}
+use Rattle.masks.proofs.Figures.{pair-draws, other-draws}
 use Rattle.masks.proofs.gate_draws.Statement.{statement}
 use Rattle.masks.proofs.gate_draws.Tie as tie
 
@@ -10,7 +10,7 @@ pair-count-requires : tie.Need-pair-count-requires
 pair-count-requires c κs = search needs
 
 returns : tie.Need-returns
-returns c = rw (c .before .if1 .taken) (c .pair-count .ensures)
+returns c = c .pair-count .ensures ∙ sym (pair-draws (c .before .before .args .kind) (c .before .before .args .n) (c .before .if1 .taken))
 
 returns-2 : tie.Need-returns-2
 returns-2 c = sym (other-draws (c .before .args .kind) (c .before .args .n) (c .if1 .left))

@@ -1,7 +1,9 @@
 -- `parts::write_operands` meets its contract: the operands from gate g on are left to write.
 -- Assumes nothing.
+use mathlib.Core.Path.{_≡_, refl}
 use Prim.Native.Nat.{_+_, _-_, _*_, _≤_}
 use native.Mathlib.Omega.{arith}
+use borrow.Author.Needs.{needs}
 use lib.ListN.{length}
 use Rattle.tables.specs.Tables.{kindOf, tableOf}
 use Rattle.masks.specs.Wires.{cost}
@@ -20,107 +22,102 @@ use Rattle.parts.proofs.write_operands.Statement.{statement}
 use Rattle.parts.proofs.write_operands.Tie as tie
 
 abbrev Inv-loop : tie.InvT-loop
-Inv-loop table from to w head base step ops₀ n gates next₀ at₀ g₀ ops next at g =
+Inv-loop table from to w head base step ops₀ n gates costs next₀ at₀ g₀ ops next at g =
     Operands (tableOf table) n (operandsWhole (tableOf table) n from to w ops₀) ops₀ to g next at ops
 
 abbrev μ-loop : tie.MeasureT-loop
-μ-loop table from to w head base step ops₀ n gates next₀ at₀ g₀ ops next at g = to - g
+μ-loop table from to w head base step ops₀ n gates costs next₀ at₀ g₀ ops next at g = to - g
+
+slice-aggregate-note-costs : tie.Need-slice-aggregate-note-costs Inv-loop μ-loop
+slice-aggregate-note-costs c = search needs
+
+note-costs-requires : tie.Need-note-costs-requires Inv-loop μ-loop
+note-costs-requires c κs = (plan-sized (c .before .before .before .before .before .before .pre .0) .few, refl)
 
 loop-holds : tie.Need-loop-holds Inv-loop μ-loop
-loop-holds c = let p = c .before .before .before .before .before .pre in operands-start (p .2) (p .4) (p .5)
+loop-holds c = let p = c .before .before .before .before .before .before .before .before .pre in operands-start (p .2) (p .4) (p .5)
 
 gate-at-requires : tie.Need-gate-at-requires Inv-loop μ-loop
 gate-at-requires c κs =
-    let p = c .before .before .before .before .before .before .before .pre in
+    let p = c .before .before .before .before .before .before .before .before .before .before .pre in
     (plan-sized (p .0) .gates, omega (arith, p .3, c .loop-test .taken))
 
 -- what the gate that was read is
 facts :
     (c : tie.After-gate-at Inv-loop μ-loop)
-    → let a = c .before .before .before .before .before .before .before .before .args in Turn (a .p .inputs) (a .p .shares) (c .before .before
+    → let a = c .before .before .before .before .before .before .before .before .before .before .before .args in Turn (a .p .inputs) (a .p .shares) (c .before .before
     .loop .g) (c .before .before .loop .next) (c .gate-at .result)
-facts c = operands-facts (c .before .before .before .before .before .before .before .before .pre .0) (c .before .before .loop .inv) (c .before
-    .loop-test .taken) (c .before .before .before .before .before .before .before .before .pre .3) (c .gate-at .ensures)
+facts c = operands-facts (c .before .before .before .before .before .before .before .before .before .before .before .pre .0) (c .before .before .loop .inv) (c .before
+    .loop-test .taken) (c .before .before .before .before .before .before .before .before .before .before .before .pre .3) (c .gate-at .ensures)
 
 -- a gate is among the plan's
 few :
-    (c : tie.After-gate-at Inv-loop μ-loop) → c .before .before .loop .g + 1 ≤ c .before .before .before .before .before .before .before .before
+    (c : tie.After-gate-at Inv-loop μ-loop) → c .before .before .loop .g + 1 ≤ c .before .before .before .before .before .before .before .before .before .before .before
     .args .p .gates
-few c = omega (arith, c .before .loop-test .taken, c .before .before .before .before .before .before .before .before .pre .3)
-
-places-at-requires : tie.Need-places-at-requires Inv-loop μ-loop
-places-at-requires c κs = let p = c .before .before .before .before .before .before .before .before .pre in located-room (p .0) (p .1) (omega
-    (arith, facts c .left, few c))
-
-places-at-requires-2 : tie.Need-places-at-requires-2 Inv-loop μ-loop
-places-at-requires-2 c κs = let p = c .before .before .before .before .before .before .before .before .before .pre in located-room (p .0) (p .1)
-    (omega (arith, facts (c .before) .right, few (c .before)))
+few c = omega (arith, c .before .loop-test .taken, c .before .before .before .before .before .before .before .before .before .before .before .pre .3)
 
 -- room for the gate's operands
 room :
     (c : tie.After-gate-at Inv-loop μ-loop)
-    → c .before .before .loop .at + 4 * cost (kindOf (c .gate-at .result .kind)) (c .before .before .before .before .before .before .before
-    .before .args .p .shares) ≤ length (c .before .before .loop .ops)
+    → c .before .before .loop .at + 4 * cost (kindOf (c .gate-at .result .kind)) (c .before .before .before .before .before .before .before .before .before .before .before .args .p .shares) ≤ length (c .before .before .loop .ops)
 room c =
-    let p = c .before .before .before .before .before .before .before .before .pre in
+    let p = c .before .before .before .before .before .before .before .before .before .before .before .pre in
     operands-room (p .0) (c .before .before .loop .inv) (c .before .loop-test .taken) (p .3) (c .gate-at .ensures) (p .1)
 
 write-operands-of-requires : tie.Need-write-operands-of-requires Inv-loop μ-loop
 write-operands-of-requires c κs =
-    let p = c .before .before .before .before .before .before .before .before .before .before .before .pre in
+    let p = c .before .before .before .before .before .before .before .before .before .before .before .before .pre in
     let z = plan-sized (p .0) in
-    let f = facts (c .before .before .before) in
-    record {
-      some = omega (arith, z .some);
-      shares = record {
-        few = z .few;
-        left = read-low (p .0) (p .1) (omega (arith, f .left, few (c .before .before .before))) (c .before .before .places-at .ensures .0);
-        right = read-low (p .0) (p .1) (omega (arith, f .right, few (c .before .before .before))) (c .before .places-at2 .ensures .0);
-      };
-      wires = omega (arith, f .fits);
-      room = room (c .before .before .before);
-    }
+    let f = facts (c .before) in (
+      located-room (p .0) (p .1) (omega (arith, f .left, few (c .before))),
+      located-room (p .0) (p .1) (omega (arith, f .right, few (c .before))),
+      record {
+        plain = f .kind;
+        small = c .before .gate-at .ensures .left-small;
+        some = omega (arith, z .some);
+        shares = record {
+          few = z .few;
+          left = read-low (p .0) (p .1) (omega (arith, f .left, few (c .before))) refl;
+          right = read-low (p .0) (p .1) (omega (arith, f .right, few (c .before))) refl;
+        };
+        wires = omega (arith, f .fits);
+        room = room (c .before);
+      },
+    )
 
-gate-cost-requires : tie.Need-gate-cost-requires Inv-loop μ-loop
-gate-cost-requires c κs = plan-sized (c .before .before .before .before .before .before .before .before .before .before .before .before .before
-    .before .pre .0) .few
+slice-aggregate-noted-cost : tie.Need-slice-aggregate-noted-cost Inv-loop μ-loop
+slice-aggregate-noted-cost c = search needs
+
+noted-cost-requires : tie.Need-noted-cost-requires Inv-loop μ-loop
+noted-cost-requires c κs = (facts (c .before .before .before .before .before) .kind .0, c .before .before .before .before .before .before .before .before .before .note-costs .ensures .0)
+
+-- what the gate costs
+costs :
+    (c : tie.After-noted-cost Inv-loop μ-loop)
+    → c .noted-cost .result ≡ cost (kindOf (c .before .before .before .before .before .before .gate-at .result .kind)) (c .before .before .before .before .before .before .before .before .before .before .before .before .before .before .before .before .before .args .p .shares)
+costs c = c .noted-cost .ensures (c .before .before .before .before .before .before .before .before .before .before .before .before .before .before .before .before .before .args .p .shares) (c .before .before .before .before .before .before .before .before .before .before .note-costs .ensures .1)
 
 add-next : tie.Need-add-next Inv-loop μ-loop
-add-next c = omega (arith, facts (c .before .before .before .before .before .before .before) .fits, c .gate-cost .ensures)
+add-next c = omega (arith, facts (c .before .before .before .before .before .before) .fits, costs c)
 
 mul-at : tie.Need-mul-at Inv-loop μ-loop
-mul-at c = omega (arith, facts (c .before .before .before .before .before .before .before) .fits, c .gate-cost .ensures)
+mul-at c = omega (arith, facts (c .before .before .before .before .before .before) .fits, costs c)
 
 add-at : tie.Need-add-at Inv-loop μ-loop
-add-at c = omega (
-  arith,
-  room (c .before .before .before .before .before .before .before),
-  c .gate-cost .ensures,
-  c .before .before .before
-      .before .before .before .before .before .before .loop .inv .long,
-  c .before .before .before .before .before .before .before .before .before
-      .before .before .before .before .before .before .good,
-)
+add-at c = omega (arith, room (c .before .before .before .before .before .before), costs c, c .before .before .before .before .before .before .before .before .loop .inv .long, c .before .before .before .before .before .before .before .before .before .before .before .before .before .before .before .before .before .good)
 
 add-g : tie.Need-add-g Inv-loop μ-loop
-add-g c = omega (
-  arith,
-  few (c .before .before .before .before .before .before .before),
-  plan-sized (c .before .before .before .before .before
-      .before .before .before .before .before .before .before .before .before .before .pre .0) .plain,
-)
+add-g c = omega (arith, few (c .before .before .before .before .before .before), plan-sized (c .before .before .before .before .before .before .before .before .before .before .before .before .before .before .before .before .before .pre .0) .plain)
 
 loop-less : tie.Need-loop-less Inv-loop μ-loop
-loop-less c = omega (arith, c .before .before .before .before .before .before .before .before .loop-test .taken)
+loop-less c = omega (arith, c .before .before .before .before .before .before .before .loop-test .taken)
 
 loop-again : tie.Need-loop-again Inv-loop μ-loop
 loop-again c =
-    let test = c .before .before .before .before .before .before .before .before in
-    let p = test .before .before .before .before .before .before .before .pre in
-    operands-turn (p .0) (test .before .loop .inv) (test .loop-test .taken) (p .3) (c .before .before .before .before .before .before .before
-    .gate-at .ensures) (p .1)
-    (c .before .before .before .before .before .before .places-at .ensures .0) (c .before .before .before .before .before .places-at2 .ensures
-    .0) (c .before .before .before .write-operands-of .ensures (test .before .loop .g)) (c .gate-cost .ensures)
+    let test = c .before .before .before .before .before .before .before in
+    let p = test .before .before .before .before .before .before .before .before .before .before .pre in
+    operands-turn (p .0) (test .before .loop .inv) (test .loop-test .taken) (p .3) (c .before .before .before .before .before .before .gate-at .ensures) (p .1)
+    (c .before .before .before .before .write-operands-of .ensures (test .before .loop .g)) (costs c)
 
 same-length : tie.Need-same-length Inv-loop μ-loop
 same-length c = c .before .loop .inv .long
@@ -134,12 +131,13 @@ write-operands-spec =
     (tie.spec
     Inv-loop
     μ-loop
+    slice-aggregate-note-costs
+    note-costs-requires
     loop-holds
     gate-at-requires
-    places-at-requires
-    places-at-requires-2
     write-operands-of-requires
-    gate-cost-requires
+    slice-aggregate-noted-cost
+    noted-cost-requires
     add-next
     mul-at
     add-at

@@ -1,43 +1,52 @@
 -- `placing::place_gates` meets its contract: the gates before number g are noted, and gate g begins at wire w.
 -- Assumes nothing.
+use mathlib.Core.Path.{_≡_, refl}
 use Prim.Native.Nat.{_+_, _-_}
 use native.Mathlib.Omega.{arith}
+use borrow.Author.Needs.{needs}
 use Rattle.placing.specs.Located.{Room}
 use Rattle.placing.proofs.Turns.{Turn, turn, plan-sized}
 use Rattle.placing.proofs.Placing.{Placing, placing-start, placing-turn, placing-end, noted-room}
-use Rattle.tables.specs.Tables.{tableOf}
+use Rattle.tables.specs.Tables.{kindOf, tableOf}
+use Rattle.masks.specs.Wires.{cost}
 use Rattle.placing.proofs.place_gates.Statement.{statement}
 use Rattle.placing.proofs.place_gates.Tie as tie
 
 abbrev Inv-loop : tie.InvT-loop
-Inv-loop table head₀ base₀ step₀ n inputs gates w₀ g₀ head base step w g =
+Inv-loop table head₀ base₀ step₀ n inputs gates costs w₀ g₀ head base step w g =
     Placing (tableOf table) n gates head₀ base₀ step₀ head base step g w
 
 abbrev μ-loop : tie.MeasureT-loop
-μ-loop table head₀ base₀ step₀ n inputs gates w₀ g₀ head base step w g = gates - g
+μ-loop table head₀ base₀ step₀ n inputs gates costs w₀ g₀ head base step w g = gates - g
+
+slice-aggregate-note-costs : tie.Need-slice-aggregate-note-costs Inv-loop μ-loop
+slice-aggregate-note-costs c = search needs
+
+note-costs-requires : tie.Need-note-costs-requires Inv-loop μ-loop
+note-costs-requires c κs = (plan-sized (c .before .before .before .before .before .pre .0) .few, refl)
 
 mul-w : tie.Need-mul-w Inv-loop μ-loop
-mul-w c = omega (arith, plan-sized (c .before .before .before .before .pre .0) .inputs)
+mul-w c = omega (arith, plan-sized (c .before .before .before .before .before .before .before .pre .0) .inputs)
 
 loop-holds : tie.Need-loop-holds Inv-loop μ-loop
-loop-holds c = let p = c .before .before .before .before .pre in placing-start (p .0) (p .2)
+loop-holds c = let p = c .before .before .before .before .before .before .before .pre in placing-start (p .0) (p .2)
 
 gate-at-requires : tie.Need-gate-at-requires Inv-loop μ-loop
-gate-at-requires c κs = (plan-sized (c .before .before .before .before .before .before .pre .0) .gates, c .loop-test .taken)
+gate-at-requires c κs = (plan-sized (c .before .before .before .before .before .before .before .before .before .pre .0) .gates, c .loop-test .taken)
 
 -- in a turn the arrays have room for the plain wires up to this gate's
 room :
     (c : tie.In-loop Inv-loop μ-loop)
-    → Room (c .before .before .before .before .before .before .args .p .inputs + c .before .loop .g + 1) (c .before .loop .head) (c .before .loop
+    → Room (c .before .before .before .before .before .before .before .before .before .args .p .inputs + c .before .loop .g + 1) (c .before .loop .head) (c .before .loop
     .base) (c .before .loop .step)
-room c = noted-room (c .before .before .before .before .before .before .pre .1) (c .before .loop .inv .noted) (omega (arith, c .loop-test .taken))
+room c = noted-room (c .before .before .before .before .before .before .before .before .before .pre .1) (c .before .loop .inv .noted) (omega (arith, c .loop-test .taken))
 
 -- what the gate that was read is
 facts :
     (c : tie.After-gate-at Inv-loop μ-loop)
-    → let a = c .before .before .before .before .before .before .before .args in Turn (a .p .inputs) (a .p .shares) (c .before .before .loop .g)
+    → let a = c .before .before .before .before .before .before .before .before .before .before .args in Turn (a .p .inputs) (a .p .shares) (c .before .before .loop .g)
     (c .before .before .loop .w) (c .gate-at .result)
-facts c = turn (c .before .before .before .before .before .before .before .pre .0) (c .before .loop-test .taken) (c .before .before .loop .inv
+facts c = turn (c .before .before .before .before .before .before .before .before .before .before .pre .0) (c .before .loop-test .taken) (c .before .before .loop .inv
     .wire) (c .gate-at .ensures)
 
 places-at-requires : tie.Need-places-at-requires Inv-loop μ-loop
@@ -49,11 +58,11 @@ places-at-requires c κs =
 new-places-requires : tie.Need-new-places-requires Inv-loop μ-loop
 new-places-requires c κs =
     let f = facts (c .before .before .before .before) in
-    let z = plan-sized (c .before .before .before .before .before .before .before .before .before .before .before .pre .0) in
+    let z = plan-sized (c .before .before .before .before .before .before .before .before .before .before .before .before .before .before .pre .0) in
     (f .kind, omega (arith, z .some), z .few, f .fits, c .places-at .ensures .1)
 
 add-put-places : tie.Need-add-put-places Inv-loop μ-loop
-add-put-places c = omega (arith, room (c .before .before .before .before .before .before .before .before .before) .heads)
+add-put-places c = omega (arith, plan-sized (c .before .before .before .before .before .before .before .before .before .before .before .before .before .before .before .before .before .before .pre .0) .plain, c .before .before .before .before .before .before .before .before .before .loop-test .taken)
 
 put-places-requires : tie.Need-put-places-requires Inv-loop μ-loop
 put-places-requires c κs = (
@@ -62,43 +71,35 @@ put-places-requires c κs = (
       .new-places .ensures .1,
 )
 
-gate-cost-requires : tie.Need-gate-cost-requires Inv-loop μ-loop
-gate-cost-requires c κs = plan-sized (c .before .before .before .before .before .before .before .before .before .before .before .before .before
-    .before .before .before .before .before .before .before .before .before .pre .0) .few
+slice-aggregate-noted-cost : tie.Need-slice-aggregate-noted-cost Inv-loop μ-loop
+slice-aggregate-noted-cost c = search needs
+
+noted-cost-requires : tie.Need-noted-cost-requires Inv-loop μ-loop
+noted-cost-requires c κs = (facts (c .before .before .before .before .before .before .before .before .before .before .before .before .before .before .before .before) .kind .0, c .before .before .before .before .before .before .before .before .before .before .before .before .before .before .before .before .before .before .before .before .note-costs .ensures .0)
+
+-- what the gate costs
+costs :
+    (c : tie.After-noted-cost Inv-loop μ-loop)
+    → c .noted-cost .result ≡ cost (kindOf (c .before .before .before .before .before .before .before .before .before .before .before .before .before .before .before .before .before .gate-at .result .kind)) (c .before .before .before .before .before .before .before .before .before .before .before .before .before .before .before .before .before .before .before .before .before .before .before .before .before .before .before .args .p .shares)
+costs c = c .noted-cost .ensures (c .before .before .before .before .before .before .before .before .before .before .before .before .before .before .before .before .before .before .before .before .before .before .before .before .before .before .before .args .p .shares) (c .before .before .before .before .before .before .before .before .before .before .before .before .before .before .before .before .before .before .before .before .before .note-costs .ensures .1)
 
 add-w : tie.Need-add-w Inv-loop μ-loop
-add-w c = omega (
-  arith,
-  facts (c .before .before .before .before .before .before .before .before .before .before .before .before .before .before
-      .before .before) .fits,
-  c .gate-cost .ensures,
-)
+add-w c = omega (arith, facts (c .before .before .before .before .before .before .before .before .before .before .before .before .before .before .before .before .before) .fits, costs c)
 
 add-g : tie.Need-add-g Inv-loop μ-loop
-add-g c = let z = plan-sized (c .before .before .before .before .before .before .before .before .before .before .before .before .before .before
-    .before .before .before .before .before .before .before .before .before .pre .0) in omega (
-      arith,
-      z .plain,
-      c .before .before .before .before
-          .before .before .before .before .before .before .before .before .before .before .before .before .before .loop-test .taken,
-    )
+add-g c = omega (arith, plan-sized (c .before .before .before .before .before .before .before .before .before .before .before .before .before .before .before .before .before .before .before .before .before .before .before .before .before .before .before .pre .0) .plain, c .before .before .before .before .before .before .before .before .before .before .before .before .before .before .before .before .before .before .loop-test .taken)
 
 loop-less : tie.Need-loop-less Inv-loop μ-loop
-loop-less c = omega (
-  arith,
-  c .before .before .before .before .before .before .before .before .before .before .before .before .before .before
-      .before .before .before .loop-test .taken,
-)
+loop-less c = omega (arith, c .before .before .before .before .before .before .before .before .before .before .before .before .before .before .before .before .before .before .loop-test .taken)
 
 loop-again : tie.Need-loop-again Inv-loop μ-loop
 loop-again c =
-    let new = c .before .before .before .before .before .before .before .before .before .before .before in
+    let new = c .before .before .before .before .before .before .before .before .before .before .before .before in
     let old = new .before in
     let read = old .before .before .before .before in
     let at = read .before in
-    placing-turn (at .before .before .before .before .before .before .pre .0) (at .before .loop .inv) (at .loop-test .taken) (read .gate-at
-    .ensures) (old .places-at .ensures .0)
-    (new .new-places .ensures .0) (room at) (c .before .before .before .before .before .before .before .put-places .ensures) (c .gate-cost .ensures)
+    placing-turn (at .before .before .before .before .before .before .before .before .before .pre .0) (at .before .loop .inv) (at .loop-test .taken) (read .gate-at .ensures) (old .places-at .ensures .0)
+    (new .new-places .ensures .0) (room at) (c .before .before .before .before .before .before .before .before .put-places .ensures) (costs c)
 
 same-length : tie.Need-same-length Inv-loop μ-loop
 same-length c = c .before .loop .inv .noted .heads
@@ -110,7 +111,7 @@ same-length-3 : tie.Need-same-length-3 Inv-loop μ-loop
 same-length-3 c = c .before .loop .inv .noted .steps
 
 returns : tie.Need-returns Inv-loop μ-loop
-returns c = placing-end (c .before .before .before .before .before .before .pre .0) (c .before .loop .inv) (c .loop-test .left)
+returns c = placing-end (c .before .before .before .before .before .before .before .before .before .pre .0) (c .before .loop .inv) (c .loop-test .left)
 
 pub place-gates-spec : {M : Type 1} → statement M
 place-gates-spec =
@@ -118,6 +119,8 @@ place-gates-spec =
     (tie.spec
     Inv-loop
     μ-loop
+    slice-aggregate-note-costs
+    note-costs-requires
     mul-w
     loop-holds
     gate-at-requires
@@ -125,7 +128,8 @@ place-gates-spec =
     new-places-requires
     add-put-places
     put-places-requires
-    gate-cost-requires
+    slice-aggregate-noted-cost
+    noted-cost-requires
     add-w
     add-g
     loop-less

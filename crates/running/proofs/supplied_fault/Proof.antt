@@ -14,8 +14,8 @@ use Rattle.running.proofs.supplied_fault.Tie as tie
 field-requires : tie.Need-field-requires
 field-requires c κs = omega (arith, accepted-long _ (c .before .before .before .pre))
 
-count-kinds-requires : tie.Need-count-kinds-requires
-count-kinds-requires c κs = has-gates _ (c .before .before .before .before .pre) (c .field .ensures .0)
+count-three-requires : tie.Need-count-three-requires
+count-three-requires c κs = (has-gates _ (c .before .before .before .before .pre) (c .field .ensures .0), omega arith)
 
 bytes-for-requires : tie.Need-bytes-for-requires
 bytes-for-requires c κs = search needs
@@ -31,7 +31,7 @@ returns c =
     let p = c .before .before in
     let q = p .before in
     refused-same
-    (supplied-wrong _ _ _ (p .field2 .ensures .0) (q .before .count-kinds .ensures) (q .bytes-for .ensures) (c .before .if1 .taken))
+    (supplied-wrong _ _ _ (p .field2 .ensures .0) (q .before .count-three .ensures) (q .bytes-for .ensures) (c .before .if1 .taken))
     (c .refuse .ensures)
 
 -- past the counts: as many inputs and bytes as are due
@@ -39,7 +39,7 @@ right :
     (c : tie.Else1)
     → (length (c .before .before .before .before .before .before .before .before .args .inputs .now) ≡ c .before .field2 .result)
     × (length (c .before .before .before .before .before .before .before .before .args .random .now)
-    ≡ bytesFor (c .before .before .before .count-kinds .result .randoms))
+    ≡ bytesFor (c .before .before .before .count-three .result .first))
 right c =
     let q = c .before .before in
     let args = q .before .before .before .before .before .before .args in
@@ -55,7 +55,7 @@ spare-fault-requires : tie.Need-spare-fault-requires
 spare-fault-requires c κs =
     let p = c .before in
     let s = p .before .before .before .before .before .before .before .before in
-    let few = few-randoms (s .args .table .now) (s .pre) (p .before .before .before .count-kinds .ensures) in
+    let few = few-randoms (s .args .table .now) (s .pre) (p .before .before .before .count-three .ensures) in
     (right p .1, omega (arith, right p .0, right p .1, p .before .field2 .ensures .1, few))
 
 first-of-requires : tie.Need-first-of-requires
@@ -66,7 +66,7 @@ returns-2 c =
     let p = c .before .before .before in
     let q = p .before .before in
     refused-same
-    (supplied-bits _ _ _ (p .before .field2 .ensures .0) (q .before .count-kinds .ensures) (q .bytes-for .ensures) (p .if1 .left))
+    (supplied-bits _ _ _ (p .before .field2 .ensures .0) (q .before .count-three .ensures) (q .bytes-for .ensures) (p .if1 .left))
     (c .first-of .ensures _ _ (c .before .before .bits-fault .ensures) (c .before .spare-fault .ensures))
 
 pub supplied-fault-spec : {M : Type 1} → statement M
@@ -74,7 +74,7 @@ supplied-fault-spec =
     tie.close
     (tie.spec
     field-requires
-    count-kinds-requires
+    count-three-requires
     bytes-for-requires
     field-requires-2
     refuse-requires

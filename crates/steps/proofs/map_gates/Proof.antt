@@ -4,9 +4,11 @@ use mathlib.Core.Path.{_≡_, refl, sym, _∙_}
 use Prim.Native.Nat.{_-_}
 use native.Mathlib.Omega.{arith}
 use lib.ListN.{length}
+use borrow.Author.Needs.{needs}
 use Rattle.tables.specs.Packing.{unpacked}
 use Rattle.tables.proofs.Packing.{bytes-long}
-use Rattle.tables.specs.Tables.{tableOf}
+use Rattle.tables.specs.Tables.{kindOf, tableOf}
+use Rattle.masks.specs.Wires.{cost}
 use Rattle.placing.specs.Located.{placesAt}
 use Rattle.placing.proofs.Turns.{plan-sized}
 use Rattle.steps.specs.Steps.{StepReady}
@@ -15,91 +17,98 @@ use Rattle.steps.proofs.map_gates.Statement.{statement}
 use Rattle.steps.proofs.map_gates.Tie as tie
 
 abbrev Inv-loop : tie.InvT-loop
-Inv-loop table k head base step tape at mapped₀ one₀ other₀ n gates w₀ next₀ g₀ mapped one other w next g =
+Inv-loop table k head base step tape at mapped₀ one₀ other₀ n gates costs w₀ next₀ g₀ mapped one other w next g =
     Going (tableOf table) n k (unpacked tape) at (unpacked mapped₀) one₀ other₀ g w next (unpacked mapped) one other
 
 abbrev μ-loop : tie.MeasureT-loop
-μ-loop table k head base step tape at mapped₀ one₀ other₀ n gates w₀ next₀ g₀ mapped one other w next g =
+μ-loop table k head base step tape at mapped₀ one₀ other₀ n gates costs w₀ next₀ g₀ mapped one other w next g =
     gates - g
 
+slice-aggregate-note-costs : tie.Need-slice-aggregate-note-costs Inv-loop μ-loop
+slice-aggregate-note-costs c = search needs
+
+note-costs-requires : tie.Need-note-costs-requires Inv-loop μ-loop
+note-costs-requires c κs = (plan-sized (c .before .before .before .before .before .before .before .before .before .pre .0) .few, refl)
+
 mul-w : tie.Need-mul-w Inv-loop μ-loop
-mul-w c = omega (arith, plan-sized (c .before .before .before .before .before .before .before .before .before .pre .0) .inputs)
+mul-w c = omega (arith, plan-sized (c .before .before .before .before .before .before .before .before .before .before .before .before .pre .0) .inputs)
 
 loop-holds : tie.Need-loop-holds Inv-loop μ-loop
 loop-holds c =
-    let s = c .before .before .before .before .before .before .before .before .before in
+    let s = c .before .before .before .before .before .before .before .before .before .before .before .before in
     steps-start (s .args .k) (s .pre .0) refl (s .pre .2)
 
 gate-at-requires : tie.Need-gate-at-requires Inv-loop μ-loop
 gate-at-requires c κs =
-    let pre = c .before .before .before .before .before .before .before .before .before .before .before .pre in
+    let pre = c .before .before .before .before .before .before .before .before .before .before .before .before .before .before .pre in
     (plan-sized (pre .0) .gates, c .loop-test .taken)
 
 -- what the gate that was read takes
 ready :
     (g : tie.After-gate-at Inv-loop μ-loop)
-    → let s = g .before .before .before .before .before .before .before .before .before .before .before .before in
+    → let s = g .before .before .before .before .before .before .before .before .before .before .before .before .before .before .before in
     let l = g .before .before .loop in
     let at = placesAt (s .args .head .now) (s .args .base .now) (s .args .step .now) in
-    StepReady (g .gate-at .result .kind) (s .args .p .shares) (l .w) (at (g .gate-at .result .left)) (at (g .gate-at .result .right))
+    StepReady (g .gate-at .result .kind) (g .gate-at .result .left) (s .args .p .shares) (l .w) (at (g .gate-at .result .left)) (at (g .gate-at .result .right))
     (unpacked (s .args .tape .now)) (l .next) (unpacked (l .mapped)) (l .one) (l .other)
 ready g =
-    let s = g .before .before .before .before .before .before .before .before .before .before .before .before in
+    let s = g .before .before .before .before .before .before .before .before .before .before .before .before .before .before .before in
     step-ready (s .pre .0) (g .before .before .loop .inv) (g .before .loop-test .taken) (g .gate-at .ensures) (s .pre .1)
 
 map-gate-requires : tie.Need-map-gate-requires Inv-loop μ-loop
 map-gate-requires c κs =
     let g = c .before .before .before in
-    let s = g .before .before .before .before .before .before .before .before .before .before .before .before in
+    let s = g .before .before .before .before .before .before .before .before .before .before .before .before .before .before .before in
     let room = step-room (s .pre .0) (g .before .before .loop .inv) (g .before .loop-test .taken) (g .gate-at .ensures) (s .pre .1) in
     (room .0, room .1, ready g)
 
-gate-cost-requires : tie.Need-gate-cost-requires Inv-loop μ-loop
-gate-cost-requires c κs =
-    let q = c .before .before .before .before .before .before .before .before .before .before .before .before in
-    plan-sized (q .before .before .before .before .before .before .before .before .before .before .pre .0) .few
+slice-aggregate-noted-cost : tie.Need-slice-aggregate-noted-cost Inv-loop μ-loop
+slice-aggregate-noted-cost c = search needs
+
+noted-cost-requires : tie.Need-noted-cost-requires Inv-loop μ-loop
+noted-cost-requires c κs = (ready (c .before .before .before .before .before .before .before .before .before .before .before) .plain .0, c .before .before .before .before .before .before .before .before .before .before .before .before .before .before .before .before .note-costs .ensures .0)
+
+-- what the gate costs
+costs :
+    (c : tie.After-noted-cost Inv-loop μ-loop)
+    → c .noted-cost .result ≡ cost (kindOf (c .before .before .before .before .before .before .before .before .before .before .before .before .gate-at .result .kind)) (c .before .before .before .before .before .before .before .before .before .before .before .before .before .before .before .before .before .before .before .before .before .before .before .before .before .before .before .args .p .shares)
+costs c = c .noted-cost .ensures (c .before .before .before .before .before .before .before .before .before .before .before .before .before .before .before .before .before .before .before .before .before .before .before .before .before .before .before .args .p .shares) (c .before .before .before .before .before .before .before .before .before .before .before .before .before .before .before .before .before .note-costs .ensures .1)
 
 add-w : tie.Need-add-w Inv-loop μ-loop
-add-w c = omega (arith, ready (c .before .before .before .before .before .before .before .before .before .before .before) .wires, c .gate-cost .ensures)
+add-w c = omega (arith, ready (c .before .before .before .before .before .before .before .before .before .before .before .before) .wires, costs c)
 
 gate-draws-requires : tie.Need-gate-draws-requires Inv-loop μ-loop
-gate-draws-requires c κs =
-    let q = c .before .before .before .before .before .before .before .before .before .before .before .before in
-    plan-sized (q .before .before .before .before .before .before .before .before .before .before .before .pre .0) .few
+gate-draws-requires c κs = plan-sized (c .before .before .before .before .before .before .before .before .before .before .before .before .before .before .before .before .before .before .before .before .before .before .before .before .before .before .before .pre .0) .few
 
 add-next : tie.Need-add-next Inv-loop μ-loop
-add-next c =
-    let g = c .before .before .before .before .before .before .before .before .before .before .before .before in
-    omega (arith, ready g .both .few, c .gate-draws .ensures)
+add-next c = omega (arith, ready (c .before .before .before .before .before .before .before .before .before .before .before .before .before) .both .few, c .gate-draws .ensures)
 
 add-g : tie.Need-add-g Inv-loop μ-loop
-add-g c =
-    let g = c .before .before .before .before .before .before .before .before .before .before .before .before in
-    omega (arith, g .before .loop-test .taken, plan-sized (g .before .before .before .before .before .before .before .before .before .before .before .before .pre .0) .plain)
+add-g c = omega (arith, c .before .before .before .before .before .before .before .before .before .before .before .before .before .before .loop-test .taken, plan-sized (c .before .before .before .before .before .before .before .before .before .before .before .before .before .before .before .before .before .before .before .before .before .before .before .before .before .before .before .before .pre .0) .plain)
 
 loop-less : tie.Need-loop-less Inv-loop μ-loop
-loop-less c = omega (arith, c .before .before .before .before .before .before .before .before .before .before .before .before .before .loop-test .taken)
+loop-less c = omega (arith, c .before .before .before .before .before .before .before .before .before .before .before .before .before .before .loop-test .taken)
 
 loop-again : tie.Need-loop-again Inv-loop μ-loop
 loop-again c =
-    let g = c .before .before .before .before .before .before .before .before .before .before .before .before in
+    let g = c .before .before .before .before .before .before .before .before .before .before .before .before .before in
     let head = g .before .before in
-    let s = g .before .before .before .before .before .before .before .before .before .before .before .before in
+    let s = g .before .before .before .before .before .before .before .before .before .before .before .before .before .before .before in
     step-turn (s .pre .0) (head .loop .inv) (g .before .loop-test .taken) (g .gate-at .ensures) (s .pre .1)
-    (c .before .before .before .before .before .before .before .before .map-gate .ensures (head .loop .g))
-    (c .before .gate-cost .ensures)
+    (c .before .before .before .before .before .before .before .before .before .map-gate .ensures (head .loop .g))
+    (costs (c .before))
     (c .gate-draws .ensures)
 
 -- the buffers keep their lengths
 long :
     (c : tie.After-loop Inv-loop μ-loop)
-    → let s = c .before .before .before .before .before .before .before .before .before .before .before in
+    → let s = c .before .before .before .before .before .before .before .before .before .before .before .before .before .before in
     let l = c .before .loop in
     (length (l .mapped) ≡ length (s .args .mapped .now))
     × (length (l .one) ≡ length (s .args .one .now))
     × (length (l .other) ≡ length (s .args .other .now))
 long c =
-    let s = c .before .before .before .before .before .before .before .before .before .before .before in
+    let s = c .before .before .before .before .before .before .before .before .before .before .before .before .before .before in
     let now = steps-long (c .before .loop .inv) in
     let first = steps-long (steps-start (s .args .k) {at = s .args .at} (s .pre .0) refl (s .pre .2)) in
     (bytes-long (c .before .loop .mapped) (s .args .mapped .now) (now .0 ∙ sym (first .0)), now .1 ∙ sym (first .1), now .2 ∙ sym (first .2))
@@ -115,7 +124,7 @@ same-length-3 c = long c .2
 
 returns : tie.Need-returns Inv-loop μ-loop
 returns c =
-    let s = c .before .before .before .before .before .before .before .before .before .before .before in
+    let s = c .before .before .before .before .before .before .before .before .before .before .before .before .before .before in
     let end = steps-end (c .before .loop .inv) (omega (arith, c .loop-test .left, s .pre .0 .gates)) in
     record { mapped = end .0; one = end .1; other = end .2 }
 
@@ -125,11 +134,14 @@ map-gates-spec =
     (tie.spec
     Inv-loop
     μ-loop
+    slice-aggregate-note-costs
+    note-costs-requires
     mul-w
     loop-holds
     gate-at-requires
     map-gate-requires
-    gate-cost-requires
+    slice-aggregate-noted-cost
+    noted-cost-requires
     add-w
     gate-draws-requires
     add-next

@@ -1,88 +1,144 @@
 -- `writing::write_operands_of` meets its contract, kind by kind.
 -- Assumes nothing.
-use mathlib.Core.Path.{sym}
+use mathlib.Core.Path.{_≡_}
 use native.Mathlib.Omega.{arith}
 use borrow.Author.Needs.{needs}
 use Rattle.tables.specs.Tables.{pairBytes}
-use Rattle.tables.proofs.Put.{put-nil}
 use Rattle.masks.specs.Gadgets.{isw}
-use Rattle.pieces.specs.Layout.{shareWires}
-use Rattle.pieces.proofs.Pieces.{xor-gates, and-gates, no-wires}
+use Rattle.masks.specs.Wires.{andPart}
+use Rattle.pieces.specs.Layout.{shareWires, joined, xorGates, andGates, orGates}
+use Rattle.pieces.proofs.Pieces.{xor-gates, constant-gates, and-gates, or-gates}
+use Rattle.placing.specs.Located.{placesAt}
+use Rattle.writing.proofs.Written.{room-where, written-where}
 use Rattle.writing.proofs.write_operands_of.Statement.{statement}
 use Rattle.writing.proofs.write_operands_of.Tie as tie
 
-write-and-requires : tie.Need-write-and-requires
-write-and-requires c κs =
-    let s = c .before .before .before in
-    let is = c .before .if1 .taken in
-    (s .pre .shares, rw is at (s .pre .wires), rw is at (s .pre .room))
+mul-put-gate : tie.Need-mul-put-gate
+mul-put-gate c = omega (arith, c .before .before .before .before .before .before .pre .0 .heads)
 
-write-xor-requires : tie.Need-write-xor-requires
-write-xor-requires c κs =
-    let s = c .before .before .before .before in
-    let is = c .before .if2 .taken in
-    (s .pre .shares, rw is at (s .pre .room))
+shared-slice-read-put-gate : tie.Need-shared-slice-read-put-gate
+shared-slice-read-put-gate c = omega (arith, c .before .before .before .before .before .before .before .pre .0 .heads)
 
-share-wire-requires : tie.Need-share-wire-requires
-share-wire-requires c κs =
-    let s = c .before .before .before .before in s .pre .shares .left 0 (s .pre .some)
+cast-put-gate : tie.Need-cast-put-gate
+cast-put-gate c = let s = c .before .before .before .before .before .before .before in omega (arith, s .pre .2 .shares .left 0 (s .pre .2 .some))
 
 put-gate-requires : tie.Need-put-gate-requires
 put-gate-requires c κs =
-    let s = c .before .before .before .before .before .before in
-    let is = c .before .before .if3 .taken in
-    (rw is at (s .pre .room), c .before .share-wire .ensures .0, omega arith)
+    let R = c .before .before .before .before .before .before .before .pre .2 in
+    let first = R .shares .left 0 (R .some) in
+    (omega (arith, R .some, rw (c .before .before .if1 .taken) at (R .room)), omega (arith, first), omega (arith, first))
 
 same-length : tie.Need-same-length
 same-length c = search needs
 
 returns : tie.Need-returns
-returns c g =
-    let call = c .before .before in
-    let s = call .before .before .before .before in
-    rw (call .before .before .if1 .taken, and-gates isw (s .args .n) g (s .args .w)) (call .write-and .ensures)
+unfolding pairBytes
+returns c g = rw (c .before .before .before .before .before .if1 .taken) (c .before .before .put-gate .ensures)
+
+write-constant-requires : tie.Need-write-constant-requires
+write-constant-requires c κs = let R = c .before .before .before .before .before .before .before .pre .2 in (rw (c .before .if2 .taken) at (R .room), R .small)
 
 same-length-2 : tie.Need-same-length-2
 same-length-2 c = search needs
 
 returns-2 : tie.Need-returns-2
 returns-2 c g =
-    let call = c .before .before in
-    let s = call .before .before .before .before .before in
-    let A = shareWires (s .args .n) (s .args .a) in
-    let B = shareWires (s .args .n) (s .args .b) in
-    rw (call .before .before .if2 .taken, xor-gates isw (s .args .n) g (s .args .w) A B) (call .write-xor .ensures)
+    let s = c .before .before .before .before .before .before .before .before .before .before in
+    let at = placesAt (s .args .head .now) (s .args .base .now) (s .args .step .now) in
+    let n = s .args .n in
+    let A = shareWires n (at (s .args .left)) in
+    let B = shareWires n (at (s .args .right)) in
+    rw (c .before .before .before .before .if2 .taken, constant-gates isw (s .args .left) n g (s .args .w) A B) (c .before .before .write-constant .ensures)
+
+places-at-requires : tie.Need-places-at-requires
+places-at-requires c κs = c .before .before .before .before .before .before .pre .0
+
+places-at-requires-2 : tie.Need-places-at-requires-2
+places-at-requires-2 c κs = c .before .before .before .before .before .before .before .pre .1
+
+write-xor-requires : tie.Need-write-xor-requires
+write-xor-requires c κs =
+    let R = room-where (c .before .before .before .before .before .before .before .before .before .before .pre .2) (c .before .before .before .places-at .ensures .0) (c .before .before .places-at2 .ensures .0) in
+    (R .shares, rw (c .before .if3 .taken) at (R .room))
 
 same-length-3 : tie.Need-same-length-3
 same-length-3 c = search needs
 
 returns-3 : tie.Need-returns-3
-unfolding pairBytes
 returns-3 c g =
-    let call = c .before .before in
-    let share = call .before .before in
-    let is = share .before .if3 .taken in
-    rw (is, ← share .share-wire .ensures .1 1 (omega arith)) (call .put-gate .ensures)
+    let s = c .before .before .before .before .before .before .before .before .before .before .before .before .before in
+    let n = s .args .n in
+    written-where (s .args .kind) (s .args .left) n g (s .args .w) (s .args .at) (s .args .ops .now) (λ A B. joined n 0 (xorGates A B))
+    (λ A B. rw (c .before .before .before .before .if3 .taken) (xor-gates isw (s .args .left) n g (s .args .w) A B))
+    (c .before .before .before .before .before .before .places-at .ensures .0)
+    (c .before .before .before .before .before .places-at2 .ensures .0)
+    (c .before .before .write-xor .ensures)
+
+write-and-requires : tie.Need-write-and-requires
+write-and-requires c κs =
+    let R = room-where (c .before .before .before .before .before .before .before .before .before .before .before .pre .2) (c .before .before .before .before .places-at .ensures .0) (c .before .before .before .places-at2 .ensures .0) in
+    let is = c .before .if4 .taken in
+    (R .shares, rw is at (R .wires), rw is at (R .room))
+
+same-length-4 : tie.Need-same-length-4
+same-length-4 c = search needs
 
 returns-4 : tie.Need-returns-4
-unfolding pairBytes
 returns-4 c g =
-    let s = c .before .before .before .before in
-    rw (no-wires isw (s .args .kind) (s .args .n) g (s .args .w) _ _ (c .if3 .left) (c .before .if2 .left) (c .before .before .if1 .left))
-    (sym (put-nil (s .args .at) (s .args .ops .now)))
+    let s = c .before .before .before .before .before .before .before .before .before .before .before .before .before .before in
+    let n = s .args .n in
+    written-where (s .args .kind) (s .args .left) n g (s .args .w) (s .args .at) (s .args .ops .now) (andGates isw n (s .args .w))
+    (λ A B. rw (c .before .before .before .before .if4 .taken) (and-gates isw n (andPart g) (s .args .w) A B))
+    (c .before .before .before .before .before .before .before .places-at .ensures .0)
+    (c .before .before .before .before .before .before .places-at2 .ensures .0)
+    (c .before .before .write-and .ensures)
+
+-- the gate is an OR
+is-or : (c : tie.Else4) → c .before .before .before .before .before .before .before .before .before .before .args .kind ≡ 5
+is-or c =
+    let plain = c .before .before .before .before .before .before .before .before .before .before .pre .2 .plain in
+    omega (arith, plain .0, plain .1, c .before .before .before .before .before .if1 .left, c .before .before .before .before .if2 .left, c .before .if3 .left, c .if4 .left)
+
+write-or-requires : tie.Need-write-or-requires
+write-or-requires c κs =
+    let R = room-where (c .before .before .before .before .before .before .before .before .before .before .before .pre .2) (c .before .before .before .before .places-at .ensures .0) (c .before .before .before .places-at2 .ensures .0) in
+    let is = is-or (c .before) in
+    (R .some, R .shares, rw is at (R .wires), rw is at (R .room))
+
+same-length-5 : tie.Need-same-length-5
+same-length-5 c = search needs
+
+returns-5 : tie.Need-returns-5
+returns-5 c g =
+    let s = c .before .before .before .before .before .before .before .before .before .before .before .before .before .before in
+    let n = s .args .n in
+    written-where (s .args .kind) (s .args .left) n g (s .args .w) (s .args .at) (s .args .ops .now) (orGates isw n (s .args .w))
+    (λ A B. rw (is-or (c .before .before .before .before)) (or-gates isw (s .args .left) n g (s .args .w) A B))
+    (c .before .before .before .before .before .before .before .places-at .ensures .0)
+    (c .before .before .before .before .before .before .places-at2 .ensures .0)
+    (c .before .before .write-or .ensures)
 
 pub write-operands-of-spec : {M : Type 1} → statement M
 write-operands-of-spec =
     tie.close
     (tie.spec
-    write-and-requires
-    write-xor-requires
-    share-wire-requires
+    mul-put-gate
+    shared-slice-read-put-gate
+    cast-put-gate
     put-gate-requires
     same-length
     returns
+    write-constant-requires
     same-length-2
     returns-2
+    places-at-requires
+    places-at-requires-2
+    write-xor-requires
     same-length-3
     returns-3
-    returns-4)
+    write-and-requires
+    same-length-4
+    returns-4
+    write-or-requires
+    same-length-5
+    returns-5)

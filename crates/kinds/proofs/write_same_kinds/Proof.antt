@@ -1,4 +1,4 @@
--- `kinds::write_xor_kinds` meets its contract. The invariant: c kinds are written, the others follow them.
+-- `kinds::write_same_kinds` meets its contract. The invariant: c kinds are written, the others follow them.
 -- Assumes nothing.
 use mathlib.Core.Path.{refl}
 use mathlib.Core.List.{[], _∷_}
@@ -7,14 +7,14 @@ use native.Mathlib.Omega.{arith}
 use Rattle.tables.proofs.Put.{put-set}
 use Rattle.pieces.proofs.Bytes.{Joining, joining-start, joining-turn, joining-end}
 use Rattle.kinds.proofs.GateKinds.{replicate-joined}
-use Rattle.kinds.proofs.write_xor_kinds.Statement.{statement}
-use Rattle.kinds.proofs.write_xor_kinds.Tie as tie
+use Rattle.kinds.proofs.write_same_kinds.Statement.{statement}
+use Rattle.kinds.proofs.write_same_kinds.Tie as tie
 
 abbrev Inv-loop : tie.InvT-loop
-Inv-loop kinds₀ at m c₀ kinds c = Joining 1 at m (λ _. 1 ∷ []) kinds₀ (at + c) c kinds
+Inv-loop kind kinds₀ at m c₀ kinds c = Joining 1 at m (λ _. kind ∷ []) kinds₀ (at + c) c kinds
 
 abbrev μ-loop : tie.MeasureT-loop
-μ-loop kinds₀ at m c₀ kinds c = m - c
+μ-loop kind kinds₀ at m c₀ kinds c = m - c
 
 loop-holds : tie.Need-loop-holds Inv-loop μ-loop
 loop-holds c =
@@ -36,7 +36,7 @@ loop-again : tie.Need-loop-again Inv-loop μ-loop
 loop-again c =
     let head = c .before in
     let at = head .before .args .at + head .loop .c in
-    joining-turn (head .loop .inv) _ _ (c .loop-test .taken) refl refl (put-set at 1 (head .loop .kinds) (omega arith)) (omega arith)
+    joining-turn (head .loop .inv) _ _ (c .loop-test .taken) refl refl (put-set at (head .before .args .kind) (head .loop .kinds) (omega arith)) (omega arith)
 
 same-length : tie.Need-same-length Inv-loop μ-loop
 same-length c = c .before .loop .inv .long
@@ -44,10 +44,10 @@ same-length c = c .before .loop .inv .long
 returns : tie.Need-returns Inv-loop μ-loop
 returns c =
     let s = c .before .before in
-    rw (replicate-joined (s .args .m) 1) (joining-end (c .before .loop .inv) (c .loop-test .left))
+    rw (replicate-joined (s .args .m) (s .args .kind)) (joining-end (c .before .loop .inv) (c .loop-test .left))
 
-pub write-xor-kinds-spec : {M : Type 1} → statement M
-write-xor-kinds-spec =
+pub write-same-kinds-spec : {M : Type 1} → statement M
+write-same-kinds-spec =
     tie.close
     (tie.spec
     Inv-loop

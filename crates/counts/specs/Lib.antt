@@ -1,0 +1,2 @@
+-- The counts of three kinds of gates.
+pub mod Three
