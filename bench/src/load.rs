@@ -1,8 +1,8 @@
 //! What the calls are given: tables of chosen sizes, bits, packed tapes and probes, all from one
 //! seed.
 
-use compare::circuit::{Circuit, Gate, random};
-use compare::model::{self, AND, NOT, RANDOM, XOR};
+use compare::circuit::{Circuit, Gate, constant, random};
+use compare::model::{self, CONSTANT, NOT, OR, RANDOM, XOR};
 use compare::rng::Rng;
 
 /// The inputs and outputs of every generated table.
@@ -13,7 +13,8 @@ const OUTPUTS: usize = 8;
 fn cost(kind: u8, n: usize) -> usize {
     match kind {
         NOT => 1,
-        XOR => n,
+        XOR | CONSTANT => n,
+        OR => n * n + 5 * n * (n - 1) / 2 + 3,
         _ => n * n + 5 * n * (n - 1) / 2,
     }
 }
@@ -25,6 +26,7 @@ fn circuit(rng: &mut Rng, inputs: usize, kinds: &[u8]) -> Vec<u8> {
         gates.push(match kind {
             NOT => (NOT, earlier(), 0),
             RANDOM => random(),
+            CONSTANT => constant(rng.below(2) as u16),
             _ => (kind, earlier(), earlier()),
         });
     }
@@ -32,14 +34,14 @@ fn circuit(rng: &mut Rng, inputs: usize, kinds: &[u8]) -> Vec<u8> {
     Circuit { inputs: inputs as u16, gates, outputs }.bytes()
 }
 
-/// A plain table, as many gates of each kind as of another, whose masked table has at most so
-/// many wires: the next gate drawn that still fits, until not even an XOR does.
-pub fn plain_table(rng: &mut Rng, order: u8, most_wires: usize) -> Vec<u8> {
+/// A plain table, as many gates of each of the given kinds as of another, whose masked table has at
+/// most so many wires: the next gate drawn that still fits, until not even an XOR does.
+pub fn plain_table(rng: &mut Rng, order: u8, most_wires: usize, plain_kinds: &[u8]) -> Vec<u8> {
     let n = 2 * usize::from(order) + 1;
     let mut room = most_wires - n * INPUTS;
     let mut kinds = Vec::new();
     while room >= n {
-        let kind = rng.pick(&[NOT, XOR, AND]);
+        let kind = rng.pick(plain_kinds);
         if cost(kind, n) <= room {
             room -= cost(kind, n);
             kinds.push(kind);

@@ -6,6 +6,9 @@
 //!     bench report FILE..    prints the table of rows measured in one layout or several
 //!     bench stack            prints how much stack each call of the archive takes
 //!
+//! Where BENCH_OLD_KINDS is set, the tables with constants and ORs, which come last, are left out: so an
+//! archive that has not these kinds can be measured.
+//!
 //! All are called through the same trait on slices, with buffers that are lent once and used
 //! again; none is inlined into the loop that measures it. A size is measured on as many different
 //! inputs as make up the largest size together, in turn, so that the processor cannot learn a small
@@ -27,6 +30,7 @@ use std::process::ExitCode;
 use std::{env, fs};
 
 use compare::examples::and_chain;
+use compare::generate::{KINDS, PLAIN_KINDS};
 use compare::masks::{Masks, Model, Outcome};
 use compare::model::{AND, NOT, RANDOM, XOR};
 use compare::rng::Rng;
@@ -103,6 +107,9 @@ fn all_rows(gauge: Gauge) -> Vec<Row> {
     let mut rows = sized(gauge, &mut rng);
     rows.extend(largest(gauge, &mut rng));
     rows.extend(plain(gauge, &mut rng));
+    if env::var_os("BENCH_OLD_KINDS").is_none() {
+        rows.extend(all_kinds(gauge, &mut rng));
+    }
     rows
 }
 
@@ -111,7 +118,7 @@ fn sized(gauge: Gauge, rng: &mut Rng) -> Vec<Row> {
     let maskings: Vec<Vec<Masking>> = ORDERS
         .iter()
         .flat_map(|&order| SIZES.map(|size| (order, size)))
-        .map(|(order, size)| inputs_of(size, || masking(rng, order, size)))
+        .map(|(order, size)| inputs_of(size, || masking(rng, order, size, &[NOT, XOR, AND])))
         .collect();
     let mut rows = Vec::new();
     let mut on_maskings = |call, measured: fn(Gauge, &[Masking]) -> Times| {
@@ -147,8 +154,8 @@ fn inputs_of<T>(size: usize, input: impl FnMut() -> T) -> Vec<T> {
     repeat_with(input).take(MOST_WIRES / size).collect()
 }
 
-fn masking(rng: &mut Rng, order: u8, most_wires: usize) -> Masking {
-    let plain = plain_table(rng, order, most_wires);
+fn masking(rng: &mut Rng, order: u8, most_wires: usize, kinds: &[u8]) -> Masking {
+    let plain = plain_table(rng, order, most_wires, kinds);
     Masking::new(rng, plain, order)
 }
 
@@ -185,7 +192,7 @@ fn largest(gauge: Gauge, rng: &mut Rng) -> Vec<Row> {
     rows
 }
 
-/// A check and a forecast at order 1 of the same plain tables, whose gates of the three kinds come
+/// A check and a forecast at order 1 of the same plain tables, whose NOTs, XORs and ANDs come
 /// in a random order: each against the separate implementation, then one against the other. Tables
 /// that are too large to be masked are refused, but only once all is checked and counted.
 fn plain(gauge: Gauge, rng: &mut Rng) -> Vec<Row> {
@@ -197,21 +204,45 @@ fn plain(gauge: Gauge, rng: &mut Rng) -> Vec<Row> {
             .map(|(wires, tables)| Row::new(call, order, *wires, measured(gauge, tables)))
     };
     let rows = [
-        of_each_size("plain check", None, |gauge, tables| {
-            measure(gauge, tables, |_| [], |masks, table, []| masks.check(table))
-        }),
-        of_each_size("plain forecast", Some(1), |gauge, tables| {
-            measure_answers(
-                gauge,
-                tables,
-                &[0, 8],
-                |_| [],
-                |masks, table, []| masks.forecast(table, 1),
-            )
-        }),
+        of_each_size("plain check", None, plain_check),
+        of_each_size("plain forecast", Some(1), plain_forecast),
         of_each_size(FORECAST_AGAINST_CHECK, Some(1), forecast_and_check),
     ];
     rows.into_iter().flatten().collect()
+}
+
+/// Tables with gates of all kinds, in a random order: of all six, and of the five of plain tables; those
+/// plain ones at each order whose masked tables have the largest size, and a plain one of that size.
+fn all_kinds(gauge: Gauge, rng: &mut Rng) -> Vec<Row> {
+    let mut rows = Vec::new();
+    let table = any_table(rng, MOST_WIRES, &KINDS);
+    let running = Running::new(rng, table);
+    rows.push(Row::new("check, 6 kinds", None, running.wires, check(gauge, &[&running])));
+    rows.push(Row::new("run, 6 kinds", None, running.wires, run(gauge, &[&running])));
+    let plain = [any_table(rng, MOST_WIRES, &PLAIN_KINDS)];
+    rows.push(Row::new("plain check, 5", None, MOST_WIRES, plain_check(gauge, &plain)));
+    rows.push(Row::new("plain forecast, 5", Some(1), MOST_WIRES, plain_forecast(gauge, &plain)));
+    let maskings = ORDERS.map(|order| [masking(rng, order, SIZES[2], &PLAIN_KINDS)]);
+    let mut on_maskings = |call, measured: fn(Gauge, &[Masking]) -> Times| {
+        rows.extend(maskings.iter().map(|one| masking_row(call, one, measured(gauge, one))));
+    };
+    on_maskings("check, 5 kinds", |gauge, maskings| check(gauge, &masked(maskings)));
+    on_maskings("forecast, 5 kinds", forecast);
+    on_maskings("mask, 5 kinds", mask);
+    on_maskings("run, 5 kinds", |gauge, maskings| run(gauge, &masked(maskings)));
+    on_maskings("marks, 5 kinds", marks);
+    if cfg!(feature = "map") {
+        on_maskings("map, 5 kinds", map);
+    }
+    rows
+}
+
+fn plain_check(gauge: Gauge, tables: &[Vec<u8>]) -> Times {
+    measure(gauge, tables, |_| [], |masks, table, []| masks.check(table))
+}
+
+fn plain_forecast(gauge: Gauge, tables: &[Vec<u8>]) -> Times {
+    measure_answers(gauge, tables, &[0, 8], |_| [], |masks, table, []| masks.forecast(table, 1))
 }
 
 /// The archive's forecast, against its check, and the copying of a table.

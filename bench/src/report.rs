@@ -9,9 +9,11 @@ const ABOUT: &str = "\
 Microseconds a call, the median of many: this library's, then those of the separate implementation
 in Rust. A ratio above 1.00 is marked. Copy is the time of copying the bytes that the call reads and
 writes, as the limit to compare with. Wires are those of the masked table, in encode and decode the
-share bits, in the last three calls those of the plain table. Growth is the time for each wire at
-the largest size against the smallest. An AND takes 24, 75, 750 and 3,286 wires at order 1, 2, 7 and
-15: at 15 the smallest tables have none.";
+share bits, in plain check, plain forecast and forecast / check those of the plain table. Growth is
+the time for each wire at the largest size against the smallest. An AND takes 24, 75, 750 and 3,286
+wires at order 1, 2, 7 and 15: at 15 the smallest tables have none. Rows with 5 or 6 kinds, the last
+ones, are of tables with gates of all plain kinds, or of all kinds; the others have no constants and
+no ORs.";
 
 /// The calls of rows that compare two of the library's own calls.
 pub const MAP_AGAINST_RUNS: &str = "map / 2 runs";
@@ -132,7 +134,7 @@ pub fn print(rows: &[Row], layouts: usize) {
     println!(
         "Each time is the median over {layouts} places in memory to which the code was linked.\n"
     );
-    println!("call             order  wires      ours      Rust      copy  ratio  growth");
+    println!("call              order  wires      ours      Rust      copy  ratio  growth");
     let (mut above, mut largest_growth) = (0, 0_f64);
     for (at, row) in rows.iter().enumerate() {
         let before = at.checked_sub(1).map(|before| &rows[before]);
@@ -174,7 +176,7 @@ fn text(row: &Row, growth: Option<f64>) -> String {
     let mark =
         if ratio > row.goal() { format!("<-- above {:.2}", row.goal()) } else { String::new() };
     let text = format!(
-        "{call:<16} {order:>5} {wires:>6} {ours:>9.2} {theirs:>9.2} {copy:>9.3} {ratio:>6.2} \
+        "{call:<17} {order:>5} {wires:>6} {ours:>9.2} {theirs:>9.2} {copy:>9.3} {ratio:>6.2} \
          {growth:>7} {mark}"
     );
     text.trim_end().to_string()

@@ -2,6 +2,7 @@
 
 use std::fmt;
 
+use crate::generate::{KINDS, PLAIN_KINDS};
 use crate::masks::{Masks, Outcome};
 
 /// The eight calls.
@@ -45,6 +46,15 @@ impl Call {
     /// Whether the call takes an order.
     pub fn has_order(self) -> bool {
         !matches!(self, Call::Check | Call::Run)
+    }
+
+    /// The kinds of gates that a table which the call accepts can have.
+    pub fn kinds(self) -> &'static [u8] {
+        match self {
+            Call::Encode | Call::Decode => &[],
+            Call::Check | Call::Run => &KINDS,
+            _ => &PLAIN_KINDS,
+        }
     }
 
     /// The refusals that the call has, by number.
@@ -120,6 +130,19 @@ impl Case {
             | Case::Decode { order, .. }
             | Case::Marks { order, .. }
             | Case::Map(MapCase { order, .. }) => Some(order),
+        }
+    }
+
+    /// The table, of a call that takes one.
+    pub fn table(&self) -> Option<&[u8]> {
+        match self {
+            Case::Encode { .. } | Case::Decode { .. } => None,
+            Case::Check { table }
+            | Case::Forecast { table, .. }
+            | Case::Mask { table, .. }
+            | Case::Run { table, .. }
+            | Case::Marks { table, .. }
+            | Case::Map(MapCase { table, .. }) => Some(table),
         }
     }
 

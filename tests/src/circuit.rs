@@ -1,6 +1,6 @@
 //! Gate tables in parts, to build them for cases.
 
-use crate::model::{AND, NOT, RANDOM, XOR};
+use crate::model::{AND, CONSTANT, NOT, OR, RANDOM, XOR};
 
 /// A gate table before it is written out; nothing about it is checked.
 #[derive(Clone, Debug, PartialEq, Eq)]
@@ -27,6 +27,14 @@ pub const fn and(left: u16, right: u16) -> Gate {
 
 pub const fn random() -> Gate {
     (RANDOM, 0, 0)
+}
+
+pub const fn constant(value: u16) -> Gate {
+    (CONSTANT, value, 0)
+}
+
+pub const fn or(left: u16, right: u16) -> Gate {
+    (OR, left, right)
 }
 
 impl Circuit {

@@ -48,6 +48,8 @@ pub struct Tally {
     placed: [bool; 14],
     /// The orders that were accepted.
     orders: [bool; 16],
+    /// The kinds of gates in the tables that were accepted.
+    kinds: [bool; 6],
 }
 
 impl Tally {
@@ -57,6 +59,11 @@ impl Tally {
         self.placed[usize::from(outcome.number)] |= outcome.place > 0;
         if let (0, Some(order)) = (outcome.number, case.order()) {
             self.orders[usize::from(order)] = true;
+        }
+        if let (0, Some(&[_, _, g0, g1, _, _, ref rest @ ..])) = (outcome.number, case.table()) {
+            for &kind in &rest[..usize::from(u16::from_le_bytes([g0, g1]))] {
+                self.kinds[usize::from(kind)] = true;
+            }
         }
     }
 
@@ -69,6 +76,9 @@ impl Tally {
         let order = (1..16).find(|&order| !self.orders[order]);
         if let (Some(order), true) = (order, call.has_order()) {
             return Some(format!("{name} never accepted at order {order}"));
+        }
+        if let Some(kind) = call.kinds().iter().find(|&&kind| !self.kinds[usize::from(kind)]) {
+            return Some(format!("{name} never accepted a gate of kind {kind}"));
         }
         call.refusals().iter().find_map(|&number| {
             let index = usize::from(number);

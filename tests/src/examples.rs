@@ -1,7 +1,8 @@
-//! The examples of document 01, with the answers and bytes that the paper gives; tapes are packed.
+//! The examples of document 01, with the answers and bytes that the paper gives; tapes are packed. Those
+//! of ORs and constants were worked out by hand.
 
 use crate::case::{Case, Lent, MapCase};
-use crate::circuit::{Circuit, and, random, xor};
+use crate::circuit::{Circuit, and, constant, not, or, random, xor};
 use crate::masks::{Masks, Outcome};
 use crate::model::pack;
 
@@ -56,10 +57,50 @@ fn masked_and() -> Vec<u8> {
     Circuit::new(6, &gates, &[23, 26, 29]).bytes()
 }
 
+/// The OR of two inputs.
+fn the_or() -> Vec<u8> {
+    vec![2, 0, 1, 0, 1, 0, 5, 0, 0, 1, 0, 2, 0]
+}
+
+/// The OR masked at order 1, gate by gate: the AND of wires 6, 1, 2 and 7, 4, 5 between three NOTs.
+fn masked_or() -> Vec<u8> {
+    let pairs = [
+        [random(), and(6, 4), xor(8, 9), and(1, 7), xor(10, 11)],
+        [random(), and(6, 5), xor(13, 14), and(2, 7), xor(15, 16)],
+        [random(), and(1, 5), xor(18, 19), and(2, 4), xor(20, 21)],
+    ];
+    let rows = [
+        [and(6, 7), xor(23, 8), xor(24, 13)],
+        [and(1, 4), xor(26, 12), xor(27, 18)],
+        [and(2, 5), xor(29, 17), xor(30, 22)],
+    ];
+    let gates = [vec![not(0), not(3)], pairs.concat(), rows.concat(), vec![not(25)]].concat();
+    Circuit::new(6, &gates, &[32, 28, 31]).bytes()
+}
+
+/// One input, and a constant with these operands as output.
+fn one_constant(left: u16, right: u16) -> Vec<u8> {
+    let [l0, l1] = left.to_le_bytes();
+    let [r0, r1] = right.to_le_bytes();
+    vec![1, 0, 1, 0, 1, 0, 4, l0, l1, r0, r1, 1, 0]
+}
+
 /// Two inputs and so many ANDs, each of the two wires before it.
 pub fn and_chain(ands: u16) -> Vec<u8> {
     let gates: Vec<_> = (0..ands).map(|g| and(g, g + 1)).collect();
     Circuit::new(2, &gates, &[ands + 1]).bytes()
+}
+
+/// The same of ORs.
+pub fn or_chain(ors: u16) -> Vec<u8> {
+    let gates: Vec<_> = (0..ors).map(|g| or(g, g + 1)).collect();
+    Circuit::new(2, &gates, &[ors + 1]).bytes()
+}
+
+/// One input and so many constants, the last of them 1.
+pub fn constants(count: u16) -> Vec<u8> {
+    let gates: Vec<_> = (0..count).rev().map(|left| constant(u16::from(left == 0))).collect();
+    Circuit::new(1, &gates, &[count]).bytes()
 }
 
 /// One input, no gate, and that input so many times as output.
@@ -99,6 +140,28 @@ const VALUES_MAPPED_TAPE: [u8; 30] = [
     0, 0, 0, 0, 0, 1, 0, 0, 1, // rows
 ];
 
+/// The wire values of the masked OR with the same tape, for secrets 1 0.
+const OR_VALUES: [u8; 33] = [
+    1, 0, 0, 0, 1, 1, // shares
+    0, 1, // NOTs
+    1, 0, 1, 0, 1, // pair 1, 2
+    0, 0, 0, 0, 0, // pair 1, 3
+    1, 0, 1, 0, 1, // pair 2, 3
+    0, 1, 1, 0, 1, 0, 0, 0, 1, // rows
+    0, // NOT
+];
+
+/// Those for secrets 0 0 with the tape that probe 31 leads to.
+const OR_VALUES_MAPPED_TAPE: [u8; 33] = [
+    0, 0, 0, 0, 1, 1, // shares
+    1, 1, // NOTs
+    0, 1, 1, 0, 1, // pair 1, 2
+    1, 1, 0, 0, 0, // pair 1, 3
+    1, 0, 1, 0, 1, // pair 2, 3
+    1, 1, 0, 0, 1, 0, 0, 0, 1, // rows
+    1, // NOT
+];
+
 fn example(name: &'static str, case: Case, outcome: Outcome) -> Example {
     Example { name, case, outcome, written: None }
 }
@@ -111,8 +174,100 @@ fn writing(name: &'static str, case: Case, value: u32, written: &[&[u8]]) -> Exa
 /// The examples of the seven calls other than the map.
 pub fn examples() -> Vec<Example> {
     let mut all = small();
+    all.extend(ors());
+    all.extend(one_constants());
     all.extend(large());
     all
+}
+
+/// The OR.
+fn ors() -> Vec<Example> {
+    let forecast = |order| Case::Forecast { table: the_or(), order };
+    let marks = |wire| Case::Marks { table: the_or(), order: 1, wire };
+    let marked = |first, second| Outcome::accepted([first, second, 0, 0]);
+    let run = Case::Run {
+        table: masked_or(),
+        inputs: OR_VALUES[..6].to_vec(),
+        random: RUNNING.to_vec(),
+        values: 33,
+        outputs: 3,
+    };
+    let truth = |left, right| Case::Run {
+        table: the_or(),
+        inputs: vec![left, right],
+        random: vec![],
+        values: 3,
+        outputs: 1,
+    };
+    vec![
+        example("the OR has 3 wires", Case::Check { table: the_or() }, Outcome::value(3)),
+        writing("0 OR 0", truth(0, 0), 3, &[&[0, 0, 0], &[0]]),
+        writing("0 OR 1", truth(0, 1), 3, &[&[0, 1, 1], &[1]]),
+        writing("1 OR 0", truth(1, 0), 3, &[&[1, 0, 1], &[1]]),
+        writing("1 OR 1", truth(1, 1), 3, &[&[1, 1, 1], &[1]]),
+        example("the OR at 1", forecast(1), Outcome::accepted([3, 33, 7, 147])),
+        example("the OR at 2", forecast(2), Outcome::accepted([5, 88, 18, 406])),
+        example("the OR at 15", forecast(15), Outcome::accepted([31, 3_351, 525, 16_513])),
+        writing(
+            "the OR masked at 1",
+            Case::Mask { table: the_or(), order: 1, out: 147 },
+            147,
+            &[&masked_or()],
+        ),
+        writing("the OR run", run, 33, &[&OR_VALUES, &[0, 0, 1]]),
+        example("marks of the left NOT", marks(6), marked(1, 0)),
+        example("marks of the right NOT", marks(7), marked(1, 0)),
+        example("marks of z(1,2) in the OR", marks(8), marked(1, 0)),
+        example("marks of a_1 b_2 in the OR", marks(9), marked(1, 2)),
+        example("marks of z(2,1) in the OR", marks(12), marked(2, 0)),
+        example("marks of a_3 b_1 in the OR", marks(16), marked(1, 3)),
+        example("marks of its first row", marks(25), marked(1, 0)),
+        example("marks of its last sum", marks(31), marked(3, 0)),
+        example("marks of the last NOT", marks(32), marked(1, 0)),
+        example("marks of no wire of the OR", marks(33), Outcome::refused(13, 0)),
+    ]
+}
+
+/// Constants, and kinds that are none.
+fn one_constants() -> Vec<Example> {
+    let check = |left, right| Case::Check { table: one_constant(left, right) };
+    let bad = Outcome::refused(4, 0);
+    let mask = |value| Case::Mask { table: one_constant(value, 0), order: 1, out: 27 };
+    let marks = |wire| Case::Marks { table: one_constant(1, 0), order: 1, wire };
+    let masked =
+        |value| Circuit::new(3, &[constant(value), constant(0), constant(0)], &[3, 4, 5]).bytes();
+    let run = |value| Case::Run {
+        table: one_constant(value, 0),
+        inputs: vec![0],
+        random: vec![],
+        values: 2,
+        outputs: 1,
+    };
+    let kind = |kind| Case::Check { table: Circuit::new(1, &[(kind, 0, 0)], &[1]).bytes() };
+    vec![
+        example("constant 0", check(0, 0), Outcome::value(2)),
+        example("constant 1, which is no earlier wire", check(1, 0), Outcome::value(2)),
+        example("constant 2", check(2, 0), bad),
+        example("constant 256", check(256, 0), bad),
+        example("constant 257", check(257, 0), bad),
+        example("constant 65,535", check(65_535, 0), bad),
+        example("constant 0 with a right operand", check(0, 1), bad),
+        example("constant 1 with a right operand", check(1, 256), bad),
+        example("kind 5", kind(5), Outcome::value(2)),
+        example("kind 6", kind(6), Outcome::refused(3, 0)),
+        example("kind 255", kind(255), Outcome::refused(3, 0)),
+        writing("constant 0 run", run(0), 2, &[&[0, 0], &[0]]),
+        writing("constant 1 run", run(1), 2, &[&[0, 1], &[1]]),
+        writing("constant 0 masked", mask(0), 27, &[&masked(0)]),
+        writing("constant 1 masked", mask(1), 27, &[&masked(1)]),
+        example(
+            "constant 1 forecast",
+            Case::Forecast { table: one_constant(1, 0), order: 2 },
+            Outcome::accepted([5, 10, 4, 41]),
+        ),
+        example("marks of a constant's share 1", marks(3), Outcome::value(1)),
+        example("marks of a constant's share 3", marks(5), Outcome::value(3)),
+    ]
 }
 
 fn small() -> Vec<Example> {
@@ -204,6 +359,19 @@ fn large() -> Vec<Example> {
         example("2,731 ANDs", forecast(and_chain(2_731)), too_large),
         example("2,730 ANDs masked", mask(and_chain(2_730), 327_612), Outcome::value(327_612)),
         example("2,731 ANDs masked", mask(and_chain(2_731), 400_000), too_large),
+        example(
+            "2,427 ORs",
+            forecast(or_chain(2_427)),
+            Outcome::accepted([3, 65_535, 7_285, 327_657]),
+        ),
+        example("2,428 ORs", forecast(or_chain(2_428)), too_large),
+        example("2,427 ORs masked", mask(or_chain(2_427), 327_657), Outcome::value(327_657)),
+        example(
+            "21,844 constants",
+            forecast(constants(21_844)),
+            Outcome::accepted([3, 65_535, 2, 327_672]),
+        ),
+        example("21,845 constants", forecast(constants(21_845)), too_large),
         example("2,730 ANDs, last wire", marks(65_525), Outcome::accepted([3, 0, 0, 0])),
         example("2,730 ANDs, no wire", marks(65_526), Outcome::refused(13, 0)),
         writing("21,845 outputs", mask(repeated_output(21_845), 131_076), 131_076, &[&masked]),
@@ -226,6 +394,19 @@ pub fn map_examples() -> Vec<Example> {
             other: 30,
         })
     };
+    let map_or = |second: [u8; 2], probe: u32| {
+        Case::Map(MapCase {
+            table: the_or(),
+            order: 1,
+            first: vec![1, 0],
+            second: second.to_vec(),
+            tape: TAPE.to_vec(),
+            probes: vec![probe],
+            mapped: 1,
+            one: 33,
+            other: 33,
+        })
+    };
     let long = |ands: u16, probes: &[u32]| {
         Case::Map(MapCase {
             table: and_chain(ands),
@@ -239,8 +420,8 @@ pub fn map_examples() -> Vec<Example> {
             other: 65_526,
         })
     };
-    // 0 0 0 1 0 0 1
-    let mapped = [0x48];
+    // 0 0 0 1 0 0 1, and for the OR 0 0 0 1 0 1 1
+    let (mapped, or_mapped) = ([0x48], [0x68]);
     vec![
         writing("probe 7", map([0, 1], &[7]), 3, &[&TAPE, &VALUES, &VALUES_SAME_TAPE]),
         writing("probe 29", map([0, 1], &[29]), 1, &[&mapped, &VALUES, &VALUES_MAPPED_TAPE]),
@@ -248,6 +429,14 @@ pub fn map_examples() -> Vec<Example> {
         writing("equal secrets", map([1, 1], &[29]), 1, &[&TAPE, &VALUES, &VALUES]),
         example("probes 6, 6", map([0, 1], &[6, 6]), Outcome::refused(12, 0)),
         example("probe 30", map([0, 1], &[30]), Outcome::refused(13, 0)),
+        writing(
+            "the OR, probe 31",
+            map_or([0, 0], 31),
+            1,
+            &[&or_mapped, &OR_VALUES, &OR_VALUES_MAPPED_TAPE],
+        ),
+        writing("the OR, equal secrets", map_or([1, 0], 9), 3, &[&TAPE, &OR_VALUES, &OR_VALUES]),
+        example("the OR, probe 33", map_or([0, 0], 33), Outcome::refused(13, 0)),
         example("2,730 ANDs mapped", long(2_730, &[65_525]), Outcome::value(1)),
         example("2,730 ANDs, no such wire", long(2_730, &[65_526]), Outcome::refused(13, 0)),
         example("2,731 ANDs mapped", long(2_731, &[]), Outcome::refused(8, 0)),

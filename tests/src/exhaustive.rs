@@ -1,7 +1,7 @@
 //! Small circuits with all their tapes and all their secrets.
 
 use crate::case::{Case, MapCase};
-use crate::circuit::{Circuit, Gate, and, not, xor};
+use crate::circuit::{Circuit, Gate, and, constant, not, or, xor};
 use crate::masks::{Masks, Outcome};
 use crate::model::bytes_for;
 
@@ -22,21 +22,45 @@ pub fn circuits() -> Vec<Circuit> {
     all.push(Circuit::new(2, &[not(0), not(2), and(3, 1)], &[4, 3]));
     all.push(Circuit::new(2, &[xor(0, 1), and(2, 1), xor(3, 0)], &[4]));
     all.push(Circuit::new(2, &[and(0, 1), and(0, 1), xor(2, 3)], &[4]));
+    all.extend(with_ors_and_constants());
+    all
+}
+
+/// Some with ORs and constants: ORs of NOTs and of ORs, NOTs, XORs and ANDs of ORs; gates of constants
+/// alone, or of one and an input.
+fn with_ors_and_constants() -> Vec<Circuit> {
+    let of_constants = |gate| Circuit::new(1, &[constant(1), constant(0), gate], &[3, 1, 2]);
+    let mut all: Vec<Circuit> = [xor(1, 2), and(2, 1), or(1, 2)].map(of_constants).into();
+    all.push(Circuit::new(1, &[constant(1), constant(1), not(1), or(3, 0)], &[4, 2]));
+    all.push(Circuit::new(2, &[or(0, 1), not(2)], &[3]));
+    all.push(Circuit::new(2, &[not(0), not(1), or(2, 3), xor(4, 0)], &[5, 4]));
+    all.push(Circuit::new(2, &[constant(1), xor(2, 0), or(3, 1)], &[4, 2]));
+    all.push(Circuit::new(2, &[or(0, 1), or(2, 0)], &[3, 2]));
+    all.push(Circuit::new(2, &[or(1, 0), and(2, 1)], &[3]));
+    all.push(Circuit::new(2, &[constant(0), or(2, 1), and(3, 0), not(4)], &[5, 2]));
     all
 }
 
 /// Those with so few tape bits that all tapes can be run at order 2.
 pub fn circuits_for_order_2() -> Vec<Circuit> {
     let one_gate = |inputs, gate| Circuit::new(inputs, &[gate], &[inputs]);
-    vec![one_gate(1, not(0)), one_gate(1, and(0, 0)), one_gate(2, xor(0, 1))]
+    vec![
+        one_gate(1, not(0)),
+        one_gate(1, and(0, 0)),
+        one_gate(2, xor(0, 1)),
+        one_gate(1, constant(1)),
+        one_gate(1, or(0, 0)),
+        Circuit::new(1, &[constant(1), not(1), or(0, 2)], &[3, 1]),
+        Circuit::new(1, &[constant(0), xor(1, 0), constant(1), and(2, 3)], &[4, 3]),
+    ]
 }
 
 /// Every gate on so many wires.
 fn gates_on(wires: u16) -> Vec<Gate> {
-    let mut gates: Vec<Gate> = (0..wires).map(not).collect();
+    let mut gates: Vec<Gate> = (0..wires).map(not).chain([constant(0), constant(1)]).collect();
     for left in 0..wires {
         for right in 0..wires {
-            gates.extend([xor(left, right), and(left, right)]);
+            gates.extend([xor(left, right), and(left, right), or(left, right)]);
         }
     }
     gates

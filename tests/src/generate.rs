@@ -1,9 +1,14 @@
 //! Generated cases: sound ones, ones with one or several flaws, and ones at the limits.
 
 use crate::case::{Call, Case, MapCase};
-use crate::circuit::{Circuit, Gate, random};
-use crate::model::{self, AND, MOST, NOT, RANDOM, XOR};
+use crate::circuit::{Circuit, Gate, constant, random};
+use crate::model::{self, AND, CONSTANT, MOST, NOT, OR, RANDOM, XOR};
 use crate::rng::Rng;
+
+/// The kinds of a table to be masked.
+pub const PLAIN_KINDS: [u8; 5] = [NOT, XOR, AND, CONSTANT, OR];
+/// Those of any table.
+pub const KINDS: [u8; 6] = [NOT, XOR, AND, RANDOM, CONSTANT, OR];
 
 /// What can be wrong with a case. Being too large is not among them: see `near_limit`.
 #[derive(Clone, Copy, PartialEq, Eq)]
@@ -171,7 +176,7 @@ fn plain(rng: &mut Rng, flaws: &Flaws, rarity: usize) -> Plain {
         0 => near_limit(rng, order),
         1 => {
             let gates = rng.within(100, 1_000);
-            let kinds: Vec<u8> = (0..gates).map(|_| rng.pick(&[NOT, XOR, AND])).collect();
+            let kinds: Vec<u8> = (0..gates).map(|_| rng.pick(&PLAIN_KINDS)).collect();
             circuit(rng, 3, &kinds, 3)
         }
         _ => {
@@ -180,7 +185,7 @@ fn plain(rng: &mut Rng, flaws: &Flaws, rarity: usize) -> Plain {
                 4..8 => 5,
                 _ => 3,
             };
-            small_circuit(rng, most_gates, &[NOT, XOR, AND])
+            small_circuit(rng, most_gates, &PLAIN_KINDS)
         }
     };
     let table = table(rng, &circuit, flaws);
@@ -322,7 +327,8 @@ fn small_circuit(rng: &mut Rng, most_gates: usize, kinds: &[u8]) -> Circuit {
     circuit(rng, inputs, &kinds, outputs)
 }
 
-/// A sound circuit of given sizes and kinds; late wires are taken more often.
+/// A sound circuit of given sizes and kinds; late wires are taken more often, and now and then one
+/// wire as both operands.
 pub fn circuit(rng: &mut Rng, inputs: usize, kinds: &[u8], outputs: usize) -> Circuit {
     fn earlier(rng: &mut Rng, wires: usize) -> u16 {
         let wire =
@@ -335,7 +341,11 @@ pub fn circuit(rng: &mut Rng, inputs: usize, kinds: &[u8], outputs: usize) -> Ci
         gates.push(match kind {
             NOT => (NOT, earlier(rng, wires), 0),
             RANDOM => random(),
-            _ => (kind, earlier(rng, wires), earlier(rng, wires)),
+            CONSTANT => constant(rng.below(2) as u16),
+            _ => {
+                let left = earlier(rng, wires);
+                (kind, left, if rng.once_in(8) { left } else { earlier(rng, wires) })
+            }
         });
     }
     let wires = inputs + kinds.len();
@@ -345,7 +355,6 @@ pub fn circuit(rng: &mut Rng, inputs: usize, kinds: &[u8], outputs: usize) -> Ci
 
 /// A circuit with gates of all kinds; once in `rarity`, its sizes are near a limit.
 fn any_circuit(rng: &mut Rng, rarity: usize) -> Circuit {
-    const KINDS: [u8; 4] = [NOT, XOR, AND, RANDOM];
     if !rng.once_in(rarity) {
         return small_circuit(rng, 12, &KINDS);
     }
@@ -372,33 +381,48 @@ fn any_circuit(rng: &mut Rng, rarity: usize) -> Circuit {
 /// A plain circuit that is just not too large to be masked at an order, or just so.
 fn near_limit(rng: &mut Rng, order: u8) -> Circuit {
     let n = 2 * usize::from(order) + 1;
-    let and_wires = n * n + 5 * n * (n - 1) / 2;
     match rng.below(4) {
         // Masked outputs.
         0 => {
             let outputs = near(rng, MOST / n);
-            circuit(rng, 2, &[XOR, NOT, AND], outputs)
+            circuit(rng, 2, &[XOR, NOT, AND, CONSTANT, OR], outputs)
         }
-        // Masked inputs.
+        // Masked inputs, of which a constant may take the place of one.
         1 => {
             let inputs = near(rng, MOST / n);
-            let kinds = [NOT; 40];
-            let gates = rng.below(n + 2);
-            circuit(rng, inputs, &kinds[..gates], 2)
+            let constants = rng.below(2);
+            let kinds = [vec![CONSTANT; constants], vec![NOT; rng.below(n + 2)]].concat();
+            circuit(rng, inputs - constants, &kinds, 2)
         }
-        // Masked wires: mostly those of ANDs, the rest those of XORs and then NOTs.
+        // Masked wires.
         _ => {
             let inputs = rng.within(1, 4);
-            let mut rest = near(rng, MOST) - n * inputs;
-            let ands = (rest / and_wires).saturating_sub(rng.below(3));
-            rest -= ands * and_wires;
-            let xors = (rest / n).saturating_sub(rng.below(3));
-            rest -= xors * n;
-            let mut kinds = [vec![AND; ands], vec![XOR; xors], vec![NOT; rest]].concat();
-            rng.shuffle(&mut kinds);
+            let wires = near(rng, MOST) - n * inputs;
+            let kinds = filling(rng, n, wires);
             circuit(rng, inputs, &kinds, 2)
         }
     }
+}
+
+/// Kinds that become exactly so many masked wires: mostly those of ANDs and ORs, the rest those of
+/// XORs and constants, and then NOTs.
+fn filling(rng: &mut Rng, n: usize, wires: usize) -> Vec<u8> {
+    let and = n * n + 5 * n * (n - 1) / 2;
+    let (mut large, mut small) = ([(AND, and), (OR, and + 3)], [(XOR, n), (CONSTANT, n)]);
+    rng.shuffle(&mut large);
+    rng.shuffle(&mut small);
+    let (mut kinds, mut rest) = (Vec::new(), wires);
+    for [some, most] in [large, small] {
+        for ((kind, cost), is_some) in [(some, true), (most, false)] {
+            let fit = rest / cost;
+            let count = if is_some { rng.below(fit + 1) } else { fit.saturating_sub(rng.below(3)) };
+            kinds.resize(kinds.len() + count, kind);
+            rest -= cost * count;
+        }
+    }
+    kinds.resize(kinds.len() + rest, NOT);
+    rng.shuffle(&mut kinds);
+    kinds
 }
 
 /// The bytes of a circuit, damaged as often as the flaws say.
@@ -422,7 +446,7 @@ fn damage(rng: &mut Rng, table: &mut Vec<u8>, circuit: &Circuit) {
     let (inputs, gates) = (usize::from(circuit.inputs), circuit.gates.len());
     let (outputs, wires) = (circuit.outputs.len(), inputs + gates);
     let any = rng.below(65_536);
-    match rng.below(9) {
+    match rng.below(10) {
         // One of the sizes.
         0 => {
             let (at, size, beside) =
@@ -433,7 +457,7 @@ fn damage(rng: &mut Rng, table: &mut Vec<u8>, circuit: &Circuit) {
         }
         // A kind.
         1 if gates > 0 => {
-            let byte = rng.pick(&[0, 1, 2, 3, 4, 4, 5, 128, 255]);
+            let byte = rng.pick(&[0, 1, 2, 3, 4, 5, 6, 6, 7, 128, 255]);
             if let Some(kind) = table.get_mut(6 + rng.below(gates)) {
                 *kind = byte;
             }
@@ -447,8 +471,19 @@ fn damage(rng: &mut Rng, table: &mut Vec<u8>, circuit: &Circuit) {
             set_field(table, 6 + gates + 4 * g, 0);
             set_field(table, 6 + gates + 4 * g + 2, 0);
         }
+        // A constant in place of another gate, mostly a bad one: by its value, by what is not used,
+        // by both.
+        3 if gates > 0 => {
+            let g = rng.below(gates);
+            if let Some(kind) = table.get_mut(6 + g) {
+                *kind = CONSTANT;
+            }
+            let values = [0, 1, 1, 2, 3, 255, 256, 257, MOST, any];
+            set_field(table, 6 + gates + 4 * g, rng.pick(&values));
+            set_field(table, 6 + gates + 4 * g + 2, rng.pick(&[0, 0, 0, 1, 256, any]));
+        }
         // An operand.
-        3 | 4 if gates > 0 => {
+        4 | 5 if gates > 0 => {
             let g = rng.below(gates);
             let wire = inputs + g;
             let operands = [0, 1, wire - 1, wire, wire, wire + 1, MOST, any];
@@ -456,19 +491,19 @@ fn damage(rng: &mut Rng, table: &mut Vec<u8>, circuit: &Circuit) {
             set_field(table, at, rng.pick(&operands));
         }
         // An output.
-        5 => {
+        6 => {
             let at = 6 + 5 * gates + 2 * rng.below(outputs);
             set_field(table, at, rng.pick(&[0, wires - 1, wires, wires, wires + 1, MOST, any]));
         }
         // Truncated.
-        6 => {
+        7 => {
             let length = table.len();
             let shorter =
                 [length.saturating_sub(1), length.saturating_sub(2), any % 8, any % (length + 1)];
             table.truncate(rng.pick(&shorter));
         }
         // Extended.
-        7 => {
+        8 => {
             let more = rng.pick(&[1, 2, 4, 5, 7]);
             table.extend((0..more).map(|_| rng.draw() as u8));
         }

@@ -7,6 +7,7 @@ pub mod compare;
 pub mod examples;
 pub mod exhaustive;
 pub mod generate;
+pub mod kinds;
 pub mod masks;
 pub mod model;
 pub mod properties;

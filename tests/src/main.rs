@@ -24,7 +24,7 @@ use compare::compare::{Tally, compare};
 use compare::masks::{Model, Outcome};
 use compare::properties::{check_counts, check_mapping};
 use compare::rng::Rng;
-use compare::{examples, exhaustive, generate, model, sampled, tapes};
+use compare::{examples, exhaustive, generate, kinds, model, sampled, tapes};
 
 use ffi::Archive;
 
@@ -106,6 +106,7 @@ fn compare_all(seed: u64) -> Result<(), String> {
         )?;
         println!("{}: {}", call.name(), tallies[call as usize]);
     }
+    compare_kinds(seed)?;
     compare_tapes(seed)?;
     compare_all_tapes()?;
     if cfg!(feature = "map") {
@@ -161,6 +162,16 @@ fn compare_case(case: &Case) -> Result<Outcome, String> {
         _ => {}
     }
     Ok(outcome)
+}
+
+/// Kinds and their operands, good and bad ones, with a line for each call.
+fn compare_kinds(seed: u64) -> Result<(), String> {
+    for call in kinds::CALLS.into_iter().filter(|call| calls().contains(call)) {
+        let seen =
+            kinds::check(call, seed, compare_case).map_err(|text| format!("FAILED: {text}"))?;
+        println!("kinds to {}: {seen}", call.name());
+    }
+    Ok(())
 }
 
 /// Tapes of chosen lengths, as they should be and otherwise, with a line for each call.

@@ -8,8 +8,8 @@ use std::time::Duration;
 use std::{fs, thread};
 
 use compare::case::{Call, Case};
-use compare::circuit::{Circuit, Gate, not};
-use compare::examples::{and_chain, the_and};
+use compare::circuit::{Circuit, Gate, and, constant, not, or, random, xor};
+use compare::examples::{and_chain, constants, or_chain, the_and};
 use compare::generate::generate;
 use compare::masks::{Masks, Outcome};
 use compare::model;
@@ -95,6 +95,8 @@ fn plain_inputs(rng: &mut Rng) -> Vec<Vec<u8>> {
     inputs.extend((0..=255).map(|order| with(order, &the_and())));
     inputs.push(with(1, &and_chain(2_730)));
     inputs.push(with(1, &and_chain(2_731)));
+    inputs.extend([2_427, 2_428].map(|ors| with(1, &or_chain(ors))));
+    inputs.extend([21_844, 21_845].map(|count| with(1, &constants(count))));
     // As many NOTs as can be masked: 65,535 masked wires.
     let gates: Vec<Gate> = (0..65_526).map(not).collect();
     inputs.push(with(1, &Circuit::new(3, &gates, &[65_528]).bytes()));
@@ -115,6 +117,9 @@ fn plain_inputs(rng: &mut Rng) -> Vec<Vec<u8>> {
 /// Tables for the show program, sound ones and others.
 fn tables(rng: &mut Rng) -> Vec<Vec<u8>> {
     let mut tables = vec![vec![], vec![0; 5], the_and(), longest_table(), and_chain(2_730)];
+    let gates = [constant(1), random(), or(0, 1), not(3), xor(4, 1), and(2, 5), constant(0)];
+    tables.push(Circuit::new(1, &gates, &[7, 1]).bytes());
+    tables.extend([or_chain(65_533), constants(65_534)]);
     tables.extend((0..CASES).map(|_| match generate(Call::Check, rng) {
         Case::Check { table } => table,
         _ => unreachable!("a case is of the call that was asked for"),

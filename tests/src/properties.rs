@@ -5,7 +5,7 @@ use crate::case::{Lent, MapCase};
 use crate::circuit::Circuit;
 use crate::generate::circuit;
 use crate::masks::{Masks, Outcome};
-use crate::model::{AND, MOST, NOT, XOR, bytes_for, cut};
+use crate::model::{AND, CONSTANT, MOST, NOT, OR, XOR, bytes_for, cut};
 use crate::rng::Rng;
 
 fn ensure(holds: bool, what: &str) -> Result<(), String> {
@@ -106,7 +106,8 @@ pub fn check_counts(
     let Circuit { inputs, gates, outputs } = Circuit::read(table);
     let (inputs, outputs) = (usize::from(inputs), outputs.len());
     let mut kinds: Vec<u8> = gates.iter().map(|gate| gate.0).collect();
-    let counts = [NOT, XOR, AND].map(|kind| kinds.iter().filter(|&&other| other == kind).count());
+    let counts = [NOT, XOR, AND, CONSTANT, OR]
+        .map(|kind| kinds.iter().filter(|&&other| other == kind).count());
     ensure(
         forecast == by_counts(order, inputs, outputs, counts),
         "the forecast is not what the counts come to",
@@ -120,13 +121,16 @@ pub fn check_counts(
     )
 }
 
-/// The four figures, or 8, from the order, the inputs, the outputs and the NOTs, XORs and ANDs.
-fn by_counts(order: u8, inputs: usize, outputs: usize, counts: [usize; 3]) -> Outcome {
+/// The four figures, or 8, from the order, the inputs, the outputs and the NOTs, XORs, ANDs, constants
+/// and ORs.
+fn by_counts(order: u8, inputs: usize, outputs: usize, counts: [usize; 5]) -> Outcome {
     let t = usize::from(order);
     let n = 2 * t + 1;
     let pairs = n * (n - 1) / 2;
-    let [nots, xors, ands] = counts;
-    let gates = nots + xors * n + ands * (n * n + 5 * pairs);
+    let [nots, xors, ands, constants, ors] = counts;
+    // An OR is an AND and three NOTs.
+    let (nots, ands) = (nots + 3 * ors, ands + ors);
+    let gates = nots + (xors + constants) * n + ands * (n * n + 5 * pairs);
     let wires = n * inputs + gates;
     if wires > MOST || n * outputs > MOST {
         return Outcome::refused(8, 0);

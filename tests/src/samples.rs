@@ -1,6 +1,6 @@
 //! The plain tables under examples/: how they are made, and what each computes.
 
-use crate::circuit::{Circuit, Gate, and, not, xor};
+use crate::circuit::{Circuit, Gate, and, constant, not, or, xor};
 
 /// A table with its file's name and what it computes. Input i of the table is bit i of the
 /// argument, output o is bit o of the result.
@@ -10,10 +10,11 @@ pub struct Sample {
     pub truth: fn(u32) -> u32,
 }
 
-pub fn samples() -> [Sample; 5] {
+pub fn samples() -> [Sample; 6] {
     [
         Sample { name: "and", circuit: Circuit::new(2, &[and(0, 1)], &[2]), truth: both },
         Sample { name: "full-adder", circuit: full_adder(), truth: u32::count_ones },
+        Sample { name: "status", circuit: status(), truth: status_of },
         Sample { name: "comparator", circuit: comparator(), truth: is_less },
         Sample { name: "present-sbox", circuit: present_sbox(), truth: present },
         Sample { name: "aes-sbox", circuit: aes_sbox(), truth: aes },
@@ -31,6 +32,19 @@ fn full_adder() -> Circuit {
     let (a, b, carry) = (0, 1, 2);
     let gates = [xor(a, carry), xor(b, carry), and(3, 4), xor(5, carry), xor(3, b)];
     Circuit::new(3, &gates, &[7, 6])
+}
+
+/// Inputs whether a drive is ready, broken and empty; outputs whether it can be used, whether somebody
+/// must see to it, and a bit that is always 1.
+fn status() -> Circuit {
+    let (ready, broken, empty) = (0, 1, 2);
+    let gates = [or(broken, empty), not(3), and(ready, 4), constant(1)];
+    Circuit::new(3, &gates, &[5, 3, 6])
+}
+
+fn status_of(inputs: u32) -> u32 {
+    let (ready, alarm) = (inputs & 1, u32::from(inputs > 1));
+    u32::from(ready > alarm) | alarm << 1 | 1 << 2
 }
 
 /// Inputs the four bits of a, lowest first, then those of b; the output is whether a < b.

@@ -6,9 +6,9 @@ use std::fmt;
 use std::ops::Range;
 
 use crate::case::{Call, Case, MapCase};
-use crate::generate::circuit;
+use crate::generate::{PLAIN_KINDS, circuit};
 use crate::masks::Outcome;
-use crate::model::{AND, MOST, NOT, RANDOM, XOR, bytes_for, pack};
+use crate::model::{AND, MOST, OR, RANDOM, bytes_for, pack};
 use crate::rng::Rng;
 
 /// The calls that take a tape.
@@ -157,7 +157,7 @@ fn encode(rng: &mut Rng, bits: usize) -> Case {
 fn run(rng: &mut Rng, bits: usize) -> Case {
     let inputs = rng.within(1, (MOST - bits).min(9));
     let others = rng.below((MOST - bits - inputs).min(9) + 1);
-    let mut kinds: Vec<u8> = (0..others).map(|_| rng.pick(&[NOT, XOR, AND])).collect();
+    let mut kinds: Vec<u8> = (0..others).map(|_| rng.pick(&PLAIN_KINDS)).collect();
     kinds.resize(others + bits, RANDOM);
     rng.shuffle(&mut kinds);
     let table = circuit(rng, inputs, &kinds, 3).bytes();
@@ -175,9 +175,14 @@ fn map(rng: &mut Rng, bits: usize) -> MapCase {
     let odd = bits % 2;
     let ands = odd + 2 * rng.below((most_ands(bits).min(100) - odd) / 2 + 1);
     let inputs = (bits - 3 * ands) / 2;
-    let wires = 3 * inputs + 24 * ands;
+    let mut wires = 3 * inputs + 24 * ands;
+    // As many of them as ORs as there is room for, or fewer.
+    let ors = rng.below(ands.min((MOST - wires) / 3) + 1);
+    wires += 3 * ors;
+    let mut kinds = [vec![AND; ands - ors], vec![OR; ors]].concat();
+    rng.shuffle(&mut kinds);
     MapCase {
-        table: circuit(rng, inputs, &vec![AND; ands], 2).bytes(),
+        table: circuit(rng, inputs, &kinds, 2).bytes(),
         order: 1,
         first: rng.bits(inputs),
         second: rng.bits(inputs),

@@ -9,24 +9,35 @@ static void expect(int number, enum masks_refusal name) {
     else printf("%d is not %d\n", number, (int)name);
 }
 
-static int check(uint8_t inputs, uint8_t kind, uint8_t right, uint8_t output) {
-    const uint8_t table[] = {inputs, 0, 1, 0, 1, 0, kind, 0, 0, right, 0, output, 0};
+static int check_gate(uint8_t inputs, uint8_t kind, uint8_t left, uint8_t right, uint8_t output) {
+    const uint8_t table[] = {inputs, 0, 1, 0, 1, 0, kind, left, 0, right, 0, output, 0};
     return masks_check(table, sizeof table).number;
 }
 
+static int check(uint8_t inputs, uint8_t kind, uint8_t right, uint8_t output) {
+    return check_gate(inputs, kind, 0, right, output);
+}
+
 int main(void) {
-    const uint8_t plain[] = {2, 0, 1, 0, 1, 0, 2, 0, 0, 1, 0, 2, 0}, random[] = {2, 0, 1, 0, 1, 0, 3, 0, 0, 0, 0, 2, 0};
+    const uint8_t plain[] = {2, 0, 1, 0, 1, 0, MASKS_AND, 0, 0, 1, 0, 2, 0};
+    const uint8_t random[] = {2, 0, 1, 0, 1, 0, MASKS_RANDOM, 0, 0, 0, 0, 2, 0};
     const uint8_t bits[] = {0, 1}, bad[] = {0, 2}, tape[] = {0x09, 0};
     const uint32_t probes[] = {6, 6}, no_wire[] = {30};
     static uint8_t shares[65538];
     uint8_t out[132], one[30], other[30];
 
-    expect(check(2, 2, 1, 2), MASKS_DONE);
+    expect(check(2, MASKS_NOT, 0, 2), MASKS_DONE);
+    expect(check(2, MASKS_XOR, 1, 2), MASKS_DONE);
+    expect(check(2, MASKS_AND, 1, 2), MASKS_DONE);
+    expect(check(2, MASKS_RANDOM, 0, 2), MASKS_DONE);
+    expect(check_gate(1, MASKS_CONSTANT, 1, 0, 1), MASKS_DONE);
+    expect(check(2, MASKS_OR, 1, 2), MASKS_DONE);
     expect(masks_check(plain, 5).number, MASKS_BAD_LENGTH);
-    expect(check(0, 2, 1, 2), MASKS_BAD_SIZES);
-    expect(check(2, 4, 1, 2), MASKS_BAD_KIND);
-    expect(check(2, 2, 2, 2), MASKS_BAD_OPERAND);
-    expect(check(2, 2, 1, 3), MASKS_BAD_OUTPUT);
+    expect(check(0, MASKS_AND, 1, 2), MASKS_BAD_SIZES);
+    expect(check(2, 6, 1, 2), MASKS_BAD_KIND);
+    expect(check(2, MASKS_OR, 2, 2), MASKS_BAD_OPERAND);
+    expect(check_gate(3, MASKS_CONSTANT, 2, 0, 2), MASKS_BAD_OPERAND);
+    expect(check(2, MASKS_AND, 1, 3), MASKS_BAD_OUTPUT);
     expect(masks_forecast(plain, 13, 16).number, MASKS_BAD_ORDER);
     expect(masks_forecast(random, 13, 1).number, MASKS_RANDOM_GATE);
     expect(masks_decode(1, shares, sizeof shares, out, sizeof out).number, MASKS_TOO_LARGE);

@@ -2,9 +2,9 @@
 
 use std::fs;
 
-use compare::circuit::{Circuit, not, random};
-use compare::examples::and_chain;
-use compare::model::{AND, NOT, RANDOM, XOR};
+use compare::circuit::{Circuit, constant, not, or, random};
+use compare::examples::{and_chain, constants, or_chain};
+use compare::model::{AND, CONSTANT, NOT, OR, RANDOM, XOR};
 use compare::samples::samples;
 
 use crate::programs::root;
@@ -19,11 +19,11 @@ pub fn test(folder: &Folder) -> Result<(), String> {
 pub fn counts(table: &[u8]) -> String {
     let [inputs, gates, outputs] =
         [0, 2, 4].map(|at| usize::from(u16::from_le_bytes([table[at], table[at + 1]])));
-    let [nots, xors, ands, randoms] = [NOT, XOR, AND, RANDOM]
+    let [nots, xors, ands, randoms, constants, ors] = [NOT, XOR, AND, RANDOM, CONSTANT, OR]
         .map(|kind| table[6..6 + gates].iter().filter(|&&other| other == kind).count());
     format!(
         "{inputs} inputs, {gates} gates, {outputs} outputs, {} wires, {} bytes\n\
-         {nots} NOT, {xors} XOR, {ands} AND, {randoms} random\n",
+         {nots} NOT, {xors} XOR, {ands} AND, {randoms} random, {constants} constant, {ors} OR\n",
         inputs + gates,
         table.len()
     )
@@ -34,6 +34,8 @@ fn checks(folder: &Folder) -> Result<(), String> {
     tables.push(Circuit::new(1, &[], &[0; 65_535]).bytes());
     tables.push(Circuit::new(1, &(0..65_534).map(not).collect::<Vec<_>>(), &[65_534]).bytes());
     tables.push(Circuit::new(2, &[random(), random(), not(2)], &[3, 4]).bytes());
+    tables.push(Circuit::new(1, &[constant(1), or(0, 1), random(), or(1, 1)], &[1, 4]).bytes());
+    tables.extend([or_chain(65_533), constants(65_534), masked(1, &or_chain(2_427))?]);
     for sample in samples() {
         let table = sample.circuit.bytes();
         tables.extend([masked(1, &table)?, masked(6, &table)?, table]);

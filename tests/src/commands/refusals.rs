@@ -1,8 +1,8 @@
 //! Refusals: by their number and place, in one line with status 1, and nothing is written.
 
-use compare::circuit::{Circuit, Gate, and, not, random, xor};
+use compare::circuit::{Circuit, Gate, and, constant, not, or, random, xor};
 use compare::examples::{and_chain, the_and};
-use compare::model::{self, AND, MOST, NOT};
+use compare::model::{self, AND, MOST, NOT, OR};
 
 use super::{KEPT, ensure_kept};
 use crate::running::{Folder, ensure, masked};
@@ -20,8 +20,8 @@ pub fn test(folder: &Folder) -> Result<(), String> {
 }
 
 /// Tables with one fault each, and how its refusal begins.
-fn faulty() -> [(Vec<u8>, &'static str); 5] {
-    let gates = [and(0, 1), not(2), and(3, 0)];
+fn faulty() -> [(Vec<u8>, &'static str); 7] {
+    let gates = [and(0, 1), not(2), and(3, 0), constant(1)];
     let sound = Circuit::new(2, &gates, &[4, 3]);
     let table = |change: &dyn Fn(&mut Circuit)| {
         let mut circuit = sound.clone();
@@ -31,9 +31,11 @@ fn faulty() -> [(Vec<u8>, &'static str); 5] {
     [
         (vec![2, 0], "refused 1: "),
         (table(&|circuit| circuit.inputs = 0), "refused 2: "),
-        (table(&|circuit| circuit.gates[1].0 = 4), "refused 3 at gate 1: "),
+        (table(&|circuit| circuit.gates[1].0 = 6), "refused 3 at gate 1: its kind is above 5"),
         (table(&|circuit| circuit.gates[2].1 = 5), "refused 4 at gate 2: "),
-        (table(&|circuit| circuit.outputs[1] = 5), "refused 5 at output 1: "),
+        (table(&|circuit| circuit.gates[3].1 = 2), "refused 4 at gate 3: "),
+        (table(&|circuit| circuit.gates[3].2 = 1), "refused 4 at gate 3: "),
+        (table(&|circuit| circuit.outputs[1] = 6), "refused 5 at output 1: "),
     ]
 }
 
@@ -105,11 +107,17 @@ fn large_circuits() -> Vec<(u8, Circuit)> {
     let nots = |count: u16| (0..count).map(not);
     let ands: Vec<Gate> = (0..2_731).map(|g| and(g, g + 1)).collect();
     let mixed: Vec<Gate> = nots(40).chain((0..40).flat_map(|g| [xor(g, 1), and(g, 0)])).collect();
+    let ors: Vec<Gate> = (0..2_428).map(|g| or(g, g + 1)).collect();
+    let all: Vec<Gate> =
+        (0..30).flat_map(|g| [or(g, 1), constant(g % 2), xor(g, 0), not(g), and(0, g)]).collect();
     vec![
         (1, Circuit::new(2, &ands, &[0])),
         (15, Circuit::new(2, &ands[..300], &[0, 1])),
         (4, Circuit::new(2, &ands[..300], &[0, 1])),
         (15, Circuit::new(3, &mixed, &[1, 2])),
+        (1, Circuit::new(2, &ors, &[0])),
+        (15, Circuit::new(3, &all, &[1, 2])),
+        (9, Circuit::new(2, &[constant(1); 4_000], &[0, 3])),
         (9, Circuit::new(3_000, &[xor(0, 1); 2_000], &[1, 2])),
         (15, Circuit::new(1, &[], &[0; 5_000])),
         (1, Circuit::new(1, &[], &[0; 21_846])),
@@ -124,6 +132,7 @@ fn masked_wires(circuit: &Circuit, order: u8) -> usize {
     let cost = |gate: &Gate| match gate.0 {
         NOT => 1,
         AND => n * n + 5 * n * (n - 1) / 2,
+        OR => n * n + 5 * n * (n - 1) / 2 + 3,
         _ => n,
     };
     n * usize::from(circuit.inputs) + circuit.gates.iter().map(cost).sum::<usize>()
@@ -157,16 +166,29 @@ fn too_large(folder: &Folder, order: u8, circuit: &Circuit) -> Result<(), String
     Ok(())
 }
 
-/// A table that is too long for a forecast can be masked.
+/// Tables that are too long for a forecast can be masked: NOTs alone, and all plain kinds.
 fn long_tables(folder: &Folder) -> Result<(), String> {
-    let gates: Vec<Gate> = (0..65_526).map(not).collect();
-    let table = Circuit::new(3, &gates, &[65_528]).bytes();
-    folder.write("table", &table)?;
-    let ran = folder.run(&["forecast", "1", "table"])?;
-    let told = ran.told.contains("mask takes longer ones");
-    ensure(ran.is_ended(1, "refused 9: ") && told, &ran, "the long table is not told")?;
-    let ran = folder.run(&["mask", "1", "table", "out"])?;
-    let sizes = "3 shares, 65535 wires, 6 tape bits\n";
-    ensure(ran.is_done() && ran.out.starts_with(sizes), &ran, "the long table is not masked")?;
-    ensure(folder.read("out")? == masked(1, &table)?, &ran, "OUT is another table")
+    let nots: Vec<Gate> = (0..65_526).map(not).collect();
+    let all: Vec<Gate> = (0..16_000)
+        .map(|g| match g % 32 {
+            0 => or(g, 2),
+            1 => and(g, 1),
+            2..7 => constant(g % 2),
+            7..10 => xor(g, 0),
+            _ => not(g),
+        })
+        .collect();
+    // The second has 3 inputs, 500 ORs, 500 ANDs, 2,500 constants, 1,500 XORs and 11,000 NOTs.
+    for (gates, sizes) in [(nots, "65535 wires, 6"), (all, "48509 wires, 3006")] {
+        let table = Circuit::new(3, &gates, &[gates.len() as u16 + 2]).bytes();
+        folder.write("table", &table)?;
+        let ran = folder.run(&["forecast", "1", "table"])?;
+        let told = ran.told.contains("mask takes longer ones");
+        ensure(ran.is_ended(1, "refused 9: ") && told, &ran, "a long table is not told")?;
+        let ran = folder.run(&["mask", "1", "table", "out"])?;
+        let sizes = format!("3 shares, {sizes} tape bits\n");
+        ensure(ran.is_done() && ran.out.starts_with(&sizes), &ran, "a long table is not masked")?;
+        ensure(folder.read("out")? == masked(1, &table)?, &ran, "OUT is another table")?;
+    }
+    Ok(())
 }

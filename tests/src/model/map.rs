@@ -1,7 +1,7 @@
 //! The mapped tape.
 
 use super::masking::{Gates, Plain, Shares, mask_gate, pair_index};
-use super::table::{AND, NOT, XOR};
+use super::table::{AND, CONSTANT, NOT, XOR};
 use super::tape::{bit, bytes_for, check_unused, flip};
 use super::{Fault, Refusal, check_bits};
 
@@ -13,11 +13,15 @@ struct Runs<'a> {
     mapped: &'a mut [u8],
     next_wire: usize,
     next_bit: usize,
+    /// The number of shares, and the free one.
+    n: usize,
+    k: usize,
 }
 
 impl Runs<'_> {
     /// Whether a_k·b_j ⊕ a_j·b_k differs between the runs.
-    fn cross_differs(&self, a: Shares, b: Shares, k: usize, j: usize) -> u8 {
+    fn cross_differs(&self, a: Shares, b: Shares, j: usize) -> u8 {
+        let k = self.k;
         let cross =
             |run: &[u8]| (run[a.wire(k)] & run[b.wire(j)]) ^ (run[a.wire(j)] & run[b.wire(k)]);
         cross(self.one) ^ cross(self.other)
@@ -36,12 +40,21 @@ impl Gates for Runs<'_> {
             NOT => (one[left] ^ 1, other[left] ^ 1),
             XOR => (one[left] ^ one[right], other[left] ^ other[right]),
             AND => (one[left] & one[right], other[left] & other[right]),
+            CONSTANT => (left as u8, left as u8),
             _ => {
                 self.next_bit += 1;
                 (bit(self.tape, self.next_bit - 1), bit(self.mapped, self.next_bit - 1))
             }
         };
         self.next_wire += 1;
+    }
+
+    /// Flips z(k,j), j > k, in the mapped tape where that differs.
+    fn before_and(&mut self, a: Shares, b: Shares) {
+        for j in self.k + 1..=self.n {
+            let differs = self.cross_differs(a, b, j);
+            flip(self.mapped, self.next_bit + pair_index(self.n, self.k, j), differs);
+        }
     }
 }
 
@@ -99,17 +112,10 @@ pub fn map(
     order.share(second, mapped, other);
 
     let (next_wire, next_bit) = (plain.inputs(), input_bits * inputs);
-    let mut runs = Runs { one, other, tape, mapped, next_wire, next_bit };
+    let mut runs = Runs { one, other, tape, mapped, next_wire, next_bit, n: order.n, k };
     let mut shares = plain.input_shares();
     for gate in table.gates() {
-        let (a, b) = (shares[gate.left], shares[gate.right]);
-        if gate.kind == AND {
-            for j in k + 1..=order.n {
-                let differs = runs.cross_differs(a, b, k, j);
-                flip(runs.mapped, runs.next_bit + pair_index(order.n, k, j), differs);
-            }
-        }
-        shares.push(mask_gate(&mut runs, order.n, gate.kind, a, b));
+        shares.push(mask_gate(&mut runs, order.n, gate, &shares));
     }
     Ok(k as u32)
 }

@@ -1,7 +1,7 @@
 //! Masking a plain table: sizes, the masked table, and the marks of its wires.
 
 use super::shares::Order;
-use super::table::{AND, NOT, RANDOM, Table, XOR};
+use super::table::{AND, CONSTANT, Gate, NOT, OR, RANDOM, Table, XOR};
 use super::{Fault, MOST, Refusal};
 
 /// The sizes of a masked table and its tape.
@@ -70,6 +70,9 @@ pub(super) trait Gates {
 
     /// Takes the next gate.
     fn gate(&mut self, kind: u8, left: usize, right: usize);
+
+    /// Is told the operands of an AND, also of one inside an OR, before its gates.
+    fn before_and(&mut self, _a: Shares, _b: Shares) {}
 }
 
 impl<'a> Plain<'a> {
@@ -80,10 +83,12 @@ impl<'a> Plain<'a> {
         if let Some(g) = table.kinds.iter().position(|&kind| kind == RANDOM) {
             return Err(Fault::RandomGate.at(g));
         }
+        let counts = table.counts();
         let gates: usize =
-            [NOT, XOR, AND].iter().map(|&kind| table.count(kind) * gate_cost(order, kind)).sum();
+            (0..).zip(counts).map(|(kind, count)| count * gate_cost(order, kind)).sum();
         let wires = order.n * table.inputs + gates;
-        let tape = 2 * order.t * table.inputs + table.count(AND) * order.pairs();
+        let ands = counts[usize::from(AND)] + counts[usize::from(OR)];
+        let tape = 2 * order.t * table.inputs + ands * order.pairs();
         Fault::TooLarge.when(wires > MOST || order.n * table.outputs().len() > MOST)?;
         Ok(Plain { table, order, wires, tape })
     }
@@ -117,12 +122,16 @@ impl<'a> Plain<'a> {
         let Some(mut offset) = wire.checked_sub(self.inputs()) else {
             return Marks::one(wire % self.order.n + 1);
         };
+        let costs = [0, 1, 2, 3, 4, 5].map(|kind| gate_cost(self.order, kind));
         for &kind in self.table.kinds {
-            let cost = gate_cost(self.order, kind);
+            let cost = costs[usize::from(kind)];
             if offset < cost {
                 return match kind {
                     NOT => Marks::one(1),
-                    XOR => Marks::one(offset + 1),
+                    XOR | CONSTANT => Marks::one(offset + 1),
+                    // The two NOTs of its operands, and that of its result.
+                    OR if offset < 2 || offset == cost - 1 => Marks::one(1),
+                    OR => and_marks(self.order, offset - 2),
                     _ => and_marks(self.order, offset),
                 };
             }
@@ -136,7 +145,8 @@ impl<'a> Plain<'a> {
 fn gate_cost(order: Order, kind: u8) -> usize {
     match kind {
         NOT => 1,
-        XOR => order.n,
+        XOR | CONSTANT => order.n,
+        OR => order.n * order.n + 5 * order.pairs() + 3,
         _ => order.n * order.n + 5 * order.pairs(),
     }
 }
@@ -163,53 +173,76 @@ pub(super) fn pair_index(n: usize, i: usize, j: usize) -> usize {
     (i - 1) * (2 * n - i) / 2 + (j - i - 1)
 }
 
-/// Hands over the masked gates of a plain gate whose operands have the given shares; answers
-/// where the shares of its result stand.
-pub(super) fn mask_gate(
-    gates: &mut impl Gates,
-    n: usize,
-    kind: u8,
-    a: Shares,
-    b: Shares,
-) -> Shares {
-    let start = gates.next_wire();
-    match kind {
-        NOT => {
-            gates.gate(NOT, a.wire(1), 0);
-            Shares { first: start as u16, ..a }
-        }
+/// Hands over the masked gates of a plain gate, given where the shares of earlier plain wires stand;
+/// answers where those of its result do.
+#[inline]
+pub(super) fn mask_gate(gates: &mut impl Gates, n: usize, gate: Gate, shares: &[Shares]) -> Shares {
+    match gate.kind {
+        NOT => negate(gates, shares[gate.left]),
         XOR => {
+            let (a, b, start) = (shares[gate.left], shares[gate.right], gates.next_wire());
             for s in 1..=n {
                 gates.gate(XOR, a.wire(s), b.wire(s));
             }
             Shares::new(start, 1)
         }
+        // The left operand is the value, and no wire.
+        CONSTANT => {
+            let start = gates.next_wire();
+            gates.gate(CONSTANT, gate.left, 0);
+            for _ in 2..=n {
+                gates.gate(CONSTANT, 0, 0);
+            }
+            Shares::new(start, 1)
+        }
+        // a OR b is NOT (NOT a AND NOT b).
         _ => {
-            for i in 1..=n {
-                for j in i + 1..=n {
-                    let z = gates.next_wire();
-                    gates.gate(RANDOM, 0, 0);
-                    gates.gate(AND, a.wire(i), b.wire(j));
-                    gates.gate(XOR, z, z + 1);
-                    gates.gate(AND, a.wire(j), b.wire(i));
-                    gates.gate(XOR, z + 2, z + 3);
-                }
+            let (mut a, mut b) = (shares[gate.left], shares[gate.right]);
+            if gate.kind == OR {
+                a = negate(gates, a);
+                b = negate(gates, b);
             }
-            let rows = gates.next_wire();
-            for i in 1..=n {
-                gates.gate(AND, a.wire(i), b.wire(i));
-                for j in 1..i {
-                    let z = start + 5 * pair_index(n, j, i) + 4;
-                    gates.gate(XOR, gates.next_wire() - 1, z);
-                }
-                for j in i + 1..=n {
-                    let z = start + 5 * pair_index(n, i, j);
-                    gates.gate(XOR, gates.next_wire() - 1, z);
-                }
-            }
-            Shares::new(rows + n - 1, n)
+            let both = mask_and(gates, n, a, b);
+            if gate.kind == OR { negate(gates, both) } else { both }
         }
     }
+}
+
+/// Hands over the NOT of share 1.
+fn negate(gates: &mut impl Gates, a: Shares) -> Shares {
+    let first = gates.next_wire() as u16;
+    gates.gate(NOT, a.wire(1), 0);
+    Shares { first, ..a }
+}
+
+/// Hands over the gates of an AND: five for each pair, then the rows.
+#[inline]
+fn mask_and(gates: &mut impl Gates, n: usize, a: Shares, b: Shares) -> Shares {
+    gates.before_and(a, b);
+    let start = gates.next_wire();
+    for i in 1..=n {
+        for j in i + 1..=n {
+            let z = gates.next_wire();
+            gates.gate(RANDOM, 0, 0);
+            gates.gate(AND, a.wire(i), b.wire(j));
+            gates.gate(XOR, z, z + 1);
+            gates.gate(AND, a.wire(j), b.wire(i));
+            gates.gate(XOR, z + 2, z + 3);
+        }
+    }
+    let rows = gates.next_wire();
+    for i in 1..=n {
+        gates.gate(AND, a.wire(i), b.wire(i));
+        for j in 1..i {
+            let z = start + 5 * pair_index(n, j, i) + 4;
+            gates.gate(XOR, gates.next_wire() - 1, z);
+        }
+        for j in i + 1..=n {
+            let z = start + 5 * pair_index(n, i, j);
+            gates.gate(XOR, gates.next_wire() - 1, z);
+        }
+    }
+    Shares::new(rows + n - 1, n)
 }
 
 /// Writes gates into the two arrays of a table.
@@ -263,8 +296,7 @@ pub fn mask(table: &[u8], order: u8, out: &mut [u8]) -> Result<u32, Refusal> {
     let mut writer = Writer { kinds, pairs, inputs: plain.inputs(), written: 0 };
     let mut shares = plain.input_shares();
     for gate in plain.table.gates() {
-        let (a, b) = (shares[gate.left], shares[gate.right]);
-        shares.push(mask_gate(&mut writer, n, gate.kind, a, b));
+        shares.push(mask_gate(&mut writer, n, gate, &shares));
     }
     for (group, wire) in outputs.chunks_exact_mut(2 * n).zip(plain.table.outputs()) {
         for (s, field) in (1..).zip(group.chunks_exact_mut(2)) {

@@ -1,5 +1,6 @@
 //! Document 01, written from the paper: checking, running, forecasting, masking, encoding,
-//! decoding, marks, the mapped tape, and what the programs write. Tapes are packed, as Card 4 asks.
+//! decoding, marks, the mapped tape, and what the programs write. Tapes are packed, and there are
+//! constants and ORs, as Cards 4 and 6 ask.
 //!
 //! Every call answers its value or a refusal. It writes into the lent buffers only when nothing
 //! is refused, and then only what the paper says; the rest of a longer buffer stays.
@@ -15,7 +16,7 @@ pub use map::map;
 pub use masking::{Marks, Sizes, forecast, marks, mask};
 pub use program::{forecast_line, listing, masked};
 pub use shares::{decode, encode};
-pub use table::{AND, NOT, RANDOM, XOR, check, run};
+pub use table::{AND, CONSTANT, NOT, OR, RANDOM, XOR, check, run};
 pub use tape::{bytes_for, cut, pack};
 
 /// The most wires, masked wires, masked outputs or share bits.

@@ -1,7 +1,7 @@
 //! The programs, as functions from what they read to what they write.
 
 use super::table::Table;
-use super::{AND, NOT, Refusal, XOR, forecast, mask};
+use super::{AND, CONSTANT, NOT, OR, Refusal, XOR, forecast, mask};
 
 /// The longest input, the order byte included, that the forecast program takes.
 const MOST_FORECAST: usize = 65_536;
@@ -57,6 +57,8 @@ pub fn listing(table: &[u8]) -> String {
             NOT => format!("w{wire} = NOT w{left}\n"),
             XOR => format!("w{wire} = XOR w{left} w{right}\n"),
             AND => format!("w{wire} = AND w{left} w{right}\n"),
+            CONSTANT => format!("w{wire} = CONSTANT {left}\n"),
+            OR => format!("w{wire} = OR w{left} w{right}\n"),
             _ => format!("w{wire} = RANDOM\n"),
         }
     });

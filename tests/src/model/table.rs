@@ -7,6 +7,19 @@ pub const NOT: u8 = 0;
 pub const XOR: u8 = 1;
 pub const AND: u8 = 2;
 pub const RANDOM: u8 = 3;
+pub const CONSTANT: u8 = 4;
+pub const OR: u8 = 5;
+
+/// What the left and the right operand of each kind are below: an unused one, which is 0, below 1, a
+/// constant's value below 2; none is given for an earlier wire, which is below the gate's own.
+const LIMITS: [[Option<usize>; 2]; 6] = [
+    [None, Some(1)],    // NOT
+    [None, None],       // XOR
+    [None, None],       // AND
+    [Some(1), Some(1)], // RANDOM
+    [Some(2), Some(1)], // CONSTANT
+    [None, None],       // OR
+];
 
 /// A gate table that was checked, as a view of its bytes.
 #[derive(Clone, Copy)]
@@ -44,14 +57,10 @@ impl<'a> Table<'a> {
         let table =
             Table { inputs, kinds, pairs: pairs.as_chunks().0, outputs: outputs.as_chunks().0 };
         for (g, gate) in table.gates().enumerate() {
-            // An operand is an earlier wire; an unused one is 0, so below 1.
-            let wire = inputs + g;
-            let (left_limit, right_limit) = match gate.kind {
-                NOT => (wire, 1),
-                XOR | AND => (wire, wire),
-                RANDOM => (1, 1),
-                _ => return Err(Fault::Kind.at(g)),
+            let Some(&limits) = LIMITS.get(usize::from(gate.kind)) else {
+                return Err(Fault::Kind.at(g));
             };
+            let [left_limit, right_limit] = limits.map(|limit| limit.unwrap_or(inputs + g));
             if gate.left >= left_limit || gate.right >= right_limit {
                 return Err(Fault::Operand.at(g));
             }
@@ -82,6 +91,15 @@ impl<'a> Table<'a> {
     pub fn count(&self, kind: u8) -> usize {
         self.kinds.iter().filter(|&&other| other == kind).count()
     }
+
+    /// How many gates are of each kind.
+    pub fn counts(&self) -> [usize; 6] {
+        let mut counts = [0; 6];
+        for &kind in self.kinds {
+            counts[usize::from(kind)] += 1;
+        }
+        counts
+    }
 }
 
 /// Checks a table and answers its number of wires.
@@ -110,10 +128,18 @@ pub fn run(
     let mut random = (0..bits).map(|at| bit(random, at));
     for (wire, gate) in (table.inputs..).zip(table.gates()) {
         values[wire] = match gate.kind {
-            NOT => values[gate.left] ^ 1,
-            XOR => values[gate.left] ^ values[gate.right],
-            AND => values[gate.left] & values[gate.right],
-            _ => random.next().expect("one bit for each random gate"),
+            RANDOM => random.next().expect("one bit for each random gate"),
+            CONSTANT => gate.left as u8,
+            kind => {
+                // The unused right operand of a NOT is 0, and there is a wire 0.
+                let (left, right) = (values[gate.left], values[gate.right]);
+                match kind {
+                    NOT => left ^ 1,
+                    XOR => left ^ right,
+                    AND => left & right,
+                    _ => left | right,
+                }
+            }
         };
     }
     for (output, wire) in outputs.iter_mut().zip(table.outputs()) {

@@ -2,13 +2,14 @@
 
 use super::*;
 use crate::case::{Call, Case, Lent};
-use crate::circuit::{Circuit, and};
+use crate::circuit::{Circuit, and, constant, or};
 use crate::compare::Tally;
 use crate::examples::{examples, map_examples, the_and};
 use crate::exhaustive::{check_maps, check_patterns, circuits, circuits_for_order_2};
 use crate::generate::generate;
+use crate::kinds;
 use crate::masks::Model;
-use crate::properties::check_mapping;
+use crate::properties::{check_counts, check_mapping};
 use crate::rng::Rng;
 use crate::sampled;
 use crate::samples::{bits, samples};
@@ -36,9 +37,11 @@ fn the_forecast_line_is_the_papers() {
 
 #[test]
 fn the_listing_names_every_gate_and_output() {
-    let gates = [and(0, 1), (NOT, 0, 0), (RANDOM, 0, 0), (XOR, 4, 2)];
+    let gates =
+        [and(0, 1), (NOT, 0, 0), (RANDOM, 0, 0), (XOR, 4, 2), constant(1), or(2, 6), constant(0)];
     let table = Circuit::new(2, &gates, &[5, 0]).bytes();
-    let lines = "w2 = AND w0 w1\nw3 = NOT w0\nw4 = RANDOM\nw5 = XOR w4 w2\nout0 = w5\nout1 = w0\n";
+    let lines = "w2 = AND w0 w1\nw3 = NOT w0\nw4 = RANDOM\nw5 = XOR w4 w2\nw6 = CONSTANT 1\n\
+                 w7 = OR w2 w6\nw8 = CONSTANT 0\nout0 = w5\nout1 = w0\n";
     assert_eq!(listing(&table), lines);
     assert_eq!(listing(&[]), "refused 1 0\n");
 }
@@ -63,7 +66,37 @@ fn a_gate_costs_what_the_paper_says() {
         let sizes = forecast(&the_and(), order).unwrap();
         assert_eq!(sizes.wires, 2 * n + wires);
         assert_eq!(sizes.tape, 2 * (n - 1) + randoms);
+        // An OR costs three wires more, a constant n and no random bit.
+        let table = Circuit::new(2, &[or(0, 1), constant(1)], &[2]).bytes();
+        let sizes = forecast(&table, order).unwrap();
+        assert_eq!(sizes.wires, 2 * n + wires + 3 + n);
+        assert_eq!(sizes.tape, 2 * (n - 1) + randoms);
     }
+}
+
+/// How many gates of each kind a table has, by the kind's number, and how many constants are 1.
+fn kinds_in(table: &[u8]) -> ([usize; 6], usize) {
+    let gates = Circuit::read(table).gates;
+    let count = |kind| gates.iter().filter(|gate| gate.0 == kind).count();
+    ([0, 1, 2, 3, 4, 5].map(count), gates.iter().filter(|&&gate| gate == constant(1)).count())
+}
+
+/// A masked table has no ORs, as many gates of each other kind as the paper says, and a constant 1 for
+/// each in the plain table.
+fn check_masked_kinds(table: &[u8], order: u8, masked: &[u8]) {
+    let n = 2 * usize::from(order) + 1;
+    let pairs = n * (n - 1) / 2;
+    let ([nots, xors, ands, _, constants, ors], plain_ones) = kinds_in(table);
+    let products = ands + ors;
+    let due = [
+        nots + 3 * ors,
+        n * xors + products * (2 * pairs + n * (n - 1)),
+        products * (2 * pairs + n),
+        products * pairs,
+        n * constants,
+        0,
+    ];
+    assert_eq!(kinds_in(masked), (due, plain_ones));
 }
 
 /// Every call refuses in each of its ways, a refusal writes nothing, and accepted maps have
@@ -85,6 +118,10 @@ fn generated_cases_hold_together() {
                     let masked = out.head(outcome.values[0] as usize);
                     assert_eq!(masked.len(), sizes.bytes as usize);
                     assert_eq!(check(masked), Ok(sizes.wires));
+                    check_masked_kinds(table, *order, masked);
+                }
+                (Case::Forecast { table, order }, 0 | 8, _) => {
+                    assert_eq!(check_counts(&Model, table, *order, outcome), Ok(()), "{case}");
                 }
                 (Case::Map(map), 0, buffers) => {
                     if let Err(text) = check_mapping(&Model, map, outcome.values[0], buffers) {
@@ -144,8 +181,20 @@ fn tapes_of_chosen_lengths_are_taken_and_refused() {
     }
 }
 
-/// A million runs; any two wires of the masked AND at order 2 tell nothing about the secrets.
 #[test]
-fn two_probes_on_the_and_at_order_2_tell_nothing() {
-    check_patterns(&Model, &Circuit::new(2, &[and(0, 1)], &[2]), 2).unwrap();
+fn kinds_are_taken_and_refused() {
+    for call in kinds::CALLS {
+        let seen = kinds::check(call, 1, |case| Ok(case.put_to(&Model, &mut case.buffers())));
+        if let Err(text) = seen {
+            panic!("{text}");
+        }
+    }
+}
+
+/// A million runs each; any two wires of the masked AND, or OR, at order 2 tell nothing about the secrets.
+#[test]
+fn two_probes_at_order_2_tell_nothing() {
+    for gate in [and(0, 1), or(0, 1)] {
+        check_patterns(&Model, &Circuit::new(2, &[gate], &[2]), 2).unwrap();
+    }
 }
