@@ -10,8 +10,8 @@ refused() {
     case $1 in
     1) why="the table has fewer than six bytes, or another length than its sizes say" ;;
     2) why="the table has no input, no output, or more than 65,535 wires" ;;
-    3) where=" at gate $2" why="its kind is above 3" ;;
-    4) where=" at gate $2" why="an operand is not an earlier wire, or an unused one is not 0" ;;
+    3) where=" at gate $2" why="its kind is above 5" ;;
+    4) where=" at gate $2" why="an operand is not an earlier wire, an unused one is not 0, or a constant's value is above 1" ;;
     5) where=" at output $2" why="it is no wire of the table" ;;
     6) why="the order is not 1 to 15" ;;
     7) where=" at gate $2" why="a random gate, which a table to be masked must not have" ;;
@@ -98,13 +98,14 @@ count_kind() {
 count_kinds() {
     sizes_of "$scratch/table"
     nots=$(count_kind "$scratch/table" 000) xors=$(count_kind "$scratch/table" 001) ands=$(count_kind "$scratch/table" 002)
+    constants=$(count_kind "$scratch/table" 004) ors=$(count_kind "$scratch/table" 005)
 }
 
 # The sizes of the masked table at an order, by the formulas of docs/FORMAT.md.
 sizes_at() {
     n=$((2 * $1 + 1)) pairs=$(((2 * $1 + 1) * $1))
-    wires=$((n * inputs + nots + n * xors + (n * n + 5 * pairs) * ands)) masked_outputs=$((n * outputs))
-    tape=$((2 * $1 * inputs + pairs * ands)) bytes=$((6 + 5 * (wires - n * inputs) + 2 * masked_outputs))
+    wires=$((n * inputs + nots + 3 * ors + n * (xors + constants) + (n * n + 5 * pairs) * (ands + ors))) masked_outputs=$((n * outputs))
+    tape=$((2 * $1 * inputs + pairs * (ands + ors))) bytes=$((6 + 5 * (wires - n * inputs) + 2 * masked_outputs))
 }
 
 # Sets line: what the forecast program prints for the table; by the formulas where the table is too long for it.
@@ -233,7 +234,10 @@ check() {
     list_lines "$1"
     kinds=$(awk '
         /^w/ { count[$3]++ }
-        END { printf "%d NOT, %d XOR, %d AND, %d random", count["NOT"], count["XOR"], count["AND"], count["RANDOM"] }' "$scratch/lines")
+        END {
+            printf "%d NOT, %d XOR, %d AND, ", count["NOT"], count["XOR"], count["AND"]
+            printf "%d random, %d constant, %d OR", count["RANDOM"], count["CONSTANT"], count["OR"]
+        }' "$scratch/lines")
     print <<TXT
 $inputs inputs, $gates gates, $outputs outputs, $((inputs + gates)) wires, $(wc -c <"$scratch/table") bytes
 $kinds

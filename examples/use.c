@@ -27,7 +27,7 @@ static uint32_t done(struct masks_answer answer) {
 }
 
 int main(void) {
-    const uint8_t table[] = {2, 0, 1, 0, 1, 0, 2, 0, 0, 1, 0, 2, 0};
+    const uint8_t table[] = {2, 0, 1, 0, 1, 0, MASKS_AND, 0, 0, 1, 0, 2, 0};
     const uint8_t order = 1, secrets[] = {1, 1}, others[] = {0, 1};
     const uint8_t tape[] = {0x59}; /* 1 0 0 1 1 0 1, the lowest bit first */
     const uint32_t probes[] = {29};

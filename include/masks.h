@@ -27,19 +27,30 @@
 #include <stdint.h>
 
 /* Before version 1.0.0 a call may still change. */
-#define MASKS_VERSION "0.2.0"
+#define MASKS_VERSION "0.3.0"
 
 #ifdef __cplusplus
 extern "C" {
 #endif
+
+/* The kinds of gates: what a gate drives, and what its left and right operand are. Wires among them are earlier ones. */
+enum masks_kind {
+    MASKS_NOT = 0,      /* the NOT of left, a wire; right is 0 */
+    MASKS_XOR = 1,      /* of two wires, which may be one */
+    MASKS_AND = 2,      /* the same */
+    MASKS_RANDOM = 3,   /* a random bit; both are 0. A table to be masked has none */
+    MASKS_CONSTANT = 4, /* left, which is 0 or 1 and no wire; right is 0 */
+    MASKS_OR = 5        /* of two wires, which may be one. A masked table has none */
+};
 
 /* The place is 0 but where a line says another. */
 enum masks_refusal {
     MASKS_DONE = 0,
     MASKS_BAD_LENGTH = 1,       /* fewer than six bytes, or a length other than 6 + 5G + 2O */
     MASKS_BAD_SIZES = 2,        /* no input, no output, or more than 65,535 wires */
-    MASKS_BAD_KIND = 3,         /* a gate's kind is above 3. Place: the gate */
-    MASKS_BAD_OPERAND = 4,      /* an operand is not an earlier wire, or an unused one is not 0. Place: the gate */
+    MASKS_BAD_KIND = 3,         /* a gate's kind is above 5. Place: the gate */
+    MASKS_BAD_OPERAND = 4,      /* an operand is not an earlier wire, an unused one is not 0, or a constant's value is above 1.
+                                   Place: the gate */
     MASKS_BAD_OUTPUT = 5,       /* an output is no wire. Place: the output's position */
     MASKS_BAD_ORDER = 6,        /* the order is not 1 to 15 */
     MASKS_RANDOM_GATE = 7,      /* a random gate in a table to be masked. Place: the gate */
