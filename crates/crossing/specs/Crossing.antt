@@ -3,6 +3,7 @@
 use mathlib.Core.List.{List}
 use Prim.Native.Nat.{ℕ, _≤_, _<_}
 use lib.ListN.{length, getD}
+use Rattle.masks.specs.Gadgets.{differs}
 
 -- a bit stands at place p
 pub record BitAt (b : List ℕ) (p : ℕ) : Type 0 where
@@ -18,3 +19,7 @@ pub record PairBits (v : List ℕ) (ai bj aj bi : ℕ) : Type 0 where
 pub record PairBefore (w ai bj aj bi : ℕ) : Type 0 where
   pub cross : (ai < w) × (bj < w)
   pub back : (aj < w) × (bi < w)
+
+-- whether the product of the wires l and r differs between the runs x and y
+abbrev pub wiresDiffer : List ℕ → List ℕ → ℕ → ℕ → ℕ
+wiresDiffer x y l r = differs (getD x l 0) (getD x r 0) (getD y l 0) (getD y r 0)

@@ -6,9 +6,9 @@ ghost use lib.ListN.{length, getD, set};
 ghost use Rattle.tables.specs.Runs.{xor};
 ghost use Rattle.tables.specs.Packing.{unpacked};
 ghost use Rattle.tables.specs.Inside.{ranOn, RunsTo};
-ghost use Rattle.masks.specs.Gadgets.{allFive, differs, isw};
+ghost use Rattle.masks.specs.Gadgets.{allFive, isw};
 ghost use Rattle.maps.specs.Both.{BothFlip, BothReady};
-ghost use Rattle.crossing.specs.Crossing.{BitAt, PairBits, PairBefore};
+ghost use Rattle.crossing.specs.Crossing.{wiresDiffer, BitAt, PairBits, PairBefore};
 
 // The five wires of a pair in one run, from wire w on, with the pair's random bit.
 fn run_pair(run: &mut [u8], w: usize, ai: usize, bj: usize, aj: usize, bi: usize, bit: u8)
@@ -37,7 +37,7 @@ fn pair_flip(k: usize, i: usize, j: usize, p: u8, q: u8) -> u8
 // Whether the product of two wires differs between the runs: 1 or 0.
 fn product_differs(one: &[u8], other: &[u8], left: usize, right: usize) -> u8
     requires { ⌜ BitAt (now one) left × BitAt (now one) right × BitAt (now other) left × BitAt (now other) right ⌝ }
-    ensures { λ r. ⌜ (r ≡ differs (getD (now (one .entry)) left 0) (getD (now (one .entry)) right 0) (getD (now (other .entry)) left 0) (getD (now (other .entry)) right 0)) × (r ≤ 1) ⌝ }
+    ensures { λ r. ⌜ (r ≡ wiresDiffer (now (one .entry)) (now (other .entry)) left right) × (r ≤ 1) ⌝ }
 {
     (one[left] & one[right]) ^ (other[left] & other[right])
 }
@@ -60,8 +60,8 @@ fn flip_pair(
     requires { ⌜ PairBits (now one) ai bj aj bi × PairBits (now other) ai bj aj bi × (at < length (unpacked (now mapped))) ⌝ }
     ensures { λ r. ⌜ (r
         ≡ isw .flip k i j
-        (differs (getD (now (one .entry)) ai 0) (getD (now (one .entry)) bj 0) (getD (now (other .entry)) ai 0) (getD (now (other .entry)) bj 0))
-        (differs (getD (now (one .entry)) aj 0) (getD (now (one .entry)) bi 0) (getD (now (other .entry)) aj 0) (getD (now (other .entry)) bi 0)))
+        (wiresDiffer (now (one .entry)) (now (other .entry)) ai bj)
+        (wiresDiffer (now (one .entry)) (now (other .entry)) aj bi))
         × (r ≤ 1)
         × (unpacked (now (mapped .exit))
         ≡ set (unpacked (now (mapped .entry))) at (xor (getD (unpacked (now (mapped .entry))) at 0) r)) ⌝ }
@@ -96,8 +96,8 @@ pub fn map_pair(
     requires { ⌜ BothReady w 5 at 1 (unpacked (now tape)) (unpacked (now mapped)) (now one) (now other) × PairBefore w ai bj aj bi ⌝ }
     ensures { λ _. ⌜ BothFlip (map (isw .gates w ai bj aj bi) allFive)
         (isw .flip k i j
-        (differs (getD (now (one .entry)) ai 0) (getD (now (one .entry)) bj 0) (getD (now (other .entry)) ai 0) (getD (now (other .entry)) bj 0))
-        (differs (getD (now (one .entry)) aj 0) (getD (now (one .entry)) bi 0) (getD (now (other .entry)) aj 0) (getD (now (other .entry)) bi 0)) ∷ [])
+        (wiresDiffer (now (one .entry)) (now (other .entry)) ai bj)
+        (wiresDiffer (now (one .entry)) (now (other .entry)) aj bi) ∷ [])
         (unpacked (now (tape .entry))) at w
         (unpacked (now (mapped .entry))) (unpacked (now (mapped .exit))) (now (one .entry)) (now (one .exit)) (now (other .entry)) (now (other .exit)) ⌝ }
 {

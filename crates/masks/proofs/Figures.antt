@@ -2,7 +2,7 @@
 -- kind.
 -- Assumes nothing.
 use mathlib.Core.Path.{_≡_, refl, _∙_}
-use mathlib.Core.Bool.{Bool, true, false, _||_}
+use mathlib.Core.Bool.{Bool, true, false, cond, _||_}
 use mathlib.Core.List.{List, [], _∷_}
 use Prim.Native.Nat.{ℕ, zero, suc, _+_, _*_, _≤_, _<_}
 use native.Mathlib.Nat.{mul-le-mul, mul-le-mul-right}
@@ -52,28 +52,17 @@ draws-small CONSTANT n h = omega arith
 draws-small OR n h = tri-small n h
 draws-small (UNKNOWN k) n h = omega arith
 
--- an AND and an OR draw a bit for each pair
-pub pair-draws : (k n : ℕ) → eqb k 2 || eqb k 5 ≡ true → draws (kindOf k) n ≡ tri n
-pair-draws zero n h = cc
-pair-draws (suc zero) n h = cc
-pair-draws (suc (suc zero)) n h = refl
-pair-draws (suc (suc (suc zero))) n h = cc
-pair-draws (suc (suc (suc (suc zero)))) n h = cc
-pair-draws (suc (suc (suc (suc (suc zero))))) n h = refl
-pair-draws (suc (suc (suc (suc (suc (suc k)))))) n h =
+-- an AND and an OR draw a bit for each pair, and no other gate draws
+pub draws-are : (k n : ℕ) → draws (kindOf k) n ≡ cond (eqb k 2 || eqb k 5) (tri n) 0
+draws-are zero n = refl
+draws-are (suc zero) n = refl
+draws-are (suc (suc zero)) n = refl
+draws-are (suc (suc (suc zero))) n = refl
+draws-are (suc (suc (suc (suc zero)))) n = refl
+draws-are (suc (suc (suc (suc (suc zero))))) n = refl
+draws-are (suc (suc (suc (suc (suc (suc k)))))) n =
     let c = suc (suc (suc (suc (suc (suc k))))) in
-    let unknown : false ≡ true = rw (ne-eqb c 2 (λ e. omega (arith, e)), ne-eqb c 5 (λ e. omega (arith, e))) at h in
-    cc unknown
-
--- and no other gate draws
-pub other-draws : (k n : ℕ) → eqb k 2 || eqb k 5 ≡ false → draws (kindOf k) n ≡ 0
-other-draws zero n h = refl
-other-draws (suc zero) n h = refl
-other-draws (suc (suc zero)) n h = cc
-other-draws (suc (suc (suc zero))) n h = refl
-other-draws (suc (suc (suc (suc zero)))) n h = refl
-other-draws (suc (suc (suc (suc (suc zero))))) n h = cc
-other-draws (suc (suc (suc (suc (suc (suc k)))))) n h = refl
+    rw (ne-eqb c 2 (λ e. omega (arith, e)), ne-eqb c 5 (λ e. omega (arith, e)))
 
 -- a figure that only known kinds have, of one gate and in total: so many gates of each kind, times the figure
 module _ (f : Kind → ℕ) (unknown : (k : ℕ) → f (UNKNOWN k) ≡ 0) where

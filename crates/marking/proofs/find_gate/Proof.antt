@@ -51,34 +51,46 @@ slice-aggregate-noted-cost c = search needs
 noted-cost-requires : tie.Need-noted-cost-requires Inv-loop μ-loop
 noted-cost-requires c κs = (known (c .before), c .before .before .before .before .before .note-costs .ensures .0)
 
+-- before the loop, and what the function was given
+abbrev noted : tie.After-gate-at Inv-loop μ-loop → tie.After-note-costs Inv-loop μ-loop
+noted c = c .before .before .before .before
+
+abbrev start : tie.After-gate-at Inv-loop μ-loop → tie.Start Inv-loop μ-loop
+start c = noted c .before .before .before
+
 -- what the gate costs
 costs :
     (c : tie.After-noted-cost Inv-loop μ-loop)
-    → c .noted-cost .result ≡ cost (kindOf (c .before .before .gate-at .result .kind)) (c .before .before .before .before .before .before .before .before .before .args .p .shares)
-costs c = c .noted-cost .ensures (c .before .before .before .before .before .before .before .before .before .args .p .shares) (c .before .before .before .before .before .before .note-costs .ensures .1)
+    → let read = c .before .before in
+    c .noted-cost .result ≡ cost (kindOf (read .gate-at .result .kind)) (start read .args .p .shares)
+costs c =
+    let read = c .before .before in
+    c .noted-cost .ensures (start read .args .p .shares) (noted read .note-costs .ensures .1)
 
 add-next : tie.Need-add-next Inv-loop μ-loop
 add-next c =
-    let p = c .before .before .before .before .before .before .before .before .before in
+    let read = c .before .before in
+    let p = start read in
     let F = plan-fits (p .pre .0) in
-    let few = cost-small (kindOf (c .before .before .gate-at .result .kind)) (p .args .p .shares) (F .shares) in
-    record { fits = omega (arith, costs c, few, c .before .before .before .loop .inv .past, p .pre .2, F .wires) }
+    let few = cost-small (kindOf (read .gate-at .result .kind)) (p .args .p .shares) (F .shares) in
+    record { fits = omega (arith, costs c, few, read .before .loop .inv .past, p .pre .2, F .wires) }
 
 sub-t18 : tie.Need-sub-t18 Inv-loop μ-loop
 sub-t18 c = c .before .before .before .before .loop .inv .past
 
 returns : tie.Need-returns Inv-loop μ-loop
 returns c =
-    seek-end (c .before .before .before .before .loop .inv) (c .before .before .before .before .before .before .before .before .before .before .pre .0 .shares) (c .before .before .before .gate-at .ensures .kind) (costs (c .before))
-    (c .if1 .taken)
+    let read = c .before .before .before in
+    seek-end (read .before .loop .inv) (start read .pre .0 .shares) (read .gate-at .ensures .kind) (costs (c .before)) (c .if1 .taken)
 
 add-g : tie.Need-add-g Inv-loop μ-loop
 add-g c =
-    let p = c .before .before .before .before .before .before .before .before .before .before in
+    let read = c .before .before .before in
+    let p = start read in
     record {
       fits = omega (
         arith,
-        seek-some (c .before .before .before .before .loop .inv),
+        seek-some (read .before .loop .inv),
         p .pre .0 .gates,
         gates-of-length (p .args .table .now),
         plan-fits (p .pre .0) .wires,
@@ -90,9 +102,8 @@ loop-less c = omega (arith, seek-some (c .before .before .before .before .loop .
 
 loop-again : tie.Need-loop-again Inv-loop μ-loop
 loop-again c =
-    seek-turn (c .before .before .before .before .loop .inv) (c .before .before .before .gate-at .result .kind) (c .before .before .before .gate-at .ensures .kind)
-    (costs (c .before))
-    (c .if1 .left)
+    let read = c .before .before .before in
+    seek-turn (read .before .loop .inv) (read .gate-at .result .kind) (read .gate-at .ensures .kind) (costs (c .before)) (c .if1 .left)
 
 pub find-gate-spec : {M : Type 1} → statement M
 find-gate-spec =

@@ -2,7 +2,7 @@
 -- Assumes nothing.
 use mathlib.Core.Path.{sym, _∙_}
 use borrow.Author.Needs.{needs}
-use Rattle.masks.proofs.Figures.{pair-draws, other-draws}
+use Rattle.masks.proofs.Figures.{draws-are}
 use Rattle.masks.proofs.gate_draws.Statement.{statement}
 use Rattle.masks.proofs.gate_draws.Tie as tie
 
@@ -10,10 +10,12 @@ pair-count-requires : tie.Need-pair-count-requires
 pair-count-requires c κs = search needs
 
 returns : tie.Need-returns
-returns c = c .pair-count .ensures ∙ sym (pair-draws (c .before .before .args .kind) (c .before .before .args .n) (c .before .if1 .taken))
+returns c =
+    let s = c .before .before .args in
+    c .pair-count .ensures ∙ sym (rw (c .before .if1 .taken) at (draws-are (s .kind) (s .n)))
 
 returns-2 : tie.Need-returns-2
-returns-2 c = sym (other-draws (c .before .args .kind) (c .before .args .n) (c .if1 .left))
+returns-2 c = sym (rw (c .if1 .left) at (draws-are (c .before .args .kind) (c .before .args .n)))
 
 pub gate-draws-spec : {M : Type 1} → statement M
 gate-draws-spec = tie.close (tie.spec pair-count-requires returns returns-2)

@@ -21,7 +21,8 @@ gate-cost-requires c κs = (omega (arith, c .loop-test .taken), c .before .befor
 
 cast-costs : tie.Need-cast-costs Inv-loop μ-loop
 cast-costs c =
-    omega (arith, c .gate-cost .ensures, cost-small (kindOf (c .before .before .loop .kind)) (c .before .before .before .before .args .n) (c .before .before .before .before .pre .0))
+    let s = c .before .before .before .before in
+    omega (arith, c .gate-cost .ensures, cost-small (kindOf (c .before .before .loop .kind)) (s .args .n) (s .pre .0))
 
 cast-costs-2 : tie.Need-cast-costs-2 Inv-loop μ-loop
 cast-costs-2 c = omega (arith, c .before .loop-test .taken)

@@ -42,46 +42,55 @@ gate-at-requires c κs =
     let p = c .before .before .before .before .before .before .before .before .before .before .pre in
     (plan-sized (p .0) .gates, omega (arith, p .3, c .loop-test .taken))
 
+-- before the loop, and what the function was given
+abbrev noted : tie.After-gate-at Inv-loop μ-loop → tie.After-note-costs Inv-loop μ-loop
+noted c = c .before .before .before .before
+
+abbrev start : tie.After-gate-at Inv-loop μ-loop → tie.Start Inv-loop μ-loop
+start c = noted c .before .before .before .before .before .before .before
+
 -- what the gate that was read is
 facts :
     (c : tie.After-gate-at Inv-loop μ-loop)
-    → let a = c .before .before .before .before .before .before .before .before .before .before .before .args in Turn (a .p .inputs) (a .p .shares) (c .before .before
-    .loop .g) (c .before .before .loop .next) (c .gate-at .result)
-facts c = operands-facts (c .before .before .before .before .before .before .before .before .before .before .before .pre .0) (c .before .before .loop .inv) (c .before
-    .loop-test .taken) (c .before .before .before .before .before .before .before .before .before .before .before .pre .3) (c .gate-at .ensures)
+    → let p = start c .args .p in
+    let l = c .before .before .loop in
+    Turn (p .inputs) (p .shares) (l .g) (l .next) (c .gate-at .result)
+facts c =
+    let p = start c .pre in
+    operands-facts (p .0) (c .before .before .loop .inv) (c .before .loop-test .taken) (p .3) (c .gate-at .ensures)
 
 -- a gate is among the plan's
-few :
-    (c : tie.After-gate-at Inv-loop μ-loop) → c .before .before .loop .g + 1 ≤ c .before .before .before .before .before .before .before .before .before .before .before
-    .args .p .gates
-few c = omega (arith, c .before .loop-test .taken, c .before .before .before .before .before .before .before .before .before .before .before .pre .3)
+few : (c : tie.After-gate-at Inv-loop μ-loop) → c .before .before .loop .g + 1 ≤ start c .args .p .gates
+few c = omega (arith, c .before .loop-test .taken, start c .pre .3)
 
 -- room for the gate's operands
 room :
     (c : tie.After-gate-at Inv-loop μ-loop)
-    → c .before .before .loop .at + 4 * cost (kindOf (c .gate-at .result .kind)) (c .before .before .before .before .before .before .before .before .before .before .before .args .p .shares) ≤ length (c .before .before .loop .ops)
+    → let l = c .before .before .loop in
+    l .at + 4 * cost (kindOf (c .gate-at .result .kind)) (start c .args .p .shares) ≤ length (l .ops)
 room c =
-    let p = c .before .before .before .before .before .before .before .before .before .before .before .pre in
+    let p = start c .pre in
     operands-room (p .0) (c .before .before .loop .inv) (c .before .loop-test .taken) (p .3) (c .gate-at .ensures) (p .1)
 
 write-operands-of-requires : tie.Need-write-operands-of-requires Inv-loop μ-loop
 write-operands-of-requires c κs =
-    let p = c .before .before .before .before .before .before .before .before .before .before .before .before .pre in
+    let read = c .before in
+    let p = start read .pre in
     let z = plan-sized (p .0) in
-    let f = facts (c .before) in (
-      located-room (p .0) (p .1) (omega (arith, f .left, few (c .before))),
-      located-room (p .0) (p .1) (omega (arith, f .right, few (c .before))),
+    let f = facts read in (
+      located-room (p .0) (p .1) (omega (arith, f .left, few read)),
+      located-room (p .0) (p .1) (omega (arith, f .right, few read)),
       record {
         plain = f .kind;
-        small = c .before .gate-at .ensures .left-small;
+        small = read .gate-at .ensures .left-small;
         some = omega (arith, z .some);
         shares = record {
           few = z .few;
-          left = read-low (p .0) (p .1) (omega (arith, f .left, few (c .before))) refl;
-          right = read-low (p .0) (p .1) (omega (arith, f .right, few (c .before))) refl;
+          left = read-low (p .0) (p .1) (omega (arith, f .left, few read)) refl;
+          right = read-low (p .0) (p .1) (omega (arith, f .right, few read)) refl;
         };
         wires = omega (arith, f .fits);
-        room = room (c .before);
+        room = room read;
       },
     )
 
@@ -89,35 +98,41 @@ slice-aggregate-noted-cost : tie.Need-slice-aggregate-noted-cost Inv-loop μ-loo
 slice-aggregate-noted-cost c = search needs
 
 noted-cost-requires : tie.Need-noted-cost-requires Inv-loop μ-loop
-noted-cost-requires c κs = (facts (c .before .before .before .before .before) .kind .0, c .before .before .before .before .before .before .before .before .before .note-costs .ensures .0)
+noted-cost-requires c κs =
+    let read = c .before .before .before .before .before in
+    (facts read .kind .0, noted read .note-costs .ensures .0)
 
--- what the gate costs
+-- the gate whose cost is looked up
+abbrev gate : tie.After-noted-cost Inv-loop μ-loop → tie.After-gate-at Inv-loop μ-loop
+gate c = c .before .before .before .before .before .before
+
 costs :
     (c : tie.After-noted-cost Inv-loop μ-loop)
-    → c .noted-cost .result ≡ cost (kindOf (c .before .before .before .before .before .before .gate-at .result .kind)) (c .before .before .before .before .before .before .before .before .before .before .before .before .before .before .before .before .before .args .p .shares)
-costs c = c .noted-cost .ensures (c .before .before .before .before .before .before .before .before .before .before .before .before .before .before .before .before .before .args .p .shares) (c .before .before .before .before .before .before .before .before .before .before .note-costs .ensures .1)
+    → c .noted-cost .result ≡ cost (kindOf (gate c .gate-at .result .kind)) (start (gate c) .args .p .shares)
+costs c = c .noted-cost .ensures (start (gate c) .args .p .shares) (noted (gate c) .note-costs .ensures .1)
 
 add-next : tie.Need-add-next Inv-loop μ-loop
-add-next c = omega (arith, facts (c .before .before .before .before .before .before) .fits, costs c)
+add-next c = omega (arith, facts (gate c) .fits, costs c)
 
 mul-at : tie.Need-mul-at Inv-loop μ-loop
-mul-at c = omega (arith, facts (c .before .before .before .before .before .before) .fits, costs c)
+mul-at c = omega (arith, facts (gate c) .fits, costs c)
 
 add-at : tie.Need-add-at Inv-loop μ-loop
-add-at c = omega (arith, room (c .before .before .before .before .before .before), costs c, c .before .before .before .before .before .before .before .before .loop .inv .long, c .before .before .before .before .before .before .before .before .before .before .before .before .before .before .before .before .before .good)
+add-at c = omega (arith, room (gate c), costs c, gate c .before .before .loop .inv .long, start (gate c) .good)
 
 add-g : tie.Need-add-g Inv-loop μ-loop
-add-g c = omega (arith, few (c .before .before .before .before .before .before), plan-sized (c .before .before .before .before .before .before .before .before .before .before .before .before .before .before .before .before .before .pre .0) .plain)
+add-g c = omega (arith, few (gate c), plan-sized (start (gate c) .pre .0) .plain)
 
 loop-less : tie.Need-loop-less Inv-loop μ-loop
-loop-less c = omega (arith, c .before .before .before .before .before .before .before .loop-test .taken)
+loop-less c = omega (arith, gate c .before .loop-test .taken)
 
 loop-again : tie.Need-loop-again Inv-loop μ-loop
 loop-again c =
-    let test = c .before .before .before .before .before .before .before in
-    let p = test .before .before .before .before .before .before .before .before .before .before .pre in
-    operands-turn (p .0) (test .before .loop .inv) (test .loop-test .taken) (p .3) (c .before .before .before .before .before .before .gate-at .ensures) (p .1)
-    (c .before .before .before .before .write-operands-of .ensures (test .before .loop .g)) (costs c)
+    let read = gate c in
+    let l = read .before .before .loop in
+    let p = start read .pre in
+    operands-turn (p .0) (l .inv) (read .before .loop-test .taken) (p .3) (read .gate-at .ensures) (p .1)
+    (c .before .before .before .before .write-operands-of .ensures (l .g)) (costs c)
 
 same-length : tie.Need-same-length Inv-loop μ-loop
 same-length c = c .before .loop .inv .long

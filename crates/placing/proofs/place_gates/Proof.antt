@@ -34,20 +34,29 @@ loop-holds c = let p = c .before .before .before .before .before .before .before
 gate-at-requires : tie.Need-gate-at-requires Inv-loop μ-loop
 gate-at-requires c κs = (plan-sized (c .before .before .before .before .before .before .before .before .before .pre .0) .gates, c .loop-test .taken)
 
+-- before the loop, and what the function was given
+abbrev noted : tie.In-loop Inv-loop μ-loop → tie.After-note-costs Inv-loop μ-loop
+noted c = c .before .before .before
+
+abbrev start : tie.In-loop Inv-loop μ-loop → tie.Start Inv-loop μ-loop
+start c = noted c .before .before .before .before .before .before
+
 -- in a turn the arrays have room for the plain wires up to this gate's
 room :
     (c : tie.In-loop Inv-loop μ-loop)
-    → Room (c .before .before .before .before .before .before .before .before .before .args .p .inputs + c .before .loop .g + 1) (c .before .loop .head) (c .before .loop
-    .base) (c .before .loop .step)
-room c = noted-room (c .before .before .before .before .before .before .before .before .before .pre .1) (c .before .loop .inv .noted) (omega (arith, c .loop-test .taken))
+    → let l = c .before .loop in
+    Room (start c .args .p .inputs + l .g + 1) (l .head) (l .base) (l .step)
+room c = noted-room (start c .pre .1) (c .before .loop .inv .noted) (omega (arith, c .loop-test .taken))
 
 -- what the gate that was read is
 facts :
     (c : tie.After-gate-at Inv-loop μ-loop)
-    → let a = c .before .before .before .before .before .before .before .before .before .before .args in Turn (a .p .inputs) (a .p .shares) (c .before .before .loop .g)
-    (c .before .before .loop .w) (c .gate-at .result)
-facts c = turn (c .before .before .before .before .before .before .before .before .before .before .pre .0) (c .before .loop-test .taken) (c .before .before .loop .inv
-    .wire) (c .gate-at .ensures)
+    → let p = start (c .before) .args .p in
+    let l = c .before .before .loop in
+    Turn (p .inputs) (p .shares) (l .g) (l .w) (c .gate-at .result)
+facts c =
+    let turns = c .before in
+    turn (start turns .pre .0) (turns .loop-test .taken) (turns .before .loop .inv .wire) (c .gate-at .ensures)
 
 places-at-requires : tie.Need-places-at-requires Inv-loop μ-loop
 places-at-requires c κs =
@@ -57,49 +66,63 @@ places-at-requires c κs =
 
 new-places-requires : tie.Need-new-places-requires Inv-loop μ-loop
 new-places-requires c κs =
-    let f = facts (c .before .before .before .before) in
-    let z = plan-sized (c .before .before .before .before .before .before .before .before .before .before .before .before .before .before .pre .0) in
+    let read = c .before .before .before .before in
+    let f = facts read in
+    let z = plan-sized (start (read .before) .pre .0) in
     (f .kind, omega (arith, z .some), z .few, f .fits, c .places-at .ensures .1)
 
 add-put-places : tie.Need-add-put-places Inv-loop μ-loop
-add-put-places c = omega (arith, plan-sized (c .before .before .before .before .before .before .before .before .before .before .before .before .before .before .before .before .before .before .pre .0) .plain, c .before .before .before .before .before .before .before .before .before .loop-test .taken)
+add-put-places c =
+    let turns = c .before .before .before .before .before .before .before .before .before in
+    omega (arith, plan-sized (start turns .pre .0) .plain, turns .loop-test .taken)
 
 put-places-requires : tie.Need-put-places-requires Inv-loop μ-loop
-put-places-requires c κs = (
-  room (c .before .before .before .before .before .before .before .before .before),
-  c .before .before .before
-      .new-places .ensures .1,
-)
+put-places-requires c κs =
+    let new = c .before .before .before in
+    (room (new .before .before .before .before .before .before), new .new-places .ensures .1)
 
 slice-aggregate-noted-cost : tie.Need-slice-aggregate-noted-cost Inv-loop μ-loop
 slice-aggregate-noted-cost c = search needs
 
 noted-cost-requires : tie.Need-noted-cost-requires Inv-loop μ-loop
-noted-cost-requires c κs = (facts (c .before .before .before .before .before .before .before .before .before .before .before .before .before .before .before .before) .kind .0, c .before .before .before .before .before .before .before .before .before .before .before .before .before .before .before .before .before .before .before .before .note-costs .ensures .0)
+noted-cost-requires c κs =
+    let read = c .before .before .before .before .before .before .before .before .before .before .before .before .before .before .before .before in
+    (facts read .kind .0, noted (read .before) .note-costs .ensures .0)
 
--- what the gate costs
+-- the gate whose cost is looked up
+abbrev gate : tie.After-noted-cost Inv-loop μ-loop → tie.After-gate-at Inv-loop μ-loop
+gate c = c .before .before .before .before .before .before .before .before .before .before .before .before .before .before .before .before .before
+
 costs :
     (c : tie.After-noted-cost Inv-loop μ-loop)
-    → c .noted-cost .result ≡ cost (kindOf (c .before .before .before .before .before .before .before .before .before .before .before .before .before .before .before .before .before .gate-at .result .kind)) (c .before .before .before .before .before .before .before .before .before .before .before .before .before .before .before .before .before .before .before .before .before .before .before .before .before .before .before .args .p .shares)
-costs c = c .noted-cost .ensures (c .before .before .before .before .before .before .before .before .before .before .before .before .before .before .before .before .before .before .before .before .before .before .before .before .before .before .before .args .p .shares) (c .before .before .before .before .before .before .before .before .before .before .before .before .before .before .before .before .before .before .before .before .before .note-costs .ensures .1)
+    → c .noted-cost .result ≡ cost (kindOf (gate c .gate-at .result .kind)) (start (gate c .before) .args .p .shares)
+costs c =
+    let turns = gate c .before in
+    c .noted-cost .ensures (start turns .args .p .shares) (noted turns .note-costs .ensures .1)
 
 add-w : tie.Need-add-w Inv-loop μ-loop
-add-w c = omega (arith, facts (c .before .before .before .before .before .before .before .before .before .before .before .before .before .before .before .before .before) .fits, costs c)
+add-w c = omega (arith, facts (gate c) .fits, costs c)
 
 add-g : tie.Need-add-g Inv-loop μ-loop
-add-g c = omega (arith, plan-sized (c .before .before .before .before .before .before .before .before .before .before .before .before .before .before .before .before .before .before .before .before .before .before .before .before .before .before .before .pre .0) .plain, c .before .before .before .before .before .before .before .before .before .before .before .before .before .before .before .before .before .before .loop-test .taken)
+add-g c =
+    let turns = gate c .before in
+    omega (arith, plan-sized (start turns .pre .0) .plain, turns .loop-test .taken)
 
 loop-less : tie.Need-loop-less Inv-loop μ-loop
-loop-less c = omega (arith, c .before .before .before .before .before .before .before .before .before .before .before .before .before .before .before .before .before .before .loop-test .taken)
+loop-less c = omega (arith, gate c .before .loop-test .taken)
 
 loop-again : tie.Need-loop-again Inv-loop μ-loop
 loop-again c =
-    let new = c .before .before .before .before .before .before .before .before .before .before .before .before in
-    let old = new .before in
-    let read = old .before .before .before .before in
-    let at = read .before in
-    placing-turn (at .before .before .before .before .before .before .before .before .before .pre .0) (at .before .loop .inv) (at .loop-test .taken) (read .gate-at .ensures) (old .places-at .ensures .0)
-    (new .new-places .ensures .0) (room at) (c .before .before .before .before .before .before .before .before .put-places .ensures) (costs c)
+    let put = c .before .before .before .before .before .before .before .before in
+    let new = put .before .before .before .before in
+    let read = gate c in
+    let turns = read .before in
+    placing-turn (start turns .pre .0) (turns .before .loop .inv) (turns .loop-test .taken) (read .gate-at .ensures)
+    (new .before .places-at .ensures .0)
+    (new .new-places .ensures .0)
+    (room turns)
+    (put .put-places .ensures)
+    (costs c)
 
 same-length : tie.Need-same-length Inv-loop μ-loop
 same-length c = c .before .loop .inv .noted .heads

@@ -43,22 +43,30 @@ gate-at-requires c κs =
     let pre = c .before .before .before .before .before .before .before .before .before .before .before .before .before .before .pre in
     (plan-sized (pre .0) .gates, c .loop-test .taken)
 
+-- before the loop, and what the function was given
+abbrev noted : tie.After-gate-at Inv-loop μ-loop → tie.After-note-costs Inv-loop μ-loop
+noted g = g .before .before .before .before .before
+
+abbrev start : tie.After-gate-at Inv-loop μ-loop → tie.Start Inv-loop μ-loop
+start g = noted g .before .before .before .before .before .before .before .before .before .before
+
 -- what the gate that was read takes
 ready :
     (g : tie.After-gate-at Inv-loop μ-loop)
-    → let s = g .before .before .before .before .before .before .before .before .before .before .before .before .before .before .before in
+    → let s = start g .args in
+    let x = g .gate-at .result in
     let l = g .before .before .loop in
-    let at = placesAt (s .args .head .now) (s .args .base .now) (s .args .step .now) in
-    StepReady (g .gate-at .result .kind) (g .gate-at .result .left) (s .args .p .shares) (l .w) (at (g .gate-at .result .left)) (at (g .gate-at .result .right))
-    (unpacked (s .args .tape .now)) (l .next) (unpacked (l .mapped)) (l .one) (l .other)
+    let at = placesAt (s .head .now) (s .base .now) (s .step .now) in
+    StepReady (x .kind) (x .left) (s .p .shares) (l .w) (at (x .left)) (at (x .right))
+    (unpacked (s .tape .now)) (l .next) (unpacked (l .mapped)) (l .one) (l .other)
 ready g =
-    let s = g .before .before .before .before .before .before .before .before .before .before .before .before .before .before .before in
+    let s = start g in
     step-ready (s .pre .0) (g .before .before .loop .inv) (g .before .loop-test .taken) (g .gate-at .ensures) (s .pre .1)
 
 map-gate-requires : tie.Need-map-gate-requires Inv-loop μ-loop
 map-gate-requires c κs =
     let g = c .before .before .before in
-    let s = g .before .before .before .before .before .before .before .before .before .before .before .before .before .before .before in
+    let s = start g in
     let room = step-room (s .pre .0) (g .before .before .loop .inv) (g .before .loop-test .taken) (g .gate-at .ensures) (s .pre .1) in
     (room .0, room .1, ready g)
 
@@ -66,34 +74,41 @@ slice-aggregate-noted-cost : tie.Need-slice-aggregate-noted-cost Inv-loop μ-loo
 slice-aggregate-noted-cost c = search needs
 
 noted-cost-requires : tie.Need-noted-cost-requires Inv-loop μ-loop
-noted-cost-requires c κs = (ready (c .before .before .before .before .before .before .before .before .before .before .before) .plain .0, c .before .before .before .before .before .before .before .before .before .before .before .before .before .before .before .before .note-costs .ensures .0)
+noted-cost-requires c κs =
+    let g = c .before .before .before .before .before .before .before .before .before .before .before in
+    (ready g .plain .0, noted g .note-costs .ensures .0)
 
--- what the gate costs
+-- the gate whose cost is looked up
+abbrev gate : tie.After-noted-cost Inv-loop μ-loop → tie.After-gate-at Inv-loop μ-loop
+gate c = c .before .before .before .before .before .before .before .before .before .before .before .before
+
 costs :
     (c : tie.After-noted-cost Inv-loop μ-loop)
-    → c .noted-cost .result ≡ cost (kindOf (c .before .before .before .before .before .before .before .before .before .before .before .before .gate-at .result .kind)) (c .before .before .before .before .before .before .before .before .before .before .before .before .before .before .before .before .before .before .before .before .before .before .before .before .before .before .before .args .p .shares)
-costs c = c .noted-cost .ensures (c .before .before .before .before .before .before .before .before .before .before .before .before .before .before .before .before .before .before .before .before .before .before .before .before .before .before .before .args .p .shares) (c .before .before .before .before .before .before .before .before .before .before .before .before .before .before .before .before .before .note-costs .ensures .1)
+    → c .noted-cost .result ≡ cost (kindOf (gate c .gate-at .result .kind)) (start (gate c) .args .p .shares)
+costs c = c .noted-cost .ensures (start (gate c) .args .p .shares) (noted (gate c) .note-costs .ensures .1)
 
 add-w : tie.Need-add-w Inv-loop μ-loop
-add-w c = omega (arith, ready (c .before .before .before .before .before .before .before .before .before .before .before .before) .wires, costs c)
+add-w c = omega (arith, ready (gate c) .wires, costs c)
 
 gate-draws-requires : tie.Need-gate-draws-requires Inv-loop μ-loop
-gate-draws-requires c κs = plan-sized (c .before .before .before .before .before .before .before .before .before .before .before .before .before .before .before .before .before .before .before .before .before .before .before .before .before .before .before .pre .0) .few
+gate-draws-requires c κs = plan-sized (start (gate c) .pre .0) .few
 
 add-next : tie.Need-add-next Inv-loop μ-loop
-add-next c = omega (arith, ready (c .before .before .before .before .before .before .before .before .before .before .before .before .before) .both .few, c .gate-draws .ensures)
+add-next c = omega (arith, ready (gate (c .before)) .both .few, c .gate-draws .ensures)
 
 add-g : tie.Need-add-g Inv-loop μ-loop
-add-g c = omega (arith, c .before .before .before .before .before .before .before .before .before .before .before .before .before .before .loop-test .taken, plan-sized (c .before .before .before .before .before .before .before .before .before .before .before .before .before .before .before .before .before .before .before .before .before .before .before .before .before .before .before .before .pre .0) .plain)
+add-g c =
+    let g = gate (c .before) in
+    omega (arith, g .before .loop-test .taken, plan-sized (start g .pre .0) .plain)
 
 loop-less : tie.Need-loop-less Inv-loop μ-loop
-loop-less c = omega (arith, c .before .before .before .before .before .before .before .before .before .before .before .before .before .before .loop-test .taken)
+loop-less c = omega (arith, gate (c .before) .before .loop-test .taken)
 
 loop-again : tie.Need-loop-again Inv-loop μ-loop
 loop-again c =
-    let g = c .before .before .before .before .before .before .before .before .before .before .before .before .before in
+    let g = gate (c .before) in
     let head = g .before .before in
-    let s = g .before .before .before .before .before .before .before .before .before .before .before .before .before .before .before in
+    let s = start g in
     step-turn (s .pre .0) (head .loop .inv) (g .before .loop-test .taken) (g .gate-at .ensures) (s .pre .1)
     (c .before .before .before .before .before .before .before .before .before .map-gate .ensures (head .loop .g))
     (costs (c .before))

@@ -6,6 +6,7 @@ use Prim.Native.Nat.{ℕ}
 use native.Mathlib.Omega.{arith}
 use borrow.Author.Needs.{needs}
 use Rattle.masks.specs.Wires.{firstOn}
+use Rattle.pieces.specs.declared.Places as DP
 use Rattle.pieces.specs.Layout.{shareWires}
 use Rattle.steps.proofs.Or.{Begun, product-nots-ready, product-and-ready, product-last-ready, product-ran}
 use Rattle.steps.proofs.map_product.Statement.{statement}
@@ -32,32 +33,59 @@ add-either-2 c = omega (arith, c .before .before .before .before .before .before
 either-requires-3 : tie.Need-either-requires-3
 either-requires-3 c κs = tt
 
+-- where the places of shares are known, and what the function was given
+abbrev start : tie.After-either3 → tie.Start
+start c = c .before .before .before .before .before .before .before .before .before
+
 run-first-nots-requires : tie.Need-run-first-nots-requires
-run-first-nots-requires c κs = product-nots-ready (c .before .before .before .before .before .before .before .before .before .before .before .args .or) (c .before .before .before .before .before .before .before .before .before .before .before .pre)
+run-first-nots-requires c κs =
+    let s = start (c .before .before) in
+    product-nots-ready (s .args .or) (s .pre)
+
+-- once the first NOTs have run
+abbrev given : tie.After-run-first-nots → tie.Start
+given d = start (d .before .before .before)
 
 -- where the AND begins
 begun :
     (d : tie.After-run-first-nots)
-    → let s = d .before .before .before .before .before .before .before .before .before .before .before .before in
-    Begun (s .args .or) (s .args .n) (s .args .w) (s .args .a) (s .args .b) (d .before .before .before .before .before .before .first-on .result) (d .before .before .before .before .first-on2 .result) (d .before .before .before .either3 .result)
-    (s .args .one .now) (s .args .other .now) (d .run-first-nots .last .1 .1 .1 .1 .0) (d .run-first-nots .last .1 .1 .1 .1 .1 .0)
+    → let s = given d .args in
+    let v = d .before .before .before in
+    let y = v .before in
+    let x = y .before .before in
+    let now = d .run-first-nots .last .1 .1 .1 .1 in
+    Begun (s .or) (s .n) (s .w) (s .a) (s .b) (x .first-on .result) (y .first-on2 .result) (v .either3 .result)
+    (s .one .now) (s .other .now) (now .0) (now .1 .0)
 begun d =
-    let s = d .before .before .before .before .before .before .before .before .before .before .before .before in
-    let n = s .args .n in
+    let s = given d .args in
+    let n = s .n in
+    let v = d .before .before .before in
+    let y = v .before in
+    let x = y .before .before in
+    let on : DP.Places → ℕ → List ℕ = λ a h. firstOn h (shareWires n a) in
     record {
-      wire = d .before .before .before .either3 .ensures;
-      left = d .before .before .before .before .before .before .first-on .ensures n ∙ ap {A = ℕ} {B = List ℕ} (λ h. firstOn h (shareWires n (s .args .a))) (d .before .before .before .before .before .before .before .either .ensures);
-      right = d .before .before .before .before .first-on2 .ensures n ∙ ap {A = ℕ} {B = List ℕ} (λ h. firstOn h (shareWires n (s .args .b))) (d .before .before .before .before .before .either2 .ensures);
+      wire = v .either3 .ensures;
+      left = x .first-on .ensures n ∙ ap {A = ℕ} {B = List ℕ} (on (s .a)) (x .before .either .ensures);
+      right = y .first-on2 .ensures n ∙ ap {A = ℕ} {B = List ℕ} (on (s .b)) (y .before .either2 .ensures);
       one = d .run-first-nots .ensures .0;
       other = d .run-first-nots .ensures .1;
     }
 
 map-and-requires : tie.Need-map-and-requires
-map-and-requires c κs = product-and-ready (c .before .before .before .before .before .before .before .before .before .before .before .before .before .before .before .before .before .before .before .args .or) (c .before .before .before .before .before .before .before .before .before .before .before .before .before .before .before .before .before .before .before .pre) (begun (c .before .before .before .before .before .before .before))
+map-and-requires c κs =
+    let d = c .before .before .before .before .before .before .before in
+    product-and-ready (given d .args .or) (given d .pre) (begun d)
 
+-- where the AND has run
+abbrev nots : tie.After-map-and → tie.After-run-first-nots
+nots c = c .before .before .before .before .before .before .before .before
+
+-- there is room for the last NOT, whichever share is free
 run-last-not-requires : tie.Need-run-last-not-requires
 run-last-not-requires c κs =
-    product-last-ready (c .before .before .before .before .before .before .before .before .before .before .before .before .before .before .before .before .before .before .before .before .before .before .before .before .before .before .before .before .args .or) (c .before .before .before .before .before .before .before .before .before .before .before .before .before .before .before .before .before .before .before .before .before .before .before .before .before .before .before .before .args .k) (c .before .before .before .before .before .before .before .before .before .before .before .before .before .before .before .before .before .before .before .before .before .before .before .before .before .before .before .before .pre) (begun (c .before .before .before .before .before .before .before .before .before .before .before .before .before .before .before .before)) (c .before .before .before .before .before .before .before .before .map-and .ensures)
+    let ran = c .before .before .before .before .before .before .before .before in
+    let s = given (nots ran) in
+    product-last-ready (s .args .or) _ (s .pre) (begun (nots ran)) (ran .map-and .ensures)
 
 same-length : tie.Need-same-length
 same-length c = search needs
@@ -70,9 +98,12 @@ same-length-3 c = search needs
 
 returns : tie.Need-returns
 returns c =
-    product-ran (c .before .before .before .before .before .before .before .before .before .before .before .before .before .before .before .before .before .before .before .before .before .before .before .before .before .before .before .before .before .before .before .before .before .args .or) (c .before .before .before .before .before .before .before .before .before .before .before .before .before .before .before .before .before .before .before .before .before .before .before .before .before .before .before .before .before .before .before .before .before .args .k) (c .before .before .before .before .before .before .before .before .before .before .before .before .before .before .before .before .before .before .before .before .before .before .before .before .before .before .before .before .before .before .before .before .before .pre) (begun (c .before .before .before .before .before .before .before .before .before .before .before .before .before .before .before .before .before .before .before .before .before)) (c .before .before .before .before .before .before .before .before .before .before .before .before .before .map-and .ensures)
-    (c .before .before .before .before .run-last-not .ensures .0)
-    (c .before .before .before .before .run-last-not .ensures .1)
+    let last = c .before .before .before .before in
+    let ran = last .before .before .before .before .before .before .before .before .before in
+    let s = given (nots ran) in
+    product-ran (s .args .or) (s .args .k) (s .pre) (begun (nots ran)) (ran .map-and .ensures)
+    (last .run-last-not .ensures .0)
+    (last .run-last-not .ensures .1)
 
 pub map-product-spec : {M : Type 1} → statement M
 map-product-spec =

@@ -31,9 +31,12 @@ run-not-requires c κs =
 
 run-not-requires-2 : tie.Need-run-not-requires-2
 run-not-requires-2 c κs =
-    let s = c .before .before .before .before .before .before .before .before .before .before in
-    let r = s .pre (c .before .before .before .before .before .before .before .if1 .taken) in
-    rw (c .before .before .before .before .before .and-cost .ensures) (r .4, row-before (s .args .n) (s .args .w) (r .0) (c .before .before .before .before .before .before .and-first .ensures .1))
+    let cost = c .before .before .before .before .before in
+    let last = cost .before in
+    let is = last .before in
+    let s = is .before .before .before in
+    let r = s .pre (is .if1 .taken) in
+    rw (cost .and-cost .ensures) (r .4, row-before (s .args .n) (s .args .w) (r .0) (last .and-first .ensures .1))
 
 same-length : tie.Need-same-length
 same-length c = search needs
@@ -43,9 +46,12 @@ same-length-2 c = search needs
 
 returns : tie.Need-returns
 returns c =
-    let last = c .before .before .before .before .before .before .before .before .before .and-first .ensures .0 in
-    let cost = c .before .before .before .before .before .before .before .before .and-cost .ensures in
-    rw (c .before .before .before .before .before .before .before .before .before .before .if1 .taken) (rw (last, cost) at (c .before .before .before .before .before .before .run-not .ensures), rw (last, cost) at (c .before .before .run-not2 .ensures))
+    let first = c .before .before .before .before .before .before in
+    let end = first .before .before in
+    let last = end .before .and-first .ensures .0 in
+    let cost = end .and-cost .ensures in
+    rw (end .before .before .if1 .taken)
+    (rw (last, cost) at (first .run-not .ensures), rw (last, cost) at (c .before .before .run-not2 .ensures))
 
 returns-2 : tie.Need-returns-2
 returns-2 c = rw (c .if1 .left) (refl, refl)

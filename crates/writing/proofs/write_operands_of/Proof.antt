@@ -58,7 +58,9 @@ places-at-requires-2 c κs = c .before .before .before .before .before .before .
 
 write-xor-requires : tie.Need-write-xor-requires
 write-xor-requires c κs =
-    let R = room-where (c .before .before .before .before .before .before .before .before .before .before .pre .2) (c .before .before .before .places-at .ensures .0) (c .before .before .places-at2 .ensures .0) in
+    let right = c .before .before in
+    let left = right .before in
+    let R = room-where (left .before .before .before .before .before .before .before .pre .2) (left .places-at .ensures .0) (right .places-at2 .ensures .0) in
     (R .shares, rw (c .before .if3 .taken) at (R .room))
 
 same-length-3 : tie.Need-same-length-3
@@ -76,7 +78,9 @@ returns-3 c g =
 
 write-and-requires : tie.Need-write-and-requires
 write-and-requires c κs =
-    let R = room-where (c .before .before .before .before .before .before .before .before .before .before .before .pre .2) (c .before .before .before .before .places-at .ensures .0) (c .before .before .before .places-at2 .ensures .0) in
+    let right = c .before .before .before in
+    let left = right .before in
+    let R = room-where (left .before .before .before .before .before .before .before .pre .2) (left .places-at .ensures .0) (right .places-at2 .ensures .0) in
     let is = c .before .if4 .taken in
     (R .shares, rw is at (R .wires), rw is at (R .room))
 
@@ -101,7 +105,9 @@ is-or c =
 
 write-or-requires : tie.Need-write-or-requires
 write-or-requires c κs =
-    let R = room-where (c .before .before .before .before .before .before .before .before .before .before .before .pre .2) (c .before .before .before .before .places-at .ensures .0) (c .before .before .before .places-at2 .ensures .0) in
+    let right = c .before .before .before in
+    let left = right .before in
+    let R = room-where (left .before .before .before .before .before .before .before .pre .2) (left .places-at .ensures .0) (right .places-at2 .ensures .0) in
     let is = is-or (c .before) in
     (R .some, R .shares, rw is at (R .wires), rw is at (R .room))
 

@@ -37,30 +37,34 @@ add-first-on c = omega (arith, c .before .before .before .before .pre .2)
 first-on-requires-2 : tie.Need-first-on-requires-2
 first-on-requires-2 c κs = tt
 
+-- where the places of the AND's shares are known, and what the function was given
+abbrev start : tie.After-first-on2 → tie.Start
+start c = c .before .before .before .before .before
+
 put-gate-requires : tie.Need-put-gate-requires
 put-gate-requires c κs =
-    let p = c .before .before .before .before .before .before .pre in
-    (omega (arith, p .3), p .1 .left 0 (p .0), omega arith)
+    let p = start (c .before) .pre in
+    (omega (arith, p .3), omega (arith, p .1 .left 0 (p .0), p .1 .right 0 (p .0)), omega arith)
 
 add-put-gate : tie.Need-add-put-gate
-add-put-gate c = omega (arith, c .before .before .before .before .before .before .before .before .before .before .pre .3)
+add-put-gate c = omega (arith, start (c .before .before .before .before .before) .pre .3)
 
 put-gate-requires-2 : tie.Need-put-gate-requires-2
 put-gate-requires-2 c κs =
-    let p = c .before .before .before .before .before .before .before .before .before .before .pre in
-    (omega (arith, p .3), p .1 .right 0 (p .0), omega arith)
+    let p = start (c .before .before .before .before .before) .pre in
+    (omega (arith, p .3), omega (arith, p .1 .left 0 (p .0), p .1 .right 0 (p .0)), omega arith)
 
 add-write-and : tie.Need-add-write-and
-add-write-and c = omega (arith, c .before .before .before .before .before .before .before .before .before .before .before .before .before .before .pre .3)
+add-write-and c = omega (arith, start (c .before .before .before .before .before .before .before .before .before) .pre .3)
 
 add-write-and-2 : tie.Need-add-write-and-2
-add-write-and-2 c = omega (arith, c .before .before .before .before .before .before .before .before .before .before .before .before .before .before .pre .2)
+add-write-and-2 c = omega (arith, start (c .before .before .before .before .before .before .before .before .before) .pre .2)
 
 write-and-requires : tie.Need-write-and-requires
 write-and-requires c κs =
-    let left = c .before .before .before .before .before .before .before .before .before .before in
     let right = c .before .before .before .before .before .before .before .before .before in
-    let s = c .before .before .before .before .before .before .before .before .before .before .before .before .before .before in
+    let left = right .before in
+    let s = start right in
     let n = s .args .n in
     let few : s .args .w + 2 < 65536 = omega (arith, s .pre .2) in (
       record {
@@ -74,10 +78,16 @@ write-and-requires c κs =
 
 put-gate-requires-3 : tie.Need-put-gate-requires-3
 put-gate-requires-3 c κs =
-    let p = c .before .before .before .before .before .before .before .before .before .before .before .before .before .before .before .before .before .before .pre in
-    let first = c .before .before .before .before .before .before .before .before .before .before .before .before .before .before .before .before .and-first .ensures .1 in (
-      omega (arith, p .3, c .before .before .before .before .before .before .before .before .before .before .before .before .before .before .before .and-cost .ensures, c .before .before .ops3 .given, c .before .before .before .before .before .before .ops2 .given, c .before .before .before .before .before .before .before .before .before .before .ops .given),
-      omega (arith, first, p .2, p .0, mul-le-mul-left {m = 1} {n = c .before .before .before .before .before .before .before .before .before .before .before .before .before .before .before .before .before .before .args .n} (c .before .before .before .before .before .before .before .before .before .before .before .before .before .before .before .before .before .before .args .n) (p .0)),
+    let third = c .before .before in
+    let second = third .before .before .before .before in
+    let first = second .before .before .before .before in
+    let places = first .before .before .before in
+    let s = start places in
+    let p = s .pre in
+    let cost = places .before .before in
+    let square = mul-le-mul-left {m = 1} {n = s .args .n} (s .args .n) (p .0) in (
+      omega (arith, p .3, cost .and-cost .ensures, third .ops3 .given, second .ops2 .given, first .ops .given),
+      omega (arith, cost .before .and-first .ensures .1, p .2, p .0, square),
       omega arith,
     )
 
