@@ -43,7 +43,8 @@ pub record StepReady (kind left n w : ℕ) (a b : DP.Places) (ts : List ℕ) (at
 
 -- plain gate g has run on in both runs, and what it flips is read off the values x and y so far
 abbrev pub GateRan :
-    ℕ → ℕ → ℕ → ℕ → ℕ → ℕ → DP.Places → DP.Places → List ℕ → ℕ → List ℕ → List ℕ → List ℕ → List ℕ → List ℕ → List ℕ → Type 0
+    ℕ → ℕ → ℕ → ℕ → ℕ → ℕ → DP.Places → DP.Places → List ℕ → ℕ
+    → List ℕ → List ℕ → List ℕ → List ℕ → List ℕ → List ℕ → Type 0
 GateRan kind left n k g w a b ts at m m′ x x′ y y′ =
     BothFlip
     (map driverOf (newWires isw (kindOf kind) left n g w (shareWires n a) (shareWires n b)))
