@@ -27,7 +27,7 @@ use Rattle.masks.proofs.Each.{Each, each-append, each-at, each-in-turn, each-up
 use Rattle.masks.proofs.Lawful.{Lawful}
 use Rattle.masks.proofs.Costs.{adding-length, pairs-span, rows-span, and-length, orAnd, new-length, new-draws}
 use Rattle.masks.proofs.Shares.{share-values, or-solves}
-use Rattle.masks.proofs.And.{rowTerms, and-pair, and-row}
+use Rattle.masks.proofs.Products.{rowTerms, and-pair, and-row}
 use Rattle.maps.specs.Maps.{pairFlip, valuesOf, gateFlips}
 use Rattle.maps.specs.Laws.{gatesFlips}
 use Rattle.maps.proofs.Flips.{gate-flips-length, drop-share, first-not-flips}

@@ -21,12 +21,13 @@ use Rattle.tables.proofs.Lists.{All, bits-take, bits-drop}
 use Rattle.tables.proofs.Packing.{packed-length}
 use Rattle.tables.proofs.Run.{read-length}
 use Rattle.tables.proofs.Format.{outputs-written}
-use Rattle.masks.specs.Gadgets.{isw}
+use Rattle.masks.specs.declared.And as DAnd
+use Rattle.masks.specs.Gadgets.{Gadget, gadgetOf}
 use Rattle.masks.specs.Wires.{marks, maskedTable, tapeLong}
 use Rattle.masks.specs.Codes.{encode, decode, maskedRun}
 use Rattle.masks.specs.Says.{plainFault}
-use Rattle.masks.proofs.Lawful.{isw-lawful}
-use Rattle.masks.proofs.Hiding.{isw-hiding}
+use Rattle.masks.proofs.Lawful.{lawful}
+use Rattle.masks.proofs.Hiding.{hiding}
 use Rattle.masks.proofs.Passed.{plain-passed}
 use Rattle.maps.specs.Maps.{single, freeShare, mapped}
 use Rattle.maps.specs.Claims.{allBelow, isTape, areSecrets, same}
@@ -69,177 +70,181 @@ wrote f xs b r w z =
     ap₂ (λ (k : ℕ) (ys : List ℕ). take k ys) (ok .1) (left-0 f xs (b .before) (b .after) (ok .0) (w .written))
     ∙ over-front xs (b .before) (length xs) refl
 
--- one secret's way, through the bytes that masking wrote
-module _ (s : List ℕ) (o : ℕ) (plain : passed (plainFault isw s o) ≡ true) (m xs ts : List ℕ)
-    (is : m ≡ tableBytes (maskedTable isw o (tableOf s))) (hx : areSecrets (tableOf s) xs ≡ true)
-    (ht : isTape isw o (tableOf s) ts ≡ true) (w : Way o m xs ts) where
-  abbrev t : Table
-  t = tableOf s
+module _ (a : DAnd.And) where
+  abbrev G : Gadget
+  G = gadgetOf a
 
-  abbrev values : List ℕ
-  values = maskedRun isw o t xs ts
+  -- one secret's way, through the bytes that masking wrote
+  module _ (s : List ℕ) (o : ℕ) (plain : passed (plainFault G s o) ≡ true) (m xs ts : List ℕ)
+      (is : m ≡ tableBytes (maskedTable G o (tableOf s))) (hx : areSecrets (tableOf s) xs ≡ true)
+      (ht : isTape G o (tableOf s) ts ≡ true) (w : Way o m xs ts) where
+    abbrev t : Table
+    t = tableOf s
 
-  front : 2 * o * length xs ≡ 2 * o * t .inputs
-  front = ap (λ (y : ℕ). 2 * o * y) (secrets-are t xs hx .0)
+    abbrev values : List ℕ
+    values = maskedRun G o t xs ts
 
-  read-back : tableOf m ≡ maskedTable isw o t
-  read-back = ap tableOf is ∙ demands .written-back s o plain .read-back
+    front : 2 * o * length xs ≡ 2 * o * t .inputs
+    front = ap (λ (y : ℕ). 2 * o * y) (secrets-are t xs hx .0)
 
-  -- the two parts of the tape, each packed for itself
-  abbrev k : ℕ
-  k = 2 * o * length xs
+    read-back : tableOf m ≡ maskedTable G o t
+    read-back = ap tableOf is ∙ demands a .written-back s o plain .read-back
 
-  tape-long : length ts ≡ k + randoms (tableOf m .gates)
-  tape-long =
-      tape-is isw o t ts ht .0
-      ∙ demands .written-back s o plain .tape
-      ∙ ap₂ (λ (i : ℕ) (l : List ℕ). i + randoms (tableOf l .gates)) (sym front) (sym is)
+    -- the two parts of the tape, each packed for itself
+    abbrev k : ℕ
+    k = 2 * o * length xs
 
-  tape-bits : Bits ts
-  tape-bits = tape-is isw o t ts ht .1
+    tape-long : length ts ≡ k + randoms (tableOf m .gates)
+    tape-long =
+        tape-is G o t ts ht .0
+        ∙ demands a .written-back s o plain .tape
+        ∙ ap₂ (λ (i : ℕ) (l : List ℕ). i + randoms (tableOf l .gates)) (sym front) (sym is)
 
-  front-part : tapeOf k (packed (take k ts)) ≡ take k ts
-  front-part =
-      tape-again k (take k ts)
-      (length-take-le k ts (omega (arith, tape-long)), bits-all (take k ts) (bits-take k ts tape-bits))
+    tape-bits : Bits ts
+    tape-bits = tape-is G o t ts ht .1
 
-  rest-part : tapeOf (randoms (tableOf m .gates)) (packed (drop k ts)) ≡ drop k ts
-  rest-part =
-      tape-again (randoms (tableOf m .gates)) (drop k ts)
-      (length-drop k ts ∙ omega (arith, tape-long), bits-all (drop k ts) (bits-drop k ts tape-bits))
+    front-part : tapeOf k (packed (take k ts)) ≡ take k ts
+    front-part =
+        tape-again k (take k ts)
+        (length-take-le k ts (omega (arith, tape-long)), bits-all (take k ts) (bits-take k ts tape-bits))
 
-  encoded : written (w .shares) (w .encoded) ≡ encode o xs (take k ts)
-  encoded = wrote _ _ (w .shares) (w .encoded) (w .encode-says) (w .encode-ok) ∙ ap (encode o xs) front-part
+    rest-part : tapeOf (randoms (tableOf m .gates)) (packed (drop k ts)) ≡ drop k ts
+    rest-part =
+        tape-again (randoms (tableOf m .gates)) (drop k ts)
+        (length-drop k ts ∙ omega (arith, tape-long), bits-all (drop k ts) (bits-drop k ts tape-bits))
 
-  abbrev raw : List ℕ
-  raw = run (tableOf m) (written (w .shares) (w .encoded)) (tapeOf (randoms (tableOf m .gates)) (packed (drop k ts)))
+    encoded : written (w .shares) (w .encoded) ≡ encode o xs (take k ts)
+    encoded = wrote _ _ (w .shares) (w .encoded) (w .encode-says) (w .encode-ok) ∙ ap (encode o xs) front-part
 
-  run-is : raw ≡ values
-  unfolding maskedRun
-  run-is =
-      ap (run (tableOf m) (written (w .shares) (w .encoded))) rest-part
-      ∙ ap₂ (λ (u : Table) (l : List ℕ). run u l (drop k ts)) read-back encoded
-      ∙ ap (λ (i : ℕ). run (maskedTable isw o t) (encode o xs (take i ts)) (drop i ts)) front
+    abbrev raw : List ℕ
+    raw = run (tableOf m) (written (w .shares) (w .encoded)) (tapeOf (randoms (tableOf m .gates)) (packed (drop k ts)))
 
-  abbrev fault-of : Fault
-  fault-of =
-      runFault m
-      (written (w .shares) (w .encoded))
-      (packed (drop k ts))
-      (length (w .values .before))
-      (length (w .outputs .before))
+    run-is : raw ≡ values
+    unfolding maskedRun
+    run-is =
+        ap (run (tableOf m) (written (w .shares) (w .encoded))) rest-part
+        ∙ ap₂ (λ (u : Table) (l : List ℕ). run u l (drop k ts)) read-back encoded
+        ∙ ap (λ (i : ℕ). run (maskedTable G o t) (encode o xs (take i ts)) (drop i ts)) front
 
-  ran : (passed fault-of ≡ true) × (w .ran .value ≡ wires (tableOf m))
-  ran = answered-0 fault-of _ (w .ran) (w .run-says .answer) (w .run-ok)
+    abbrev fault-of : Fault
+    fault-of =
+        runFault m
+        (written (w .shares) (w .encoded))
+        (packed (drop k ts))
+        (length (w .values .before))
+        (length (w .outputs .before))
 
-  values-left : w .values .after ≡ over values (w .values .before)
-  values-left =
-      left-0 fault-of raw (w .values .before) (w .values .after) (ran .0) (w .run-says .values)
-      ∙ ap (λ (l : List ℕ). over l (w .values .before)) run-is
+    ran : (passed fault-of ≡ true) × (w .ran .value ≡ wires (tableOf m))
+    ran = answered-0 fault-of _ (w .ran) (w .run-says .answer) (w .run-ok)
 
-  values-count : length values ≡ w .ran .value
-  values-count =
-      values-long isw-lawful o t (plain-passed isw s o plain .plain) xs ts hx ht
-      ∙ ap wires (sym read-back)
-      ∙ sym (ran .1)
+    values-left : w .values .after ≡ over values (w .values .before)
+    values-left =
+        left-0 fault-of raw (w .values .before) (w .values .after) (ran .0) (w .run-says .values)
+        ∙ ap (λ (l : List ℕ). over l (w .values .before)) run-is
 
-  outputs-left : w .outputs .after ≡ over (outputsOf (maskedTable isw o t) values) (w .outputs .before)
-  outputs-left =
-      left-0 fault-of (outputsOf (tableOf m) raw) (w .outputs .before) (w .outputs .after) (ran .0) (w .run-says .outputs)
-      ∙ ap₂ (λ (u : Table) (l : List ℕ). over (outputsOf u l) (w .outputs .before)) read-back run-is
+    values-count : length values ≡ w .ran .value
+    values-count =
+        values-long (lawful a) o t (plain-passed G s o plain .plain) xs ts hx ht
+        ∙ ap wires (sym read-back)
+        ∙ sym (ran .1)
 
-  values-written : written (w .values) (w .ran) ≡ values
-  values-written =
-      ap (take (w .ran .value)) values-left ∙ over-front values (w .values .before) (w .ran .value) values-count
+    outputs-left : w .outputs .after ≡ over (outputsOf (maskedTable G o t) values) (w .outputs .before)
+    outputs-left =
+        left-0 fault-of (outputsOf (tableOf m) raw) (w .outputs .before) (w .outputs .after) (ran .0) (w .run-says .outputs)
+        ∙ ap₂ (λ (u : Table) (l : List ℕ). over (outputsOf u l) (w .outputs .before)) read-back run-is
 
-  read-values :
-      (ps : List ℕ) → allBelow (wires (maskedTable isw o t)) ps ≡ true
-      → readAll (w .values .after) ps ≡ readAll values ps
-  read-values ps h =
-      let long = values-long isw-lawful o t (plain-passed isw s o plain .plain) xs ts hx ht in
-      ap (λ (l : List ℕ). readAll l ps) values-left
-      ∙ read-over values (w .values .before) ps
-      (subst (λ (n : ℕ). All (λ p. p < n) ps) (sym long) (all-below (wires (maskedTable isw o t)) ps h))
+    values-written : written (w .values) (w .ran) ≡ values
+    values-written =
+        ap (take (w .ran .value)) values-left ∙ over-front values (w .values .before) (w .ran .value) values-count
 
-  -- the masked outputs, as the next call takes them
-  masked-outputs : take (word m 4) (w .outputs .after) ≡ outputsOf (maskedTable isw o t) values
-  masked-outputs =
-      ap₂ (λ (k : ℕ) (l : List ℕ). take k l) (ap (λ (l : List ℕ). word l 4) is ∙ outputs-written (maskedTable isw o t)) outputs-left
-      ∙ over-front (outputsOf (maskedTable isw o t) values) (w .outputs .before) _ (read-length values (maskedTable isw o t .outputs))
+    read-values :
+        (ps : List ℕ) → allBelow (wires (maskedTable G o t)) ps ≡ true
+        → readAll (w .values .after) ps ≡ readAll values ps
+    read-values ps h =
+        let long = values-long (lawful a) o t (plain-passed G s o plain .plain) xs ts hx ht in
+        ap (λ (l : List ℕ). readAll l ps) values-left
+        ∙ read-over values (w .values .before) ps
+        (subst (λ (n : ℕ). All (λ p. p < n) ps) (sym long) (all-below (wires (maskedTable G o t)) ps h))
 
-  decoded : written (w .bits) (w .decoded) ≡ outputsOf t (run t xs [])
-  decoded =
-      wrote _ _ (w .bits) (w .decoded) (w .decode-says) (w .decode-ok)
-      ∙ ap (decode o) masked-outputs
-      ∙ computes isw-lawful o t (plain-passed isw s o plain .plain) .same-outputs xs ts hx ht
+    -- the masked outputs, as the next call takes them
+    masked-outputs : take (word m 4) (w .outputs .after) ≡ outputsOf (maskedTable G o t) values
+    masked-outputs =
+        ap₂ (λ (k : ℕ) (l : List ℕ). take k l) (ap (λ (l : List ℕ). word l 4) is ∙ outputs-written (maskedTable G o t)) outputs-left
+        ∙ over-front (outputsOf (maskedTable G o t) values) (w .outputs .before) _ (read-length values (maskedTable G o t .outputs))
 
--- the table written runs as the masked table does, so that as many packed tapes give each pattern
-times-are :
-    (s : List ℕ) (o : ℕ) (m zs ps pattern : List ℕ) → passed (plainFault isw s o) ≡ true
-    → m ≡ tableBytes (maskedTable isw o (tableOf s)) → areSecrets (tableOf s) zs ≡ true
-    → timesRead o m (tapeLong isw o (tableOf s)) zs ps pattern ≡ timesPacked isw single o (tableOf s) zs ps pattern
-times-are s o m zs ps pattern plain is hz =
-    let t = tableOf s in
-    let front : 2 * o * length zs ≡ 2 * o * t .inputs = ap (λ (y : ℕ). 2 * o * y) (secrets-are t zs hz .0) in
-    let run-is : (us : List ℕ)
-    → run (tableOf m) (encode o zs (take (2 * o * length zs) us)) (drop (2 * o * length zs) us) ≡ maskedRun isw o t zs us =
-    λ us.
-    ap₂ (λ (k : ℕ) (l : List ℕ). run (tableOf l) (encode o zs (take k us)) (drop k us)) front is
-    ∙ demands .written-back s o plain .same-run zs us in
-    many-same _ _
-    (λ us. ap₂ (λ (vs qs : List ℕ). same (readAll vs qs) pattern) (run-is (tapeOf (tapeLong isw o t) us)) (sym (each-single ps)))
-    (allPacked (tapeLong isw o t))
+    decoded : written (w .bits) (w .decoded) ≡ outputsOf t (run t xs [])
+    decoded =
+        wrote _ _ (w .bits) (w .decoded) (w .decode-says) (w .decode-ok)
+        ∙ ap (decode o) masked-outputs
+        ∙ computes (lawful a) o t (plain-passed G s o plain .plain) .same-outputs xs ts hx ht
 
--- the law
-pub assurance : Assurance
-assurance s o xs ys ts ps c =
-    let t = tableOf s in
-    let l = tapeLong isw o t in
-    let f =
-    mapFault isw s o xs ys ts ps (length (c .tape .before)) (length (c .one .before)) (length (c .other .before)) in
-    let ok = answered-0 f (freeShare isw (marks isw) o t ps) (c .mapping) (c .map-says .answer) (c .map-ok) .0 in
-    let h = map-good isw s o xs ys ts ps _ _ _ ok in
-    let p = plain-passed isw s o (h .plain) .plain in
-    let m = written (c .table) (c .masked) in
-    let is : m ≡ tableBytes (maskedTable isw o t) =
-    wrote _ _ (c .table) (c .masked) (c .mask-says) (c .mask-ok) in
-    let bs = tapeOf l ts in
-    let ms = mapped isw (marks isw) o t xs ys bs ps in
-    let hides = hides isw-hiding t o (covers-single isw-lawful t o) p in
-    let tape-ms = hides .a-tape xs ys bs ps (h .first) (h .second) (h .tape) (h .probes) in
-    let of-ms = bits-of isw o t ms tape-ms in
-    let same-long : length (packed ms) ≡ length ts =
-    packed-length ms ∙ ap (λ (n : ℕ). bytesFor n) (of-ms .0) ∙ sym (h .long) in
-    let back : take (length ts) (c .tape .after) ≡ packed ms =
-    ap (take (length ts)) (left-0 f (packed ms) (c .tape .before) (c .tape .after) ok (c .map-says .mapped-tape))
-    ∙ over-front (packed ms) (c .tape .before) (length ts) same-long in
-    let us : tapeOf l (take (length ts) (c .tape .after)) ≡ ms = ap (tapeOf l) back ∙ tape-again l ms of-ms in
-    let tape-us : isTape isw o t (tapeOf l (take (length ts) (c .tape .after))) ≡ true =
-    subst (λ (v : List ℕ). isTape isw o t v ≡ true) (sym us) tape-ms in
-    let below = and-true (leb (length ps) o) (allBelow (wires (maskedTable isw o t)) ps) (h .probes) .1 in
-    let us-run = ap (maskedRun isw o t ys) us in
-    let fill : (b : Lent) (vs : List ℕ) (n : ℕ) → b .after ≡ afterCall f vs (b .before) → length vs ≡ n → take n (b .after) ≡ vs =
-    λ b vs n e long. ap (take n) (left-0 f vs (b .before) (b .after) ok e) ∙ over-front vs (b .before) n long in
-    record {
-      same-read =
-          read-values s o (h .plain) m ys _ is (h .second) tape-us (c .second) ps below
-          ∙ ap (λ (v : List ℕ). readAll v ps) us-run
-          ∙ subst (λ (qs : List ℕ). readAll (maskedRun isw o t ys ms) qs ≡ readAll (maskedRun isw o t xs bs) qs) (each-single ps)
-          (hides .same-read xs ys bs ps (h .first) (h .second) (h .tape) (h .probes))
-          ∙ sym (read-values s o (h .plain) m xs bs is (h .first) (h .tape) (c .first) ps below);
-      as-many = λ pattern.
-          times-are s o m xs ps pattern (h .plain) is (h .first)
-          ∙ hides-packed hides .as-many xs ys ps pattern (h .first) (h .second) (h .probes)
-          ∙ sym (times-are s o m ys ps pattern (h .plain) is (h .second));
-      first-run =
-          fill (c .one) (maskedRun isw o t xs bs) _ (c .map-says .first-run)
-          (values-count s o (h .plain) m xs bs is (h .first) (h .tape) (c .first))
-          ∙ sym (values-written s o (h .plain) m xs bs is (h .first) (h .tape) (c .first));
-      second-run =
-          fill (c .other) (maskedRun isw o t ys ms) _ (c .map-says .second-run)
-          (ap length (sym us-run) ∙ values-count s o (h .plain) m ys _ is (h .second) tape-us (c .second))
-          ∙ sym us-run
-          ∙ sym (values-written s o (h .plain) m ys _ is (h .second) tape-us (c .second));
-      first-decoded = decoded s o (h .plain) m xs bs is (h .first) (h .tape) (c .first);
-      second-decoded = decoded s o (h .plain) m ys _ is (h .second) tape-us (c .second);
-    }
+  -- the table written runs as the masked table does, so that as many packed tapes give each pattern
+  times-are :
+      (s : List ℕ) (o : ℕ) (m zs ps pattern : List ℕ) → passed (plainFault G s o) ≡ true
+      → m ≡ tableBytes (maskedTable G o (tableOf s)) → areSecrets (tableOf s) zs ≡ true
+      → timesRead o m (tapeLong G o (tableOf s)) zs ps pattern ≡ timesPacked G single o (tableOf s) zs ps pattern
+  times-are s o m zs ps pattern plain is hz =
+      let t = tableOf s in
+      let front : 2 * o * length zs ≡ 2 * o * t .inputs = ap (λ (y : ℕ). 2 * o * y) (secrets-are t zs hz .0) in
+      let run-is : (us : List ℕ)
+      → run (tableOf m) (encode o zs (take (2 * o * length zs) us)) (drop (2 * o * length zs) us) ≡ maskedRun G o t zs us =
+      λ us.
+      ap₂ (λ (k : ℕ) (l : List ℕ). run (tableOf l) (encode o zs (take k us)) (drop k us)) front is
+      ∙ demands a .written-back s o plain .same-run zs us in
+      many-same _ _
+      (λ us. ap₂ (λ (vs qs : List ℕ). same (readAll vs qs) pattern) (run-is (tapeOf (tapeLong G o t) us)) (sym (each-single ps)))
+      (allPacked (tapeLong G o t))
+
+  -- the law
+  pub assurance : Assurance G
+  assurance s o xs ys ts ps c =
+      let t = tableOf s in
+      let l = tapeLong G o t in
+      let f =
+      mapFault G s o xs ys ts ps (length (c .tape .before)) (length (c .one .before)) (length (c .other .before)) in
+      let ok = answered-0 f (freeShare G (marks G) o t ps) (c .mapping) (c .map-says .answer) (c .map-ok) .0 in
+      let h = map-good G s o xs ys ts ps _ _ _ ok in
+      let p = plain-passed G s o (h .plain) .plain in
+      let m = written (c .table) (c .masked) in
+      let is : m ≡ tableBytes (maskedTable G o t) =
+      wrote _ _ (c .table) (c .masked) (c .mask-says) (c .mask-ok) in
+      let bs = tapeOf l ts in
+      let ms = mapped G (marks G) o t xs ys bs ps in
+      let hides = hides (hiding a) t o (covers-single (lawful a) t o) p in
+      let tape-ms = hides .a-tape xs ys bs ps (h .first) (h .second) (h .tape) (h .probes) in
+      let of-ms = bits-of G o t ms tape-ms in
+      let same-long : length (packed ms) ≡ length ts =
+      packed-length ms ∙ ap (λ (n : ℕ). bytesFor n) (of-ms .0) ∙ sym (h .long) in
+      let back : take (length ts) (c .tape .after) ≡ packed ms =
+      ap (take (length ts)) (left-0 f (packed ms) (c .tape .before) (c .tape .after) ok (c .map-says .mapped-tape))
+      ∙ over-front (packed ms) (c .tape .before) (length ts) same-long in
+      let us : tapeOf l (take (length ts) (c .tape .after)) ≡ ms = ap (tapeOf l) back ∙ tape-again l ms of-ms in
+      let tape-us : isTape G o t (tapeOf l (take (length ts) (c .tape .after))) ≡ true =
+      subst (λ (v : List ℕ). isTape G o t v ≡ true) (sym us) tape-ms in
+      let below = and-true (leb (length ps) o) (allBelow (wires (maskedTable G o t)) ps) (h .probes) .1 in
+      let us-run = ap (maskedRun G o t ys) us in
+      let fill : (b : Lent) (vs : List ℕ) (n : ℕ) → b .after ≡ afterCall f vs (b .before) → length vs ≡ n → take n (b .after) ≡ vs =
+      λ b vs n e long. ap (take n) (left-0 f vs (b .before) (b .after) ok e) ∙ over-front vs (b .before) n long in
+      record {
+        same-read =
+            read-values s o (h .plain) m ys _ is (h .second) tape-us (c .second) ps below
+            ∙ ap (λ (v : List ℕ). readAll v ps) us-run
+            ∙ subst (λ (qs : List ℕ). readAll (maskedRun G o t ys ms) qs ≡ readAll (maskedRun G o t xs bs) qs) (each-single ps)
+            (hides .same-read xs ys bs ps (h .first) (h .second) (h .tape) (h .probes))
+            ∙ sym (read-values s o (h .plain) m xs bs is (h .first) (h .tape) (c .first) ps below);
+        as-many = λ pattern.
+            times-are s o m xs ps pattern (h .plain) is (h .first)
+            ∙ hides-packed hides .as-many xs ys ps pattern (h .first) (h .second) (h .probes)
+            ∙ sym (times-are s o m ys ps pattern (h .plain) is (h .second));
+        first-run =
+            fill (c .one) (maskedRun G o t xs bs) _ (c .map-says .first-run)
+            (values-count s o (h .plain) m xs bs is (h .first) (h .tape) (c .first))
+            ∙ sym (values-written s o (h .plain) m xs bs is (h .first) (h .tape) (c .first));
+        second-run =
+            fill (c .other) (maskedRun G o t ys ms) _ (c .map-says .second-run)
+            (ap length (sym us-run) ∙ values-count s o (h .plain) m ys _ is (h .second) tape-us (c .second))
+            ∙ sym us-run
+            ∙ sym (values-written s o (h .plain) m ys _ is (h .second) tape-us (c .second));
+        first-decoded = decoded s o (h .plain) m xs bs is (h .first) (h .tape) (c .first);
+        second-decoded = decoded s o (h .plain) m ys _ is (h .second) tape-us (c .second);
+      }

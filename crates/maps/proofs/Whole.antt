@@ -16,11 +16,12 @@ use Rattle.tables.proofs.Tests.{and-true}
 use Rattle.tables.proofs.Lists.{All, all-append, all-map}
 use Rattle.tables.proofs.Accept.{Plain, accepted-plain}
 use Rattle.masks.specs.Shares.{sharesOf}
-use Rattle.masks.specs.Gadgets.{isIn, Gadget, isw}
+use Rattle.masks.specs.declared.And as DAnd
+use Rattle.masks.specs.Gadgets.{isIn, Gadget, gadgetOf}
 use Rattle.masks.specs.Wires.{Origin, marks, maskedTable, origins, tapeLong, inputShare}
 use Rattle.masks.specs.Codes.{maskedRun}
 use Rattle.masks.specs.Says.{orderOk, originAt}
-use Rattle.masks.proofs.Lawful.{Lawful, isw-lawful}
+use Rattle.masks.proofs.Lawful.{Lawful, lawful}
 use Rattle.masks.proofs.Each.{each-at}
 use Rattle.maps.specs.Maps.{ofEach, single, carried, freeShare, mappedAt, mapped}
 use Rattle.maps.specs.Claims.{accepted, isTape, areSecrets, areProbes, allBelow, same, Hides, Demands}
@@ -30,7 +31,7 @@ use Rattle.maps.proofs.Bits.{all-below}
 use Rattle.maps.proofs.Count.{BitsOf, of-bits, bits-of, tapes, once, same-count}
 use Rattle.maps.proofs.Packed.{packs, hides-packed}
 use Rattle.maps.proofs.Free.{carriedCount, free-laws, few-carried, marks-two, uncarried-each}
-use Rattle.masks.proofs.Hiding.{Hiding, isw-hiding}
+use Rattle.masks.proofs.Hiding.{Hiding, hiding}
 use Rattle.maps.proofs.TwoRuns.{two-runs, mapped-tape, mapped-back}
 use Rattle.maps.proofs.Kept.{all-kept}
 use Rattle.maps.proofs.Computing.{computes}
@@ -146,30 +147,31 @@ accepted-is s o h =
     let a = and-true (passed (tableFault s)) (orderOk o && passed (randomFault 0 (tableOf s .gates))) h in
     accepted-plain s (a .0) (and-true (orderOk o) _ (a .1) .1)
 
--- demands 2 and 3
-pub demands : Demands
-demands =
-    record {
-      second = λ s o h. computes (isw-hiding .lawful) o (tableOf s) (accepted-is s o h);
-      third = λ s o h. hides isw-hiding (tableOf s) o (covers-single isw-lawful (tableOf s) o) (accepted-is s o h);
-      written-back = written;
-    }
+-- for every AND that there is: demands 2 and 3
+module _ (a : DAnd.And) where
+  pub demands : Demands (gadgetOf a)
+  demands =
+      record {
+        second = λ s o h. computes (lawful a) o (tableOf s) (accepted-is s o h);
+        third = λ s o h. hides (hiding a) (tableOf s) o (covers-single (lawful a) (tableOf s) o) (accepted-is s o h);
+        written-back = written (lawful a);
+      }
 
--- demand 3 for packed tapes
-pub packed-demands : PackedDemands
-packed-demands = record { one-to-one = packs; third = λ s o h. hides-packed (demands .third s o h) }
+  -- demand 3 for packed tapes
+  pub packed-demands : PackedDemands (gadgetOf a)
+  packed-demands = record { one-to-one = packs; third = λ s o h. hides-packed (demands .third s o h) }
 
--- the counts decide the forecast
-pub decides : CountsDecide isw
-decides = counts-decide isw-lawful
+  -- the counts decide the forecast
+  pub decides : CountsDecide (gadgetOf a)
+  decides = counts-decide (lawful a)
 
--- the further laws
-pub laws : Laws
-laws =
-    record {
-      sized = λ s o h. sized (isw-hiding .lawful) o (tableOf s) (accepted-is s o h);
-      free = λ s o ps h hp. free-of isw-hiding (tableOf s) o (covers-single isw-lawful (tableOf s) o) (accepted-is s o h) ps hp;
-      two-runs = λ s o k h. two-runs (isw-hiding .lawful) (isw-hiding .unflipped) (tableOf s) o k (accepted-is s o h);
-      tapes = tapes;
-      once = once;
-    }
+  -- the further laws
+  pub laws : Laws (gadgetOf a)
+  laws =
+      record {
+        sized = λ s o h. sized (lawful a) o (tableOf s) (accepted-is s o h);
+        free = λ s o ps h hp. free-of (hiding a) (tableOf s) o (covers-single (lawful a) (tableOf s) o) (accepted-is s o h) ps hp;
+        two-runs = λ s o k h. two-runs (lawful a) (hiding a .unflipped) (tableOf s) o k (accepted-is s o h);
+        tapes = tapes;
+        once = once;
+      }

@@ -13,11 +13,11 @@ use Rattle.tables.specs.Runs.{run, randoms}
 use Rattle.tables.proofs.Accept.{Plain}
 use Rattle.tables.proofs.Format.{Sound, SoundGates, table-long, read-back, written-passes}
 use Rattle.masks.specs.Shares.{sharesOf}
-use Rattle.masks.specs.Gadgets.{Gadget, isw}
+use Rattle.masks.specs.Gadgets.{Gadget}
 use Rattle.masks.specs.Wires.{originOf, inputOrigins, maskedWires, maskedTable, origins, tapeLong}
 use Rattle.masks.specs.Codes.{encode, maskedRun}
 use Rattle.masks.specs.Says.{plainFault}
-use Rattle.masks.proofs.Lawful.{Lawful, isw-lawful}
+use Rattle.masks.proofs.Lawful.{Lawful}
 use Rattle.masks.proofs.Costs.{masked-length, masked-wires, masked-tape, input-origins-length}
 use Rattle.masks.proofs.Placed.{placed-inputs, masked-outputs, masked-sound}
 use Rattle.masks.proofs.Passed.{plain-passed}
@@ -71,15 +71,15 @@ module _ {G : Gadget} (L : Lawful G) (o : ℕ) (t : Table) (P : Plain t) where
         outputs = masked-outputs G o t P .1;
       }
 
-pub written : (s : List ℕ) (o : ℕ) → passed (plainFault isw s o) ≡ true → WrittenBack s o
+pub written : {G : Gadget} → Lawful G → (s : List ℕ) (o : ℕ) → passed (plainFault G s o) ≡ true → WrittenBack G s o
 unfolding tapeLong maskedRun
-written s o h =
+written {G} L s o h =
     let t = tableOf s in
-    let p = plain-passed isw s o h in
-    let sound = masked-table-sound isw-lawful o t (p .plain) (p .few-wires) (p .few-outputs) in
-    let same = read-back (maskedTable isw o t) sound in
+    let p = plain-passed G s o h in
+    let sound = masked-table-sound L o t (p .plain) (p .few-wires) (p .few-outputs) in
+    let same = read-back (maskedTable G o t) sound in
     record {
-      unrefused = written-passes (maskedTable isw o t) sound;
+      unrefused = written-passes (maskedTable G o t) sound;
       read-back = same;
       tape = ap (λ (m : Table). 2 * o * t .inputs + randoms (m .gates)) (sym same);
       same-run = λ xs ts.

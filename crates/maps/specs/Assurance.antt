@@ -1,7 +1,7 @@
 -- What the calls themselves do, as one law: whatever buffers and answers masking, mapping, encoding, running and decoding leave,
 -- if each was made as below and answered 0, then the probed wires have the same values in both runs, and in the runs of the
 -- table that masking wrote as many packed tapes give each pattern of values for the one secret as for the other.
--- Nothing is said here of how the calls work: only their promises are used.
+-- Nothing is said here of how the calls work: only their promises are used, of masking and mapping those with the same gadget G.
 -- Assumes nothing.
 use mathlib.Core.Path.{_≡_}
 use mathlib.Core.List.{List, []}
@@ -12,7 +12,7 @@ use Rattle.tables.specs.Tables.{tableOf, word}
 use Rattle.tables.specs.Runs.{run, readAll, outputsOf}
 use Rattle.tables.specs.Packing.{packed, tapeOf}
 use Rattle.tables.specs.Says.{RunSays}
-use Rattle.masks.specs.Gadgets.{isw}
+use Rattle.masks.specs.Gadgets.{Gadget}
 use Rattle.masks.specs.Wires.{marks, tapeLong}
 use Rattle.masks.specs.Codes.{encode}
 use Rattle.masks.specs.Says.{MaskSays, EncodeSays, DecodeSays}
@@ -57,17 +57,17 @@ pub record Way (o : ℕ) (m xs ts : List ℕ) : Type 0 where
 
 -- the calls: masking wrote m; mapping wrote the mapped tape and both runs; each secret went its way, y with the mapped tape.
 -- "the map takes the whole tape as one"
-pub record Calls (s : List ℕ) (o : ℕ) (xs ys ts ps : List ℕ) : Type 0 where
+pub record Calls (G : Gadget) (s : List ℕ) (o : ℕ) (xs ys ts ps : List ℕ) : Type 0 where
   pub table : Lent
   pub masked : DA.Answer
-  pub mask-says : MaskSays isw s o (table .before) (table .after) masked
+  pub mask-says : MaskSays G s o (table .before) (table .after) masked
   pub mask-ok : masked .number ≡ 0
   pub tape : Lent
   pub one : Lent
   pub other : Lent
   pub mapping : DA.Answer
   pub map-says :
-      MapSays isw (marks isw) s o xs ys ts ps
+      MapSays G (marks G) s o xs ys ts ps
       (tape .before)
       (tape .after)
       (one .before)
@@ -76,8 +76,8 @@ pub record Calls (s : List ℕ) (o : ℕ) (xs ys ts ps : List ℕ) : Type 0 wher
       (other .after)
       mapping
   pub map-ok : mapping .number ≡ 0
-  pub first : Way o (written table masked) xs (tapeOf (tapeLong isw o (tableOf s)) ts)
-  pub second : Way o (written table masked) ys (tapeOf (tapeLong isw o (tableOf s)) (take (length ts) (tape .after)))
+  pub first : Way o (written table masked) xs (tapeOf (tapeLong G o (tableOf s)) ts)
+  pub second : Way o (written table masked) ys (tapeOf (tapeLong G o (tableOf s)) (take (length ts) (tape .after)))
 
 -- how many of the packed tapes of l bits give a pattern where ps are read in the run of the table m on the secret xs: encoded
 -- with the front of the tape's bits, run with the rest
@@ -89,14 +89,14 @@ timesRead o m l xs ps pattern =
     (allPacked l)
 
 -- what then holds of the bytes that the calls left
-pub record Assured (s : List ℕ) (o : ℕ) (xs ys ts ps : List ℕ) (c : Calls s o xs ys ts ps) : Type 0 where
+pub record Assured (G : Gadget) (s : List ℕ) (o : ℕ) (xs ys ts ps : List ℕ) (c : Calls G s o xs ys ts ps) : Type 0 where
   -- each of the probed wires has the same value in both runs
   pub same-read : readAll (c .second .values .after) ps ≡ readAll (c .first .values .after) ps
   -- "each pattern comes from as many tapes for one key as for the other", in the runs of the table that masking wrote
   pub as-many :
       (pattern : List ℕ)
-      → timesRead o (written (c .table) (c .masked)) (tapeLong isw o (tableOf s)) xs ps pattern
-      ≡ timesRead o (written (c .table) (c .masked)) (tapeLong isw o (tableOf s)) ys ps pattern
+      → timesRead o (written (c .table) (c .masked)) (tapeLong G o (tableOf s)) xs ps pattern
+      ≡ timesRead o (written (c .table) (c .masked)) (tapeLong G o (tableOf s)) ys ps pattern
   -- the buffers that mapping filled are those two runs
   pub first-run : take (c .first .ran .value) (c .one .after) ≡ written (c .first .values) (c .first .ran)
   pub second-run : take (c .second .ran .value) (c .other .after) ≡ written (c .second .values) (c .second .ran)
@@ -105,5 +105,6 @@ pub record Assured (s : List ℕ) (o : ℕ) (xs ys ts ps : List ℕ) (c : Calls 
   pub second-decoded : written (c .second .bits) (c .second .decoded) ≡ outputsOf (tableOf s) (run (tableOf s) ys [])
 
 -- for all of them
-abbrev pub Assurance : Type 0
-Assurance = (s : List ℕ) (o : ℕ) (xs ys ts ps : List ℕ) (c : Calls s o xs ys ts ps) → Assured s o xs ys ts ps c
+abbrev pub Assurance : Gadget → Type 0
+Assurance G =
+    (s : List ℕ) (o : ℕ) (xs ys ts ps : List ℕ) (c : Calls G s o xs ys ts ps) → Assured G s o xs ys ts ps c

@@ -1,5 +1,5 @@
--- Demands 2 and 3 for every accepted table, order, secrets, tape and probe list. The statements only; proofs/ has the
--- proofs.
+-- Demands 2 and 3 for every accepted table, order, secrets, tape and probe list, of a gadget G. The statements only; proofs/ has
+-- the proofs, for both ANDs.
 -- Assumes nothing.
 use mathlib.Core.Path.{_≡_}
 use mathlib.Core.Bool.{Bool, true, false, _&&_, cond}
@@ -10,7 +10,7 @@ use lib.ListN.{length, take, drop}
 use Rattle.tables.specs.Refusals.{none, passed}
 use Rattle.tables.specs.Tables.{Table, wires, tableOf, tableBytes, tableFault, randomFault}
 use Rattle.tables.specs.Runs.{run, readAll, outputsOf, randoms}
-use Rattle.masks.specs.Gadgets.{Gadget, isw}
+use Rattle.masks.specs.Gadgets.{Gadget}
 use Rattle.masks.specs.Wires.{Origin, marks, maskedTable, tapeLong}
 use Rattle.masks.specs.Codes.{encode, decode, maskedRun}
 use Rattle.masks.specs.Says.{orderOk, plainFault}
@@ -97,23 +97,23 @@ pub record Hides (G : Gadget) (mk : Origin → List ℕ) (rd : ℕ → List ℕ)
       → timesGiven G rd o t xs ps pattern ≡ timesGiven G rd o t ys ps pattern
 
 -- what masking writes reads back as the masked table, which is accepted and has a tape bit for each random gate
-pub record WrittenBack (s : List ℕ) (o : ℕ) : Type 0 where
-  pub unrefused : tableFault (tableBytes (maskedTable isw o (tableOf s))) ≡ none
-  pub read-back : tableOf (tableBytes (maskedTable isw o (tableOf s))) ≡ maskedTable isw o (tableOf s)
+pub record WrittenBack (G : Gadget) (s : List ℕ) (o : ℕ) : Type 0 where
+  pub unrefused : tableFault (tableBytes (maskedTable G o (tableOf s))) ≡ none
+  pub read-back : tableOf (tableBytes (maskedTable G o (tableOf s))) ≡ maskedTable G o (tableOf s)
   pub tape :
-      tapeLong isw o (tableOf s)
-      ≡ 2 * o * tableOf s .inputs + randoms (tableOf (tableBytes (maskedTable isw o (tableOf s))) .gates)
+      tapeLong G o (tableOf s)
+      ≡ 2 * o * tableOf s .inputs + randoms (tableOf (tableBytes (maskedTable G o (tableOf s))) .gates)
   -- demands 2 and 3 are of the bytes written: the table read back runs as the masked table does
   pub same-run :
       (xs ts : List ℕ)
       → run
-      (tableOf (tableBytes (maskedTable isw o (tableOf s))))
+      (tableOf (tableBytes (maskedTable G o (tableOf s))))
       (encode o xs (take (2 * o * tableOf s .inputs) ts))
       (drop (2 * o * tableOf s .inputs) ts)
-      ≡ maskedRun isw o (tableOf s) xs ts
+      ≡ maskedRun G o (tableOf s) xs ts
 
 -- the demands, for every table and order
-pub record Demands : Type 0 where
-  pub second : (s : List ℕ) (o : ℕ) → accepted s o ≡ true → Computes isw (tableOf s) o
-  pub third : (s : List ℕ) (o : ℕ) → accepted s o ≡ true → Hides isw (marks isw) single (tableOf s) o
-  pub written-back : (s : List ℕ) (o : ℕ) → passed (plainFault isw s o) ≡ true → WrittenBack s o
+pub record Demands (G : Gadget) : Type 0 where
+  pub second : (s : List ℕ) (o : ℕ) → accepted s o ≡ true → Computes G (tableOf s) o
+  pub third : (s : List ℕ) (o : ℕ) → accepted s o ≡ true → Hides G (marks G) single (tableOf s) o
+  pub written-back : (s : List ℕ) (o : ℕ) → passed (plainFault G s o) ≡ true → WrittenBack G s o

@@ -11,7 +11,7 @@ use lib.ListN.{length, getD}
 use Rattle.tables.specs.Tables.{AND, Table, wires, tableOf, tableBytes, tableLong, total, Gate}
 use Rattle.tables.specs.Counted.{countsOf}
 use Rattle.masks.specs.Shares.{sharesOf}
-use Rattle.masks.specs.Gadgets.{isIn, Gadget, isw}
+use Rattle.masks.specs.Gadgets.{isIn, Gadget}
 use Rattle.masks.specs.Wires.{marks, cost, draws, maskedTable, origins, tapeLong, newShares, inputShares}
 use Rattle.masks.specs.declared.Sizes as DS
 use Rattle.masks.specs.Codes.{maskedRun}
@@ -77,15 +77,15 @@ pub record TwoRuns (G : Gadget) (t : Table) (o k : ℕ) : Type 0 where
       (xs ts : List ℕ) → areSecrets t xs ≡ true → isTape G o t ts ≡ true → mappedAt G o t k xs xs ts ≡ ts
 
 -- further laws of every accepted table
-pub record Laws : Type 0 where
-  pub sized : (s : List ℕ) (o : ℕ) → accepted s o ≡ true → ClosedSizes isw (tableOf s) o
+pub record Laws (G : Gadget) : Type 0 where
+  pub sized : (s : List ℕ) (o : ℕ) → accepted s o ≡ true → ClosedSizes G (tableOf s) o
   pub free :
-      (s : List ℕ) (o : ℕ) (ps : List ℕ) → accepted s o ≡ true → areProbes isw o (tableOf s) ps ≡ true
+      (s : List ℕ) (o : ℕ) (ps : List ℕ) → accepted s o ≡ true → areProbes G o (tableOf s) ps ≡ true
       → Free
       (sharesOf o)
-      (carried (marks isw) (origins isw o (tableOf s)) ps)
-      (freeShare isw (marks isw) o (tableOf s) ps)
-  pub two-runs : (s : List ℕ) (o k : ℕ) → accepted s o ≡ true → TwoRuns isw (tableOf s) o k
+      (carried (marks G) (origins G o (tableOf s)) ps)
+      (freeShare G (marks G) o (tableOf s) ps)
+  pub two-runs : (s : List ℕ) (o k : ℕ) → accepted s o ≡ true → TwoRuns G (tableOf s) o k
   -- "all those that neither 10 nor 11 refuses": `allTapes` has nothing but lists of n bits, and each of them exactly once
   pub tapes : (n : ℕ) → howMany (λ ts. eqb (length ts) n && allBits ts) (allTapes n) ≡ length (allTapes n)
   pub once :

@@ -10,7 +10,7 @@ use lib.ListN.{length}
 use Rattle.tables.specs.Packing.{bytesFor, packed, tapeOf, spare}
 use Rattle.tables.specs.Tables.{Table, tableOf}
 use Rattle.tables.specs.Runs.{readAll}
-use Rattle.masks.specs.Gadgets.{Gadget, isw}
+use Rattle.masks.specs.Gadgets.{Gadget}
 use Rattle.masks.specs.Wires.{Origin, marks, tapeLong}
 use Rattle.masks.specs.Codes.{maskedRun}
 use Rattle.maps.specs.Maps.{ofEach, single, mapped}
@@ -73,6 +73,6 @@ pub record HidesPacked (G : Gadget) (mk : Origin → List ℕ) (rd : ℕ → Lis
       → timesPacked G rd o t xs ps pattern ≡ timesPacked G rd o t ys ps pattern
 
 -- for every table and order
-pub record PackedDemands : Type 0 where
+pub record PackedDemands (G : Gadget) : Type 0 where
   pub one-to-one : Packs
-  pub third : (s : List ℕ) (o : ℕ) → accepted s o ≡ true → HidesPacked isw (marks isw) single (tableOf s) o
+  pub third : (s : List ℕ) (o : ℕ) → accepted s o ≡ true → HidesPacked G (marks G) single (tableOf s) o

@@ -2,7 +2,7 @@
 -- gadget; another AND enters by its laws alone.
 -- Assumes nothing.
 use mathlib.Core.Path.{_≡_, refl, sym, ap, _∙_}
-use mathlib.Core.List.{[], _∷_, map}
+use mathlib.Core.List.{List, [], _∷_, map}
 use Prim.Native.Nat.{ℕ, suc, _+_, _*_, _%_, _≤_, _<_}
 use native.Mathlib.Omega.{arith}
 use mathlib.Core.Bool.{true, _&&_}
@@ -13,13 +13,17 @@ use Rattle.tables.specs.Runs.{randoms, xor}
 use Rattle.tables.proofs.Tests.{and-intro}
 use Rattle.tables.proofs.Run.{Solves}
 use Rattle.tables.proofs.Format.{SoundGates}
-use Rattle.masks.specs.Gadgets.{Five, first, second, third, fourth, fifth, allFive, indexOf, Gadget, isw}
-use Rattle.tables.specs.Tables.{total}
+use Rattle.masks.specs.declared.And as DAnd
+use Rattle.masks.specs.declared.And.the-variants.{Isw, Dom}
+use Rattle.masks.specs.Gadgets.{Five, first, second, third, fourth, fifth, allFive, indexOf, Gadget, isw, dom, gadgetOf}
+use Rattle.tables.specs.Tables.{XOR, AND, RANDOM, Gate, gate, total, kindBytes}
 
 pub both-below : (l r w : ℕ) → l < w → r < w → ltb l w && ltb r w ≡ true
 both-below l r w h k = and-intro (ltb l w) (ltb r w) (lt-ltb l w h) (lt-ltb r w k)
 
 pub record Lawful (G : Gadget) : Type 0 where
+  -- the kinds of a pair's wires: random, AND, XOR, AND, XOR
+  pub kinds : (w ai bj aj bi : ℕ) → kindBytes (map (G .gates w ai bj aj bi) allFive) ≡ 3 ∷ 2 ∷ 1 ∷ 2 ∷ 1 ∷ []
   -- a pair draws one random bit
   pub one-random : (w ai bj aj bi : ℕ) → randoms (map (G .gates w ai bj aj bi) allFive) ≡ 1
   -- its gates pass the checks of a table
@@ -34,65 +38,78 @@ pub record Lawful (G : Gadget) : Type 0 where
   pub low-mark : (i j : ℕ) → G .marks i j (G .low) ≡ i ∷ []
   pub high-mark : (i j : ℕ) → G .marks i j (G .high) ≡ j ∷ []
 
-isw-one-random : (w ai bj aj bi : ℕ) → randoms (map (isw .gates w ai bj aj bi) allFive) ≡ 1
-unfolding total
-isw-one-random w ai bj aj bi = refl
+-- the gates of a pair where the third wire is l ⊕ r and the fifth is l′ ⊕ r′
+abbrev pub pairOn : ℕ → ℕ → ℕ → ℕ → ℕ → ℕ → ℕ → ℕ → List Gate
+pairOn ai bj aj bi l r l′ r′ =
+    gate RANDOM 0 0 ∷ gate AND ai bj ∷ gate XOR l r ∷ gate AND aj bi ∷ gate XOR l′ r′ ∷ []
 
-isw-sound :
-    (w ai bj aj bi : ℕ) → ai < w → bj < w → aj < w → bi < w → SoundGates w (map (isw .gates w ai bj aj bi) allFive)
+pair-sound :
+    (w ai bj aj bi l r l′ r′ : ℕ) → ai < w → bj < w → aj < w → bi < w → l < w + 2 → r < w + 2 → l′ < w + 4 → r′ < w + 4
+    → SoundGates w (pairOn ai bj aj bi l r l′ r′)
 unfolding SoundGates
-isw-sound w ai bj aj bi p q x y = (
+pair-sound w ai bj aj bi l r l′ r′ p q x y hl hr hl′ hr′ = (
   (refl, refl),
   (
     (refl, both-below ai bj (suc w) (omega arith) (omega arith)),
     (
-      (refl, both-below w (w + 1) (suc (suc w)) (omega arith) (omega arith)),
+      (refl, both-below l r (suc (suc w)) (omega arith) (omega arith)),
       (
         (refl, both-below aj bi (suc (suc (suc w))) (omega arith) (omega arith)),
-        ((refl, both-below (w + 2) (w + 3) (suc (suc (suc (suc w)))) (omega arith) (omega arith)), tt),
+        ((refl, both-below l′ r′ (suc (suc (suc (suc w)))) (omega arith) (omega arith)), tt),
       ),
     ),
   ),
 )
 
--- the values of a pair's five wires
-pub record IswValues (w c ai bj aj bi : ℕ) (r v : ℕ → ℕ) : Type 0 where
-  pub low : v (w + 0) ≡ r c
+-- the values of its five wires
+pub record PairValues (w c ai bj aj bi l r l′ r′ : ℕ) (rs v : ℕ → ℕ) : Type 0 where
+  pub random : v w ≡ rs c
   pub cross : v (w + 1) ≡ v ai * v bj
-  pub mixed : v (w + 2) ≡ xor (v (w + 0)) (v (w + 1))
+  pub third : v (w + 2) ≡ xor (v l) (v r)
   pub back : v (w + 3) ≡ v aj * v bi
-  pub high : v (w + 4) ≡ xor (v (w + 2)) (v (w + 3))
+  pub fifth : v (w + 4) ≡ xor (v l′) (v r′)
 
-pub isw-values :
-    (w c ai bj aj bi : ℕ) (r v : ℕ → ℕ) → Solves w c (map (isw .gates w ai bj aj bi) allFive) r v
-    → IswValues w c ai bj aj bi r v
+pub pair-values :
+    {w c ai bj aj bi l r l′ r′ : ℕ} {rs v : ℕ → ℕ} → Solves w c (pairOn ai bj aj bi l r l′ r′) rs v
+    → PairValues w c ai bj aj bi l r l′ r′ rs v
 unfolding Solves
-isw-values w c ai bj aj bi r v s =
-    let e0 : v (w + 0) ≡ v w = ap v {x = w + 0} {y = w} (omega arith) in
-    let e1 : v (w + 1) ≡ v (suc w) = ap v {x = w + 1} {y = suc w} (omega arith) in
-    let e2 : v (w + 2) ≡ v (suc (suc w)) = ap v {x = w + 2} {y = suc (suc w)} (omega arith) in
-    let e3 : v (w + 3) ≡ v (suc (suc (suc w))) = ap v {x = w + 3} {y = suc (suc (suc w))} (omega arith) in
-    let e4 : v (w + 4) ≡ v (suc (suc (suc (suc w)))) = ap v {x = w + 4} {y = suc (suc (suc (suc w)))} (omega arith) in
+pair-values {w} {v = v} s =
     record {
-      low = e0 ∙ s .0;
-      cross = e1 ∙ s .1 .0;
-      mixed = e2 ∙ s .1 .1 .0 ∙ ap (λ (y : ℕ). xor y (v (w + 1))) (sym e0);
-      back = e3 ∙ s .1 .1 .1 .0;
-      high = e4 ∙ s .1 .1 .1 .1 .0;
+      random = s .0;
+      cross = ap v {x = w + 1} {y = suc w} (omega arith) ∙ s .1 .0;
+      third = ap v {x = w + 2} {y = suc (suc w)} (omega arith) ∙ s .1 .1 .0;
+      back = ap v {x = w + 3} {y = suc (suc (suc w))} (omega arith) ∙ s .1 .1 .1 .0;
+      fifth = ap v {x = w + 4} {y = suc (suc (suc (suc w)))} (omega arith) ∙ s .1 .1 .1 .1 .0;
     }
 
 isw-adds :
     (w c ai bj aj bi : ℕ) (r v : ℕ → ℕ) → ((p : ℕ) → v p ≤ 1) → Solves w c (map (isw .gates w ai bj aj bi) allFive) r v
     → (v (w + 0) + v (w + 4)) % 2 ≡ (v ai * v bj + v aj * v bi) % 2
 isw-adds w c ai bj aj bi r v b s =
-    let x = isw-values w c ai bj aj bi r v s in
-    go (v (w + 0)) (v (w + 1)) (v (w + 2)) (v (w + 3)) (v (w + 4)) (v ai * v bj) (v aj * v bi)
+    let x = pair-values s in
+    go (v (w + 0)) (v w) (v (w + 1)) (v (w + 2)) (v (w + 3)) (v (w + 4)) (v ai * v bj) (v aj * v bi)
+    (ap v {x = w + 0} {y = w} (omega arith))
     (x .cross)
-    (x .mixed)
+    (x .third)
     (x .back)
-    (x .high)
+    (x .fifth)
   where
-    go : (z p m q h s t : ℕ) → p ≡ s → m ≡ xor z p → q ≡ t → h ≡ xor m q → (z + h) % 2 ≡ (s + t) % 2
+    go :
+        (y z p m q h s t : ℕ) → y ≡ z → p ≡ s → m ≡ xor z p → q ≡ t → h ≡ xor m q → (y + h) % 2 ≡ (s + t) % 2
+    go y z p m q h s t o a b c d = omega arith
+
+dom-adds :
+    (w c ai bj aj bi : ℕ) (r v : ℕ → ℕ) → ((p : ℕ) → v p ≤ 1) → Solves w c (map (dom .gates w ai bj aj bi) allFive) r v
+    → (v (w + 2) + v (w + 4)) % 2 ≡ (v ai * v bj + v aj * v bi) % 2
+dom-adds w c ai bj aj bi r v b s =
+    let x = pair-values s in
+    go (v w) (v (w + 1)) (v (w + 2)) (v (w + 3)) (v (w + 4)) (v ai * v bj) (v aj * v bi)
+    (x .cross)
+    (x .third)
+    (x .back)
+    (x .fifth)
+  where
+    go : (z p m q h s t : ℕ) → p ≡ s → m ≡ xor p z → q ≡ t → h ≡ xor q z → (m + h) % 2 ≡ (s + t) % 2
     go z p m q h s t a b c d = omega arith
 
 isw-few : (i j : ℕ) (f : Five) → length (isw .marks i j f) ≤ 2
@@ -102,14 +119,44 @@ isw-few i j third = omega arith
 isw-few i j fourth = omega arith
 isw-few i j fifth = omega arith
 
+dom-few : (i j : ℕ) (f : Five) → length (dom .marks i j f) ≤ 2
+dom-few i j first = omega arith
+dom-few i j second = omega arith
+dom-few i j third = omega arith
+dom-few i j fourth = omega arith
+dom-few i j fifth = omega arith
+
 -- document 01's AND
 pub isw-lawful : Lawful isw
+unfolding total kindBytes
 isw-lawful =
     record {
-      one-random = isw-one-random;
-      sound = isw-sound;
+      kinds = λ w ai bj aj bi. refl;
+      one-random = λ w ai bj aj bi. refl;
+      sound = λ w ai bj aj bi p q x y.
+          pair-sound w ai bj aj bi w (w + 1) (w + 2) (w + 3) p q x y (omega arith) (omega arith) (omega arith) (omega arith);
       adds = isw-adds;
       few-marks = isw-few;
       low-mark = λ i j. refl;
       high-mark = λ i j. refl;
     }
+
+-- that of source document 002
+pub dom-lawful : Lawful dom
+unfolding total kindBytes
+dom-lawful =
+    record {
+      kinds = λ w ai bj aj bi. refl;
+      one-random = λ w ai bj aj bi. refl;
+      sound = λ w ai bj aj bi p q x y.
+          pair-sound w ai bj aj bi (w + 1) w (w + 3) w p q x y (omega arith) (omega arith) (omega arith) (omega arith);
+      adds = dom-adds;
+      few-marks = dom-few;
+      low-mark = λ i j. refl;
+      high-mark = λ i j. refl;
+    }
+
+-- every AND that there is
+pub lawful : (a : DAnd.And) → Lawful (gadgetOf a)
+lawful Isw = isw-lawful
+lawful Dom = dom-lawful

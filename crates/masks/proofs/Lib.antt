@@ -5,6 +5,7 @@ pub mod Rows
 pub mod Each
 pub mod Lawful
 pub mod Hiding
+pub mod Forms
 pub mod Costs
 pub mod Figures
 pub mod Counted
@@ -13,5 +14,5 @@ pub mod Passed
 pub mod Codes
 pub mod CodeFaults
 pub mod Orders
-pub mod And
+pub mod Products
 pub mod Shares

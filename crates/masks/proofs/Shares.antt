@@ -21,7 +21,7 @@ use Rattle.masks.specs.Wires.{andWires, andShares, andCost, newWires, co
 use Rattle.masks.proofs.Sum.{sumOf, sum-add, sum-cong, sum-parity, up-length, up-all, sum-from, sum-by-index}
 use Rattle.masks.proofs.Lawful.{Lawful}
 use Rattle.masks.proofs.Costs.{orAnd, or-and-length, or-driven, new-length, new-draws}
-use Rattle.masks.proofs.And.{and-adds}
+use Rattle.masks.proofs.Products.{and-adds}
 
 -- n wires that add up to x modulo 2
 abbrev pub Carries : ℕ → (ℕ → ℕ) → List ℕ → ℕ → Type 0

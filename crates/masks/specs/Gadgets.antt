@@ -1,5 +1,6 @@
 -- What sets one masked AND apart from another: the five wires of a pair of shares i < j, their marks, which of them the rows
--- add, and what the map flips. Document 01's AND is `isw` (source document 001, section 3).
+-- add, and what the map flips. Document 01's AND is `isw` (source document 001, section 3), that of Card 8 is `dom` (source
+-- document 002).
 -- Assumes nothing.
 use mathlib.Core.Bool.{Bool, false, _||_, cond}
 use mathlib.Core.List.{List, [], _∷_}
@@ -7,6 +8,8 @@ use Prim.Native.Nat.{ℕ, _+_, _*_}
 use lib.Dec.{eqb}
 use Rattle.tables.specs.Tables.{XOR, AND, RANDOM, Gate, gate}
 use Rattle.tables.specs.Runs.{xor}
+use Rattle.masks.specs.declared.And as DAnd
+use Rattle.masks.specs.declared.And.the-variants.{Isw, Dom}
 
 -- "five wires": those of a pair, in order
 pub data Five : Type 0 where
@@ -71,3 +74,36 @@ isw =
       high = fifth;
       flip = λ k i j p q. cond (eqb i k) (xor p q) 0;
     }
+
+-- "Per pair: r; a_i·b_j; a_i·b_j⊕r; a_j·b_i; a_j·b_i⊕r" (Card 8)
+abbrev pub domGates : ℕ → ℕ → ℕ → ℕ → ℕ → Five → Gate
+domGates w ai bj aj bi first = gate RANDOM 0 0
+domGates w ai bj aj bi second = gate AND ai bj
+domGates w ai bj aj bi third = gate XOR (w + 1) w
+domGates w ai bj aj bi fourth = gate AND aj bi
+domGates w ai bj aj bi fifth = gate XOR (w + 3) w
+
+-- "r and the products {i,j}, the third {i}, the fifth {j}" (Card 8)
+abbrev pub domMarks : ℕ → ℕ → Five → List ℕ
+domMarks i j first = i ∷ j ∷ []
+domMarks i j second = i ∷ j ∷ []
+domMarks i j third = i ∷ []
+domMarks i j fourth = i ∷ j ∷ []
+domMarks i j fifth = j ∷ []
+
+-- "Row i adds the third wire, row j the fifth"; "r of a pair of k and j is flipped if a_j·b_k differs" (Card 8): where k is the
+-- lower share that is a_j·b_i, where it is the upper one a_i·b_j
+abbrev pub dom : Gadget
+dom =
+    record {
+      gates = domGates;
+      marks = domMarks;
+      low = third;
+      high = fifth;
+      flip = λ k i j p q. cond (eqb i k) q (cond (eqb j k) p 0);
+    }
+
+-- the AND that a value of the code names
+abbrev pub gadgetOf : DAnd.And → Gadget
+gadgetOf Isw = isw
+gadgetOf Dom = dom

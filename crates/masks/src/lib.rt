@@ -1,10 +1,12 @@
-// The masking construction: what forecasting and the marks call answer, the orders that there are, and what a gate costs.
+// The masking construction: what forecasting and the marks call answer, the ANDs and the orders that there are, and what a gate costs.
 ghost use mathlib.Core.Path.{_≡_};
 ghost use Prim.Native.Nat.{_≤_, ℕ};
 ghost use lib.ListN.{length, getD};
 ghost use Rattle.tables.specs.Tables.{kindOf};
 ghost use Rattle.tables.specs.Says.{Refused};
 ghost use Rattle.masks.specs.Shares.{tri};
+ghost use Rattle.masks.specs.Gadgets.{gadgetOf};
+ghost use Rattle.masks.specs.Forms.{FormSays, DecidingSays};
 ghost use Rattle.masks.specs.Wires.{andCost, cost, draws};
 ghost use Rattle.masks.specs.Says.{orderFault};
 
@@ -26,6 +28,76 @@ pub struct Marks {
     pub place: u32,
     pub first: u8,
     pub second: u8,
+}
+
+// The ANDs that there are: document 01's, and that of source document 002.
+pub enum And {
+    Isw,
+    Dom,
+}
+
+// The operands of a gate that reads two wires of its own pair, by their place among the five, from 0.
+pub struct Operands {
+    pub left: usize,
+    pub right: usize,
+}
+
+// What sets the pairs of one AND apart from those of another: what the third and the fifth wire read, and which wires row i and row j
+// of a pair (i, j) add.
+pub struct PairForm {
+    pub third: Operands,
+    pub fifth: Operands,
+    pub low: usize,
+    pub high: usize,
+}
+
+// The form of an AND's pairs.
+pub fn pair_form(and: And) -> PairForm
+    ensures { λ r. ⌜ FormSays (gadgetOf and) r ⌝ }
+{
+    match and {
+        And::Isw => PairForm {
+            third: Operands { left: 0, right: 1 },
+            fifth: Operands { left: 2, right: 3 },
+            low: 0,
+            high: 4,
+        },
+        And::Dom => PairForm {
+            third: Operands { left: 1, right: 0 },
+            fifth: Operands { left: 3, right: 0 },
+            low: 2,
+            high: 4,
+        },
+    }
+}
+
+// Which products of a pair (i, j) decide whether its random bit is flipped, a_i·b_j and a_j·b_i: 1 or 0 each.
+pub struct Deciding {
+    pub cross: u8,
+    pub back: u8,
+}
+
+// What decides for a pair of shares i < j, where k is the free share: in document 01's AND both products where i is k, in the DOM AND
+// the product that has b_k.
+pub fn decided_by(and: And, k: usize, i: usize, j: usize) -> Deciding
+    ensures { λ r. ⌜ DecidingSays (gadgetOf and) k i j r ⌝ }
+{
+    match and {
+        And::Isw => {
+            if i == k {
+                return Deciding { cross: 1, back: 1 };
+            }
+        }
+        And::Dom => {
+            if i == k {
+                return Deciding { cross: 0, back: 1 };
+            }
+            if j == k {
+                return Deciding { cross: 1, back: 0 };
+            }
+        }
+    }
+    Deciding { cross: 0, back: 0 }
 }
 
 // The refusal of an order that is not 1 to 15.

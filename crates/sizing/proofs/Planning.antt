@@ -28,7 +28,9 @@ use Rattle.sizing.specs.declared.Plan as DP
 use Rattle.sizing.specs.declared.Planned as DN
 use Rattle.sizing.specs.declared.Planned.the-variants as Planned
 use Rattle.masks.specs.Shares.{sharesOf}
-use Rattle.masks.specs.Gadgets.{isw}
+use Rattle.masks.specs.declared.And as DAnd
+use Rattle.masks.specs.declared.And.the-variants.{Isw}
+use Rattle.masks.specs.Gadgets.{gadgetOf}
 use Rattle.masks.specs.Wires.{cost, draws, maskedTable, tapeLong}
 use Rattle.masks.specs.Says.{orderOk, orderFault, tooMany, plainFault}
 use Rattle.masks.specs.Counts.{figuresBy, tooManyBy}
@@ -36,7 +38,7 @@ use Rattle.sizing.specs.Plans.{Maskable, FewGates, TotalsSay, Countable,
 use Rattle.sizing.specs.Plans.{PlanReady, PlanSays, PlanFits, planBytes}
 use Rattle.masks.proofs.Passed.{PlainPassed, plain-passed}
 use Rattle.masks.proofs.Orders.{order-range}
-use Rattle.masks.proofs.Lawful.{isw-lawful}
+use Rattle.masks.proofs.Lawful.{lawful}
 use Rattle.masks.proofs.Placed.{masked-outputs}
 use Rattle.masks.proofs.Costs.{masked-wires, masked-tape}
 use Rattle.masks.proofs.Figures.{cost-small, draws-small, draws-below}
@@ -141,16 +143,16 @@ refuses {f} {s} {o} {r} R h =
 -- the checks of the plan in their order: 1 to 5, then 6 and 7, then 8
 pub table-refused :
     {s : List ℕ} {o : ℕ} {r : DR.Refusal} → Refused (tableFault s) r → (r .number ≡ 0 → ⊥)
-    → PlanSays (plainFault isw s o) s o (Planned.Refused r)
+    → (a : DAnd.And) → PlanSays (plainFault (gadgetOf a) s o) s o (Planned.Refused r)
 unfolding plainFault
-table-refused R h = refuses (first-of _ R h) h
+table-refused R h a = refuses (first-of _ R h) h
 
 module _ {s : List ℕ} {o : ℕ} {r : DR.Refusal} (T : passed (tableFault s) ≡ true)
     (R : Refused (orElse (orderFault o) (randomFault 0 (tableOf s .gates))) r) where
-  pub chain-refused : (r .number ≡ 0 → ⊥) → PlanSays (plainFault isw s o) s o (Planned.Refused r)
+  pub chain-refused : (r .number ≡ 0 → ⊥) → (a : DAnd.And) → PlanSays (plainFault (gadgetOf a) s o) s o (Planned.Refused r)
   unfolding plainFault
-  chain-refused h =
-      let many = refusedIf (tooMany isw o (tableOf s)) 8 in
+  chain-refused h a =
+      let many = refusedIf (tooMany (gadgetOf a) o (tableOf s)) 8 in
       refuses
       (rw (T, or-else-assoc (orderFault o) (randomFault 0 (tableOf s .gates)) many) (first-of many R h))
       h
@@ -222,14 +224,14 @@ module _ (o i g q : ℕ) {n : ℕ} {c : DC.Counts} {r : DT.Totals} (en : n ≡ s
 -- what was planned by the formula, from the sizes that the table states and its counts, is what the table comes to
 pub planned-counted :
     {s : List ℕ} {o i g q : ℕ} {c : DC.Counts} {r : DN.Planned} → Maskable s o → i ≡ word s 0 → g ≡ word s 2 → q ≡ word s 4
-    → c ≡ countsOf (tableOf s .gates) → PlannedBy o i g q c r → PlanSays (plainFault isw s o) s o r
-planned-counted {s} {o} {i} {g} {q} {c} {r} M ei eg eq ec P =
+    → c ≡ countsOf (tableOf s .gates) → PlannedBy o i g q c r
+    → (a : DAnd.And) → PlanSays (plainFault (gadgetOf a) s o) s o r
+planned-counted {s} {o} {i} {g} {q} {c} {r} M ei eg eq ec P a =
     let t = tableOf s in
     let inputs : i ≡ t .inputs = ei ∙ sym (inputs-of s) in
     let gates : g ≡ length (t .gates) = eg ∙ sym (gates-of-length s) in
     let outputs : q ≡ length (t .outputs) = eq ∙ sym (outputs-of-length s) in
-    let eight = eight-counted isw s o (M .table) (M .order) (M .plain) in
-    by-case (manyOf o t) eight
+    by-case (manyOf o t) (λ b. eight-counted (gadgetOf b) s o (M .table) (M .order) (M .plain))
     (P .fault ∙ (λ j. refusedIf (tooManyBy o (inputs j) (outputs j) (ec j)) 8))
     (P .sizes
     ∙ (λ j. cond (tooManyBy o (inputs j) (outputs j) (ec j)) noPlan (planBy o (inputs j) (gates j) (outputs j) (ec j))))
@@ -238,17 +240,17 @@ planned-counted {s} {o} {i} {g} {q} {c} {r} M ei eg eq ec P =
     whole = planBy o (tableOf s .inputs) (length (tableOf s .gates)) (length (tableOf s .outputs)) (countsOf (tableOf s .gates))
 
     by-case :
-        (b : Bool) → plainFault isw s o ≡ refusedIf b 8 → plannedFault r ≡ refusedIf b 8 → plannedSizes r ≡ cond b noPlan whole
-        → PlanSays (plainFault isw s o) s o r
+        (b : Bool) → ((a : DAnd.And) → plainFault (gadgetOf a) s o ≡ refusedIf b 8) → plannedFault r ≡ refusedIf b 8
+        → plannedSizes r ≡ cond b noPlan whole → PlanSays (plainFault (gadgetOf a) s o) s o r
     by-case true e f z =
-        subst (λ (x : Fault). PlanSays x s o r) (sym e)
+        subst (λ (x : Fault). PlanSays x s o r) (sym (e a))
         (record {
           fault = f;
           order = ap (λ (p : DP.Plan). p .order) z;
           sizes = λ h. let no : _≡_ {A = ℕ} 0 1 = cc in absurd (omega (arith, no));
         })
     by-case false e f z =
-        subst (λ (x : Fault). PlanSays x s o r) (sym e)
+        subst (λ (x : Fault). PlanSays x s o r) (sym (e a))
         (record {
           fault = f;
           order = ap (λ (p : DP.Plan). p .order) z;
@@ -259,8 +261,8 @@ planned-counted {s} {o} {i} {g} {q} {c} {r} M ei eg eq ec P =
                 gates = refl;
                 outputs = refl;
                 shares = refl;
-                wires = sym (wires-counted isw o (tableOf s));
-                tape = sym (tape-counted isw o (tableOf s) isw-lawful);
+                wires = λ b. sym (wires-counted (gadgetOf b) o (tableOf s));
+                tape = λ b. sym (tape-counted (gadgetOf b) o (tableOf s) (lawful b));
               });
         })
 
@@ -290,40 +292,41 @@ planned-ready P =
     record { none = e; order = P .order ∙ rw e; ready = P .sizes (rw e) }
 
 -- a tape has fewer bits than the masked table has wires
-tape-below : (o : ℕ) (t : Table) → tapeLong isw o t ≤ wires (maskedTable isw o t)
-tape-below o t =
+tape-below : (a : DAnd.And) (o : ℕ) (t : Table) → tapeLong (gadgetOf a) o t ≤ wires (maskedTable (gadgetOf a) o t)
+tape-below a o t =
     omega (
       arith,
-      masked-wires isw o t,
-      masked-tape isw-lawful o t,
+      masked-wires (gadgetOf a) o t,
+      masked-tape (lawful a) o t,
       total-below (λ k. draws k (sharesOf o)) (λ k. cost k (sharesOf o)) (λ k. draws-below k (sharesOf o)) (t .gates),
     )
 
--- what holds of a plan
+-- what holds of a plan, with whichever AND
 module _ {s : List ℕ} {p : DP.Plan} (R : PlanReady s p) where
-  pub plan-passed : PlainPassed isw s (p .order)
-  plan-passed = plain-passed isw s (p .order) (rw (R .none))
-
-  pub plan-inputs : p .shares * p .inputs ≡ maskedTable isw (p .order) (tableOf s) .inputs
-  plan-inputs = rw (R .shares, R .inputs) (sym (masked-inputs isw (p .order) (tableOf s)))
-
   few-outputs : p .shares * p .outputs ≡ sharesOf (p .order) * length (tableOf s .outputs)
   few-outputs = rw (R .shares, R .outputs)
 
+  module _ (a : DAnd.And) where
+    pub plan-passed : PlainPassed (gadgetOf a) s (p .order)
+    plan-passed = plain-passed (gadgetOf a) s (p .order) (rw (R .none a))
+
+    pub plan-inputs : p .shares * p .inputs ≡ maskedTable (gadgetOf a) (p .order) (tableOf s) .inputs
+    plan-inputs = rw (R .shares, R .inputs) (sym (masked-inputs (gadgetOf a) (p .order) (tableOf s)))
+
+    -- the bytes of the masked table
+    pub plan-bytes : length (tableBytes (maskedTable (gadgetOf a) (p .order) (tableOf s))) ≡ planBytes p
+    plan-bytes =
+        let m = maskedTable (gadgetOf a) (p .order) (tableOf s) in
+        let outputs = masked-outputs (gadgetOf a) (p .order) (tableOf s) (plan-passed .plain) .0 in
+        omega (arith, table-long m, outputs, few-outputs, plan-inputs, R .wires a)
+
   pub plan-fits : PlanFits p
   plan-fits =
-      let q = plan-passed in
+      let q = plan-passed Isw in
       record {
         shares = omega (arith, R .shares, order-range (p .order) (q .order) .1);
-        inputs = omega (arith, plan-inputs, R .wires);
-        wires = omega (arith, R .wires, q .few-wires);
+        inputs = omega (arith, plan-inputs Isw, R .wires Isw);
+        wires = omega (arith, R .wires Isw, q .few-wires);
         outputs = omega (arith, few-outputs, q .few-outputs);
-        tape = omega (arith, R .wires, R .tape, tape-below (p .order) (tableOf s));
+        tape = omega (arith, R .wires Isw, R .tape Isw, tape-below Isw (p .order) (tableOf s));
       }
-
-  -- the bytes of the masked table
-  pub plan-bytes : length (tableBytes (maskedTable isw (p .order) (tableOf s))) ≡ planBytes p
-  plan-bytes =
-      let m = maskedTable isw (p .order) (tableOf s) in
-      let outputs = masked-outputs isw (p .order) (tableOf s) (plan-passed .plain) .0 in
-      omega (arith, table-long m, outputs, few-outputs, plan-inputs, R .wires)

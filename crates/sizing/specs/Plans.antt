@@ -14,7 +14,8 @@ use Rattle.sizing.specs.declared.Planned.the-variants as Planned
 use Rattle.tables.specs.Refusals.{Fault, fault, none, passed, refusedIf}
 use Rattle.tables.specs.Tables.{wires, tableOf, tableFault, randomFault, tableLong}
 use Rattle.masks.specs.Shares.{sharesOf}
-use Rattle.masks.specs.Gadgets.{isw}
+use Rattle.masks.specs.declared.And as DAnd
+use Rattle.masks.specs.Gadgets.{gadgetOf}
 use Rattle.masks.specs.Wires.{cost, draws, maskedTable, tapeLong}
 use Rattle.masks.specs.Says.{orderOk, plainFault}
 use Rattle.masks.specs.Counts.{counted, figuresBy, tooManyBy}
@@ -78,15 +79,15 @@ pub record PlannedBy (o i g q : ℕ) (c : DC.Counts) (r : DN.Planned) : Type 0 w
   pub fault : plannedFault r ≡ refusedIf (tooManyBy o i q c) 8
   pub sizes : plannedSizes r ≡ cond (tooManyBy o i q c) noPlan (planBy o i g q c)
 
--- none of 1 to 8 refuses at the plan's order, and these are the sizes of the plain table and of its masked table
+-- none of 1 to 8 refuses at the plan's order, and these are the sizes of the plain table and of its masked table, with whichever AND
 pub record PlanReady (s : List ℕ) (p : DP.Plan) : Type 0 where
-  pub none : plainFault isw s (p .order) ≡ none
+  pub none : (a : DAnd.And) → plainFault (gadgetOf a) s (p .order) ≡ none
   pub inputs : p .inputs ≡ tableOf s .inputs
   pub gates : p .gates ≡ length (tableOf s .gates)
   pub outputs : p .outputs ≡ length (tableOf s .outputs)
   pub shares : p .shares ≡ sharesOf (p .order)
-  pub wires : p .wires ≡ wires (maskedTable isw (p .order) (tableOf s))
-  pub tape : p .tape ≡ tapeLong isw (p .order) (tableOf s)
+  pub wires : (a : DAnd.And) → p .wires ≡ wires (maskedTable (gadgetOf a) (p .order) (tableOf s))
+  pub tape : (a : DAnd.And) → p .tape ≡ tapeLong (gadgetOf a) (p .order) (tableOf s)
 
 -- planning answers the first of 1 to 8 with the fault f, or the sizes
 pub record PlanSays (f : Fault) (s : List ℕ) (o : ℕ) (r : DN.Planned) : Type 0 where

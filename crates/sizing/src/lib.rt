@@ -5,7 +5,8 @@ ghost use Rattle.tables.specs.Tables.{kindOf, tableOf, randomFault, total};
 ghost use Rattle.tables.specs.Counted.{ofKind};
 ghost use Rattle.tables.specs.Says.{Refused};
 ghost use Rattle.tables.specs.Inside.{HasGates};
-ghost use Rattle.masks.specs.Gadgets.{isw};
+ghost use Rattle.masks.specs.declared.And as DAnd;
+ghost use Rattle.masks.specs.Gadgets.{gadgetOf};
 ghost use Rattle.masks.specs.Wires.{cost, draws};
 ghost use Rattle.masks.specs.Says.{plainFault};
 ghost use Rattle.sizing.specs.Plans.{FewGates, TotalsSay, Countable, PlannedBy, PlanSays, PlanFits, planBytes};
@@ -117,7 +118,7 @@ fn plan_sizes(
 
 // What a plain table and an order come to: the first of refusals 1 to 8, or the sizes.
 pub fn plan_table(table: &[u8], order: u8) -> Planned
-    ensures { λ r. ⌜ PlanSays (plainFault isw (now (table .entry)) order) (now (table .entry)) order r ⌝ }
+    ensures { λ r. ⌜ ((a : DAnd.And) → PlanSays (plainFault (gadgetOf a) (now (table .entry)) order) (now (table .entry)) order r) ⌝ }
 {
     let found = checking::table_fault(table);
     if found.number != 0 {

@@ -1,0 +1,43 @@
+-- For contracts inside the library only: no promise of a call cites this.
+-- What sets one AND apart from another, as the code keeps it: wires of a pair by their place among the five, from 0; and which of a
+-- pair's two products decide whether its random bit is flipped.
+-- Assumes nothing.
+use mathlib.Core.Path.{_≡_}
+use mathlib.Core.Bool.{cond}
+use mathlib.Core.List.{List, [], _∷_, map}
+use Prim.Native.Nat.{ℕ, _+_, _*_, _≤_, _<_}
+use lib.Dec.{eqb}
+use Rattle.tables.specs.Tables.{XOR, AND, RANDOM, Gate, gate}
+use Rattle.tables.specs.Runs.{xor}
+use Rattle.masks.specs.declared.PairForm as DF
+use Rattle.masks.specs.declared.Deciding as DD
+use Rattle.masks.specs.Gadgets.{Five, allFive, indexOf, Gadget}
+
+-- the five gates of a pair, from wire w on, by the operands of its third and fifth
+abbrev pub formGates : DF.PairForm → ℕ → ℕ → ℕ → ℕ → ℕ → List Gate
+formGates r w ai bj aj bi =
+    gate RANDOM 0 0
+    ∷ gate AND ai bj
+    ∷ gate XOR (w + r .third .left) (w + r .third .right)
+    ∷ gate AND aj bi
+    ∷ gate XOR (w + r .fifth .left) (w + r .fifth .right)
+    ∷ []
+
+-- the marks of the wire at place f of a pair of shares i and j: those that the rows add carry their row's share alone
+abbrev pub formMarks : DF.PairForm → ℕ → ℕ → ℕ → List ℕ
+formMarks r i j f = cond (eqb f (r .low)) (i ∷ []) (cond (eqb f (r .high)) (j ∷ []) (i ∷ j ∷ []))
+
+-- the form is that of the gadget; an operand stands before the wire that reads it
+pub record FormSays (G : Gadget) (r : DF.PairForm) : Type 0 where
+  pub third : (r .third .left < 2) × (r .third .right < 2)
+  pub fifth : (r .fifth .left < 4) × (r .fifth .right < 4)
+  pub gates : (w ai bj aj bi : ℕ) → formGates r w ai bj aj bi ≡ map (G .gates w ai bj aj bi) allFive
+  pub low : r .low ≡ indexOf (G .low)
+  pub high : r .high ≡ indexOf (G .high)
+  pub marks : (i j : ℕ) (f : Five) → G .marks i j f ≡ formMarks r i j (indexOf f)
+
+-- what a pair of shares i and j flips is the sum of the products that decide, of those that differ
+pub record DecidingSays (G : Gadget) (k i j : ℕ) (r : DD.Deciding) : Type 0 where
+  pub cross : r .cross ≤ 1
+  pub back : r .back ≤ 1
+  pub flip : (p q : ℕ) → p ≤ 1 → q ≤ 1 → G .flip k i j p q ≡ xor (r .cross * p) (r .back * q)
