@@ -5,7 +5,7 @@ ghost use lib.ListN.{length};
 ghost use Rattle.tables.specs.Tables.{tableOf, tableBytes};
 ghost use Rattle.tables.specs.Says.{over};
 ghost use Rattle.tables.specs.Inside.{putAt};
-ghost use Rattle.masks.specs.Gadgets.{isw};
+ghost use Rattle.masks.specs.Gadgets.{gadgetOf};
 ghost use Rattle.masks.specs.Wires.{maskedTable};
 ghost use Rattle.sizing.specs.Plans.{PlanReady, planBytes};
 ghost use Rattle.placing.specs.Located.{Room, Located};
@@ -14,6 +14,7 @@ ghost use Rattle.assembling.specs.Parts.{afterSizes};
 // Writes what follows the sizes: lends the kinds part, then the operands part, then the outputs part of the buffer to the
 // function that writes it.
 fn mask_gates(
+    and: masks::And,
     table: &[u8],
     p: sizing::Plan,
     head: &[u16],
@@ -23,12 +24,13 @@ fn mask_gates(
 )
     requires { ⌜ PlanReady (now table) p × Located (tableOf (now table)) (p .shares) (now head) (now base) (now step)
         × (planBytes p ≤ length (now out)) ⌝ }
-    ensures { λ _. ⌜ now (out .exit) ≡ putAt 6 (afterSizes (maskedTable isw (p .order) (tableOf (now (table .entry))))) (now (out .entry)) ⌝ }
+    ensures { λ _. ⌜ now (out .exit) ≡ putAt 6 (afterSizes (maskedTable (gadgetOf and) (p .order) (tableOf (now (table .entry))))) (now (out .entry)) ⌝ }
 {
     let w = p.shares * p.inputs;
     let g = p.wires - w;
     parts::write_kinds(table, p, 0, p.gates, &mut out[6..6 + g]);
     parts::write_operands(
+        and,
         table,
         p,
         0,
@@ -44,6 +46,7 @@ fn mask_gates(
 
 // Writes the masked table of a plan; the three arrays are lent to note where shares are.
 fn mask_with(
+    and: masks::And,
     table: &[u8],
     p: sizing::Plan,
     head: &mut [u16],
@@ -53,102 +56,102 @@ fn mask_with(
 )
     requires { ⌜ PlanReady (now table) p × Room (p .inputs + p .gates) (now head) (now base) (now step)
         × (planBytes p ≤ length (now out)) ⌝ }
-    ensures { λ _. ⌜ now (out .exit) ≡ over (tableBytes (maskedTable isw (p .order) (tableOf (now (table .entry))))) (now (out .entry)) ⌝ }
+    ensures { λ _. ⌜ now (out .exit) ≡ over (tableBytes (maskedTable (gadgetOf and) (p .order) (tableOf (now (table .entry))))) (now (out .entry)) ⌝ }
 {
     placing::locate(table, p, head, base, step);
     let inputs = p.shares * p.inputs;
     parts::put_sizes(out, inputs, p.wires - inputs, p.shares * p.outputs);
-    mask_gates(table, p, head, base, step, out);
+    mask_gates(and, table, p, head, base, step, out);
 }
 
 // Masks a table of at most 256 wires.
-fn mask_tiny(table: &[u8], p: sizing::Plan, out: &mut [u8])
+fn mask_tiny(and: masks::And, table: &[u8], p: sizing::Plan, out: &mut [u8])
     requires { ⌜ PlanReady (now table) p × (p .inputs + p .gates ≤ 256) × (planBytes p ≤ length (now out)) ⌝ }
     ensures { λ _. ⌜ now (out .exit)
-        ≡ over (tableBytes (maskedTable isw (p .order) (tableOf (now (table .entry))))) (now (out .entry)) ⌝ }
+        ≡ over (tableBytes (maskedTable (gadgetOf and) (p .order) (tableOf (now (table .entry))))) (now (out .entry)) ⌝ }
 {
     let mut head = [0u16; 256];
     let mut base = [0u16; 256];
     let mut step = [0u16; 256];
-    mask_with(table, p, &mut head, &mut base, &mut step, out);
+    mask_with(and, table, p, &mut head, &mut base, &mut step, out);
 }
 
 // Masks a table of at most 2,048 wires.
-fn mask_small(table: &[u8], p: sizing::Plan, out: &mut [u8])
+fn mask_small(and: masks::And, table: &[u8], p: sizing::Plan, out: &mut [u8])
     requires { ⌜ PlanReady (now table) p × (p .inputs + p .gates ≤ 2048) × (planBytes p ≤ length (now out)) ⌝ }
     ensures { λ _. ⌜ now (out .exit)
-        ≡ over (tableBytes (maskedTable isw (p .order) (tableOf (now (table .entry))))) (now (out .entry)) ⌝ }
+        ≡ over (tableBytes (maskedTable (gadgetOf and) (p .order) (tableOf (now (table .entry))))) (now (out .entry)) ⌝ }
 {
     let mut head = [0u16; 2048];
     let mut base = [0u16; 2048];
     let mut step = [0u16; 2048];
-    mask_with(table, p, &mut head, &mut base, &mut step, out);
+    mask_with(and, table, p, &mut head, &mut base, &mut step, out);
 }
 
 // Masks a table of at most 16,384 wires.
-fn mask_middle(table: &[u8], p: sizing::Plan, out: &mut [u8])
+fn mask_middle(and: masks::And, table: &[u8], p: sizing::Plan, out: &mut [u8])
     requires { ⌜ PlanReady (now table) p × (p .inputs + p .gates ≤ 16384) × (planBytes p ≤ length (now out)) ⌝ }
     ensures { λ _. ⌜ now (out .exit)
-        ≡ over (tableBytes (maskedTable isw (p .order) (tableOf (now (table .entry))))) (now (out .entry)) ⌝ }
+        ≡ over (tableBytes (maskedTable (gadgetOf and) (p .order) (tableOf (now (table .entry))))) (now (out .entry)) ⌝ }
 {
     let mut head = [0u16; 16384];
     let mut base = [0u16; 16384];
     let mut step = [0u16; 16384];
-    mask_with(table, p, &mut head, &mut base, &mut step, out);
+    mask_with(and, table, p, &mut head, &mut base, &mut step, out);
 }
 
 // Masks a table of any number of wires.
-fn mask_large(table: &[u8], p: sizing::Plan, out: &mut [u8])
+fn mask_large(and: masks::And, table: &[u8], p: sizing::Plan, out: &mut [u8])
     requires { ⌜ PlanReady (now table) p × (planBytes p ≤ length (now out)) ⌝ }
     ensures { λ _. ⌜ now (out .exit)
-        ≡ over (tableBytes (maskedTable isw (p .order) (tableOf (now (table .entry))))) (now (out .entry)) ⌝ }
+        ≡ over (tableBytes (maskedTable (gadgetOf and) (p .order) (tableOf (now (table .entry))))) (now (out .entry)) ⌝ }
 {
     let mut head = [0u16; 65536];
     let mut base = [0u16; 65536];
     let mut step = [0u16; 65536];
-    mask_with(table, p, &mut head, &mut base, &mut step, out);
+    mask_with(and, table, p, &mut head, &mut base, &mut step, out);
 }
 
 // Masks a table of any size.
-fn mask_any(table: &[u8], p: sizing::Plan, out: &mut [u8])
+fn mask_any(and: masks::And, table: &[u8], p: sizing::Plan, out: &mut [u8])
     requires { ⌜ PlanReady (now table) p × (planBytes p ≤ length (now out)) ⌝ }
     ensures { λ _. ⌜ now (out .exit)
-        ≡ over (tableBytes (maskedTable isw (p .order) (tableOf (now (table .entry))))) (now (out .entry)) ⌝ }
+        ≡ over (tableBytes (maskedTable (gadgetOf and) (p .order) (tableOf (now (table .entry))))) (now (out .entry)) ⌝ }
 {
     if p.inputs + p.gates <= 2048 {
-        mask_small(table, p, out);
+        mask_small(and, table, p, out);
         return;
     }
     if p.inputs + p.gates <= 16384 {
-        mask_middle(table, p, out);
+        mask_middle(and, table, p, out);
         return;
     }
-    mask_large(table, p, out);
+    mask_large(and, table, p, out);
 }
 
 // Masks with little stack where the table is tiny: to reserve that of a large one takes time even where it is not used.
-fn mask_lean(table: &[u8], p: sizing::Plan, out: &mut [u8])
+fn mask_lean(and: masks::And, table: &[u8], p: sizing::Plan, out: &mut [u8])
     requires { ⌜ PlanReady (now table) p × (planBytes p ≤ length (now out)) ⌝ }
     ensures { λ _. ⌜ now (out .exit)
-        ≡ over (tableBytes (maskedTable isw (p .order) (tableOf (now (table .entry))))) (now (out .entry)) ⌝ }
+        ≡ over (tableBytes (maskedTable (gadgetOf and) (p .order) (tableOf (now (table .entry))))) (now (out .entry)) ⌝ }
 {
     if p.inputs + p.gates <= 256 {
-        mask_tiny(table, p, out);
+        mask_tiny(and, table, p, out);
         return;
     }
-    mask_any(table, p, out);
+    mask_any(and, table, p, out);
 }
 
 // Writes the masked table of a plan into a buffer that has room for it. A function that is called in two places stays one of its
 // own, and its stack is reserved only where it is called.
-pub fn mask_into(table: &[u8], p: sizing::Plan, out: &mut [u8])
+pub fn mask_into(and: masks::And, table: &[u8], p: sizing::Plan, out: &mut [u8])
     requires { ⌜ PlanReady (now table) p × (planBytes p ≤ length (now out)) ⌝ }
     ensures { λ _. ⌜ now (out .exit)
-        ≡ over (tableBytes (maskedTable isw (p .order) (tableOf (now (table .entry))))) (now (out .entry)) ⌝ }
+        ≡ over (tableBytes (maskedTable (gadgetOf and) (p .order) (tableOf (now (table .entry))))) (now (out .entry)) ⌝ }
 {
     if p.inputs + p.gates <= 2048 {
-        mask_lean(table, p, out);
+        mask_lean(and, table, p, out);
         return;
     }
-    mask_any(table, p, out);
+    mask_any(and, table, p, out);
 }

@@ -6,32 +6,30 @@ ghost use lib.ListN.{length, getD, set};
 ghost use Rattle.tables.specs.Runs.{xor};
 ghost use Rattle.tables.specs.Packing.{unpacked};
 ghost use Rattle.tables.specs.Inside.{ranOn, RunsTo};
-ghost use Rattle.masks.specs.Gadgets.{allFive, isw};
+ghost use Rattle.masks.specs.Gadgets.{allFive, gadgetOf};
 ghost use Rattle.maps.specs.Both.{BothFlip, BothReady};
 ghost use Rattle.crossing.specs.Crossing.{wiresDiffer, BitAt, PairBits, PairBefore};
 
 // The five wires of a pair in one run, from wire w on, with the pair's random bit.
-fn run_pair(run: &mut [u8], w: usize, ai: usize, bj: usize, aj: usize, bi: usize, bit: u8)
+fn run_pair(
+    and: masks::And,
+    run: &mut [u8],
+    w: usize,
+    ai: usize,
+    bj: usize,
+    aj: usize,
+    bi: usize,
+    bit: u8,
+)
     requires { ⌜ RunsTo w 5 (now run) × PairBefore w ai bj aj bi × (bit ≤ 1) ⌝ }
-    ensures { λ _. ⌜ now (run .exit) ≡ ranOn (map (isw .gates w ai bj aj bi) allFive) (bit ∷ []) w (now (run .entry)) ⌝ }
+    ensures { λ _. ⌜ now (run .exit) ≡ ranOn (map (gadgetOf and .gates w ai bj aj bi) allFive) (bit ∷ []) w (now (run .entry)) ⌝ }
 {
+    let form = masks::pair_form(and);
     driving::run_random(run, w, bit);
     driving::run_and(run, w + 1, ai, bj);
-    driving::run_xor(run, w + 2, w, w + 1);
+    driving::run_xor(run, w + 2, w + form.third.left, w + form.third.right);
     driving::run_and(run, w + 3, aj, bi);
-    driving::run_xor(run, w + 4, w + 2, w + 3);
-}
-
-// What a pair of shares i < j flips, where k is the free share, and p and q say whether a_i·b_j and a_j·b_i differ: document 01's
-// AND flips where i is k.
-fn pair_flip(k: usize, i: usize, j: usize, p: u8, q: u8) -> u8
-    requires { ⌜ (p ≤ 1) × (q ≤ 1) ⌝ }
-    ensures { λ r. ⌜ (r ≡ isw .flip k i j p q) × (r ≤ 1) ⌝ }
-{
-    if i == k {
-        return (p + q) % 2;
-    }
-    0
+    driving::run_xor(run, w + 4, w + form.fifth.left, w + form.fifth.right);
 }
 
 // Whether the product of two wires differs between the runs: 1 or 0.
@@ -42,9 +40,10 @@ fn product_differs(one: &[u8], other: &[u8], left: usize, right: usize) -> u8
     (one[left] & one[right]) ^ (other[left] & other[right])
 }
 
-// Flips the bit of a pair of shares i < j in the mapped tape where the second run needs it, and answers what was flipped: where i is
-// not the free share k, no product is looked at.
+// Flips the bit of a pair of shares i < j in the mapped tape where the second run needs it, and answers what was flipped; k is the
+// free share. Where no product decides, none is looked at.
 fn flip_pair(
+    and: masks::And,
     k: usize,
     i: usize,
     j: usize,
@@ -59,19 +58,20 @@ fn flip_pair(
 ) -> u8
     requires { ⌜ PairBits (now one) ai bj aj bi × PairBits (now other) ai bj aj bi × (at < length (unpacked (now mapped))) ⌝ }
     ensures { λ r. ⌜ (r
-        ≡ isw .flip k i j
+        ≡ gadgetOf and .flip k i j
         (wiresDiffer (now (one .entry)) (now (other .entry)) ai bj)
         (wiresDiffer (now (one .entry)) (now (other .entry)) aj bi))
         × (r ≤ 1)
         × (unpacked (now (mapped .exit))
         ≡ set (unpacked (now (mapped .entry))) at (xor (getD (unpacked (now (mapped .entry))) at 0) r)) ⌝ }
 {
-    if i != k {
+    let by = masks::decided_by(and, k, i, j);
+    if by.cross + by.back == 0 {
         return 0;
     }
     let p = product_differs(one, other, ai, bj);
     let q = product_differs(one, other, aj, bi);
-    let flip = pair_flip(k, i, j, p, q);
+    let flip = (by.cross & p) ^ (by.back & q);
     bits::flip_bit(mapped, at, flip);
     flip
 }
@@ -79,6 +79,7 @@ fn flip_pair(
 // A pair of shares i and j in both runs, from wire w on: its random bit is that of the tape at a place, and what it flips is flipped
 // there in the mapped tape.
 pub fn map_pair(
+    and: masks::And,
     k: usize,
     i: usize,
     j: usize,
@@ -94,15 +95,15 @@ pub fn map_pair(
     other: &mut [u8],
 )
     requires { ⌜ BothReady w 5 at 1 (unpacked (now tape)) (unpacked (now mapped)) (now one) (now other) × PairBefore w ai bj aj bi ⌝ }
-    ensures { λ _. ⌜ BothFlip (map (isw .gates w ai bj aj bi) allFive)
-        (isw .flip k i j
+    ensures { λ _. ⌜ BothFlip (map (gadgetOf and .gates w ai bj aj bi) allFive)
+        (gadgetOf and .flip k i j
         (wiresDiffer (now (one .entry)) (now (other .entry)) ai bj)
         (wiresDiffer (now (one .entry)) (now (other .entry)) aj bi) ∷ [])
         (unpacked (now (tape .entry))) at w
         (unpacked (now (mapped .entry))) (unpacked (now (mapped .exit))) (now (one .entry)) (now (one .exit)) (now (other .entry)) (now (other .exit)) ⌝ }
 {
     let bit = bits::tape_bit(tape, at);
-    let flip = flip_pair(k, i, j, one, other, ai, bj, aj, bi, mapped, at);
-    run_pair(one, w, ai, bj, aj, bi, bit);
-    run_pair(other, w, ai, bj, aj, bi, bit ^ flip);
+    let flip = flip_pair(and, k, i, j, one, other, ai, bj, aj, bi, mapped, at);
+    run_pair(and, one, w, ai, bj, aj, bi, bit);
+    run_pair(and, other, w, ai, bj, aj, bi, bit ^ flip);
 }

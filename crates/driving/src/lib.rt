@@ -5,7 +5,7 @@ ghost use Prim.Native.Nat.{_+_, _*_, _≤_, _<_, ℕ, suc};
 ghost use Rattle.tables.specs.Tables.{NOT, XOR, AND, RANDOM, gate};
 ghost use Rattle.tables.specs.Inside.{ranOn, RunsTo};
 ghost use Rattle.masks.specs.Shares.{tri, pairAt};
-ghost use Rattle.masks.specs.Gadgets.{first, isw};
+ghost use Rattle.masks.specs.Gadgets.{first, gadgetOf};
 ghost use Rattle.masks.specs.Wires.{pairWire};
 ghost use Rattle.pieces.specs.Layout.{shareWires, joined, highGates, lowGates, rowGates, rowsGates, xorGates, constantGates};
 ghost use Rattle.driving.specs.Driving.{SharesBefore};
@@ -80,28 +80,37 @@ pub fn run_constants(run: &mut [u8], w: usize, n: usize, value: u8)
 }
 
 // A row's last m sums, the first of which reads wire last: they add one wire each of m pairs, from wire z on.
-fn run_low_sums(run: &mut [u8], last: usize, z: usize, m: usize)
-    requires { ⌜ RunsTo (last + 1) m (now run) × ((c : ℕ) → c < m → pairWire z (isw .low) c ≤ last) ⌝ }
-    ensures { λ _. ⌜ now (run .exit) ≡ ranOn (lowGates isw z last m) [] (last + 1) (now (run .entry)) ⌝ }
+fn run_low_sums(and: masks::And, run: &mut [u8], last: usize, z: usize, m: usize)
+    requires { ⌜ RunsTo (last + 1) m (now run) × ((c : ℕ) → c < m → pairWire z (gadgetOf and .low) c ≤ last) ⌝ }
+    ensures { λ _. ⌜ now (run .exit) ≡ ranOn (lowGates (gadgetOf and) z last m) [] (last + 1) (now (run .entry)) ⌝ }
 {
+    let form = masks::pair_form(and);
     let mut c = 0;
     while c < m {
-        run_xor(run, last + 1 + c, last + c, z + 5 * c + pieces::LOW);
+        run_xor(run, last + 1 + c, last + c, z + 5 * c + form.low);
         c += 1;
     }
 }
 
 // Row i's first i sums, the first of which reads wire last: they add one wire each of the pairs (j, i), j rising, where the
 // AND's first wire is w. Returns the first wire of the pair (i, i + 1), if there is one.
-fn run_high_sums(run: &mut [u8], last: usize, w: usize, n: usize, i: usize) -> usize
+fn run_high_sums(
+    and: masks::And,
+    run: &mut [u8],
+    last: usize,
+    w: usize,
+    n: usize,
+    i: usize,
+) -> usize
     requires { ⌜ RunsTo (last + 1) i (now run) × (i < n) × (n ≤ 31) × (w + 5 * tri n ≤ last) × (last ≤ 65536) ⌝ }
     ensures { λ r. ⌜ (suc i < n → r ≡ pairWire w first (pairAt n i (suc i)))
-        × (now (run .exit) ≡ ranOn (highGates isw n w last i) [] (last + 1) (now (run .entry))) ⌝ }
+        × (now (run .exit) ≡ ranOn (highGates (gadgetOf and) n w last i) [] (last + 1) (now (run .entry))) ⌝ }
 {
+    let form = masks::pair_form(and);
     let mut z = w + 5 * i;
     let mut j = 0;
     while j < i {
-        run_xor(run, last + 1 + j, last + j, z - 5 + pieces::HIGH);
+        run_xor(run, last + 1 + j, last + j, z - 5 + form.high);
         z += 5 * (n - 2 - j);
         j += 1;
     }
@@ -110,6 +119,7 @@ fn run_high_sums(run: &mut [u8], last: usize, w: usize, n: usize, i: usize) -> u
 
 // Row i from wire v on, where the AND's first wire is w: its own product, then the sums.
 fn run_row(
+    and: masks::And,
     run: &mut [u8],
     v: usize,
     w: usize,
@@ -119,24 +129,32 @@ fn run_row(
     b: pieces::Places,
 )
     requires { ⌜ RunsTo v n (now run) × SharesBefore n w a b × (i < n) × (w + 5 * tri n ≤ v) × (v + n ≤ 65536) ⌝ }
-    ensures { λ _. ⌜ now (run .exit) ≡ ranOn (rowGates isw n w v (shareWires n a) (shareWires n b) i) [] v (now (run .entry)) ⌝ }
+    ensures { λ _. ⌜ now (run .exit) ≡ ranOn (rowGates (gadgetOf and) n w v (shareWires n a) (shareWires n b) i) [] v (now (run .entry)) ⌝ }
 {
     let ai = pieces::share_wire(a, i);
     let bi = pieces::share_wire(b, i);
     run_and(run, v, ai, bi);
-    let z = run_high_sums(run, v, w, n, i);
-    run_low_sums(run, v + i, z, n - 1 - i);
+    let z = run_high_sums(and, run, v, w, n, i);
+    run_low_sums(and, run, v + i, z, n - 1 - i);
 }
 
 // All rows from wire v on, where the AND's first wire is w.
-pub fn run_rows(run: &mut [u8], v: usize, w: usize, n: usize, a: pieces::Places, b: pieces::Places)
+pub fn run_rows(
+    and: masks::And,
+    run: &mut [u8],
+    v: usize,
+    w: usize,
+    n: usize,
+    a: pieces::Places,
+    b: pieces::Places,
+)
     requires { ⌜ RunsTo v (n * n) (now run) × SharesBefore n w a b × (w + 5 * tri n ≤ v) × (v + n * n ≤ 65536) ⌝ }
-    ensures { λ _. ⌜ now (run .exit) ≡ ranOn (rowsGates isw n w v (shareWires n a) (shareWires n b)) [] v (now (run .entry)) ⌝ }
+    ensures { λ _. ⌜ now (run .exit) ≡ ranOn (rowsGates (gadgetOf and) n w v (shareWires n a) (shareWires n b)) [] v (now (run .entry)) ⌝ }
 {
     let mut from = v;
     let mut i = 0;
     while i < n {
-        run_row(run, from, w, n, i, a, b);
+        run_row(and, run, from, w, n, i, a, b);
         from += n;
         i += 1;
     }

@@ -1,11 +1,12 @@
 // Mapping a tape from one secret to another: the free share of the probes, the mapped tape and both runs.
-ghost use Rattle.masks.specs.Gadgets.{isw};
+ghost use Rattle.masks.specs.Gadgets.{gadgetOf};
 ghost use Rattle.masks.specs.Wires.{marks};
 ghost use Rattle.maps.specs.Says.{MapSays};
 
 // Maps a tape from the first secret to the second so that every probe keeps its value: the mapped tape, both runs' values, and
 // the free share as the answer's value.
 pub fn map_tape(
+    and: masks::And,
     table: &[u8],
     order: u8,
     first: &[u8],
@@ -16,7 +17,7 @@ pub fn map_tape(
     one: &mut [u8],
     other: &mut [u8],
 ) -> tables::Answer
-    ensures { λ r. ⌜ MapSays isw (marks isw) (now (table .entry)) order
+    ensures { λ r. ⌜ MapSays (gadgetOf and) (marks (gadgetOf and)) (now (table .entry)) order
         (now (first .entry))
         (now (second .entry))
         (now (tape .entry))
@@ -45,8 +46,8 @@ pub fn map_tape(
             return tables::refused(f);
         }
         sizing::Planned::Ready(p) => {
-            let k = probing::free_share(table, p, probes);
-            rerunning::map_work(table, p, k, first, second, tape, mapped, one, other);
+            let k = probing::free_share(and, table, p, probes);
+            rerunning::map_work(and, table, p, k, first, second, tape, mapped, one, other);
             return tables::Answer {
                 number: 0,
                 place: 0,

@@ -13,7 +13,7 @@ use Rattle.tables.specs.Tables.{Kind, kindOf, Table}
 use Rattle.marking.specs.declared.AndPart as DA
 use Rattle.marking.specs.declared.AndPart.the-variants.{Pair, Own, Sum}
 use Rattle.masks.specs.Shares.{sharesOf, pairOf, pairs}
-use Rattle.masks.specs.Gadgets.{Five, first, second, third, fourth, fifth, Gadget, isw}
+use Rattle.masks.specs.Gadgets.{Five, first, second, third, fourth, fifth, Gadget}
 use Rattle.masks.specs.Wires.{Part, pair, own, sum, Origin, originOf, partMarks, marks, andWires, newWires, cost, origins}
 use Rattle.masks.specs.Says.{originAt}
 
@@ -55,23 +55,23 @@ pub record CarriedSays (ms : List ℕ) (r : DC.Carried) : Type 0 where
   pub first : r .first ≡ getD ms 0 0
   pub second : r .second ≡ getD ms 1 0
 
--- those of a part of an AND, whichever AND it is
-pub record PartMarksSay (p : DA.AndPart) (r : DC.Carried) : Type 0 where
-  pub carried : CarriedSays (partMarks isw (partOf p)) r
+-- those of a part of an AND, inside an OR too
+pub record PartMarksSay (G : Gadget) (p : DA.AndPart) (r : DC.Carried) : Type 0 where
+  pub carried : CarriedSays (partMarks G (partOf p)) r
 
 -- those of new wire d of a plain gate, whichever gate it is
-pub record GateMarksSay (k : Kind) (n d : ℕ) (r : DC.Carried) : Type 0 where
+pub record GateMarksSay (G : Gadget) (k : Kind) (n d : ℕ) (r : DC.Carried) : Type 0 where
   pub carried :
-      (l g w : ℕ) (a b : List ℕ) → CarriedSays (marks isw (originAt (map originOf (newWires isw k l n g w a b)) d)) r
+      (l g w : ℕ) (a b : List ℕ) → CarriedSays (marks G (originAt (map originOf (newWires G k l n g w a b)) d)) r
 
 -- the plain gate that a wire past the input shares is a new wire of, and which of them, where the gate's first new wire is
 -- `start`, its left operand is `operand`, and its operands' shares are on the wires `left` and `right`
-pub record NewWireSays (t : Table) (o wire : ℕ) (r : DW.NewWire) : Type 0 where
+pub record NewWireSays (G : Gadget) (t : Table) (o wire : ℕ) (r : DW.NewWire) : Type 0 where
   pub start : ℕ
   pub operand : ℕ
   pub left : List ℕ
   pub right : List ℕ
   pub below : r .place < cost (kindOf (r .kind)) (sharesOf o)
   pub origin :
-      originAt (origins isw o t) wire
-      ≡ originAt (map originOf (newWires isw (kindOf (r .kind)) operand (sharesOf o) (r .gate) start left right)) (r .place)
+      originAt (origins G o t) wire
+      ≡ originAt (map originOf (newWires G (kindOf (r .kind)) operand (sharesOf o) (r .gate) start left right)) (r .place)

@@ -5,7 +5,7 @@ ghost use Rattle.masks.specs.Shares.{tri};
 ghost use Rattle.masks.specs.Wires.{marks, cost, origins};
 ghost use Rattle.masks.specs.Says.{originAt, MarksSay};
 ghost use Rattle.sizing.specs.Plans.{PlanReady};
-ghost use Rattle.masks.specs.Gadgets.{isw};
+ghost use Rattle.masks.specs.Gadgets.{gadgetOf};
 ghost use Rattle.marking.specs.Origins.{PairSays, Among, PartSays, CarriedSays, PartMarksSay, GateMarksSay, NewWireSays};
 
 // The share numbers that a wire carries, ascending, 0 for none.
@@ -80,27 +80,28 @@ pub fn and_part(n: usize, d: usize) -> AndPart
 }
 
 // The share numbers that a part of a masked AND carries.
-pub fn part_marks(part: AndPart) -> Carried
+pub fn part_marks(and: masks::And, part: AndPart) -> Carried
     requires { ⌜ Among 31 part ⌝ }
-    ensures { λ r. ⌜ PartMarksSay part r ⌝ }
+    ensures { λ r. ⌜ PartMarksSay (gadgetOf and) part r ⌝ }
 {
     match part {
         AndPart::Pair { wire, lower, upper } => {
-            if wire == 0 {
+            let form = masks::pair_form(and);
+            if wire as usize == form.low {
                 return Carried {
                     first: lower + 1,
                     second: 0,
                 };
             }
-            if wire < 4 {
+            if wire as usize == form.high {
                 return Carried {
-                    first: lower + 1,
-                    second: upper + 1,
+                    first: upper + 1,
+                    second: 0,
                 };
             }
             Carried {
-                first: upper + 1,
-                second: 0,
+                first: lower + 1,
+                second: upper + 1,
             }
         }
         AndPart::Own { row } => Carried {
@@ -115,9 +116,9 @@ pub fn part_marks(part: AndPart) -> Carried
 }
 
 // The share numbers that new wire d of an OR carries: its NOTs share 1, the others what those of an AND carry.
-fn or_marks(n: usize, d: usize) -> Carried
+fn or_marks(and: masks::And, n: usize, d: usize) -> Carried
     requires { ⌜ (n ≤ 31) × (d < cost OR n) ⌝ }
-    ensures { λ r. ⌜ GateMarksSay OR n d r ⌝ }
+    ensures { λ r. ⌜ GateMarksSay (gadgetOf and) OR n d r ⌝ }
 {
     if (d < 2) | (d == 2 + masks::and_cost(n)) {
         return Carried {
@@ -125,13 +126,13 @@ fn or_marks(n: usize, d: usize) -> Carried
             second: 0,
         };
     }
-    part_marks(and_part(n, d - 2))
+    part_marks(and, and_part(n, d - 2))
 }
 
 // The share numbers that new wire d of a plain gate carries.
-fn gate_marks(kind: u8, n: usize, d: usize) -> Carried
+fn gate_marks(and: masks::And, kind: u8, n: usize, d: usize) -> Carried
     requires { ⌜ (n ≤ 31) × (d < cost (kindOf kind) n) ⌝ }
-    ensures { λ r. ⌜ GateMarksSay (kindOf kind) n d r ⌝ }
+    ensures { λ r. ⌜ GateMarksSay (gadgetOf and) (kindOf kind) n d r ⌝ }
 {
     if kind == 0 {
         return Carried {
@@ -146,15 +147,15 @@ fn gate_marks(kind: u8, n: usize, d: usize) -> Carried
         };
     }
     if kind == 2 {
-        return part_marks(and_part(n, d));
+        return part_marks(and, and_part(n, d));
     }
-    or_marks(n, d)
+    or_marks(and, n, d)
 }
 
 // The plain gate that a wire past the input shares is a new wire of.
 pub fn find_gate(table: &[u8], p: sizing::Plan, wire: usize) -> NewWire
     requires { ⌜ PlanReady (now table) p × (p .shares * p .inputs ≤ wire) × (wire < p .wires) ⌝ }
-    ensures { λ r. ⌜ NewWireSays (tableOf (now (table .entry))) (p .order) wire r ⌝ }
+    ensures { λ r. ⌜ ((G : Gadget) → NewWireSays G (tableOf (now (table .entry))) (p .order) wire r) ⌝ }
 {
     let n = p.shares;
     let gates = p.gates;
@@ -178,9 +179,9 @@ pub fn find_gate(table: &[u8], p: sizing::Plan, wire: usize) -> NewWire
 }
 
 // The share numbers that a wire of the masked table carries.
-pub fn marks_at(table: &[u8], p: sizing::Plan, wire: usize) -> Carried
+pub fn marks_at(and: masks::And, table: &[u8], p: sizing::Plan, wire: usize) -> Carried
     requires { ⌜ PlanReady (now table) p × (wire < p .wires) ⌝ }
-    ensures { λ r. ⌜ CarriedSays (marks isw (originAt (origins isw (p .order) (tableOf (now (table .entry)))) wire)) r ⌝ }
+    ensures { λ r. ⌜ CarriedSays (marks (gadgetOf and) (originAt (origins (gadgetOf and) (p .order) (tableOf (now (table .entry)))) wire)) r ⌝ }
 {
     let n = p.shares;
     if wire < n * p.inputs {
@@ -190,12 +191,12 @@ pub fn marks_at(table: &[u8], p: sizing::Plan, wire: usize) -> Carried
         };
     }
     let x = find_gate(table, p, wire);
-    gate_marks(x.kind, n, x.place)
+    gate_marks(and, x.kind, n, x.place)
 }
 
 // The share numbers that a wire of the masked table of a plain table carries, or the refusal.
-pub fn wire_marks(table: &[u8], order: u8, wire: u32) -> masks::Marks
-    ensures { λ r. ⌜ MarksSay isw (marks isw) (now (table .entry)) order wire r ⌝ }
+pub fn wire_marks(and: masks::And, table: &[u8], order: u8, wire: u32) -> masks::Marks
+    ensures { λ r. ⌜ MarksSay (gadgetOf and) (marks (gadgetOf and)) (now (table .entry)) order wire r ⌝ }
 {
     match sizing::plan_table(table, order) {
         sizing::Planned::Refused(r) => masks::Marks {
@@ -214,7 +215,7 @@ pub fn wire_marks(table: &[u8], order: u8, wire: u32) -> masks::Marks
                     second: 0,
                 };
             }
-            let c = marks_at(table, p, w);
+            let c = marks_at(and, table, p, w);
             masks::Marks {
                 number: 0,
                 place: 0,

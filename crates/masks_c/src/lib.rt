@@ -1,6 +1,6 @@
 // The calls for C and Rust programs, under the names of include/masks.h. Each is the proved call with the same promise.
 ghost use Rattle.tables.specs.Says.{CheckSays, RunSays};
-ghost use Rattle.masks.specs.Gadgets.{isw};
+ghost use Rattle.masks.specs.Gadgets.{isw, dom};
 ghost use Rattle.masks.specs.Wires.{marks};
 ghost use Rattle.masks.specs.Says.{ForecastSays, MaskSays, EncodeSays, DecodeSays, MarksSay};
 ghost use Rattle.maps.specs.Says.{MapSays};
@@ -23,7 +23,7 @@ pub extern "C" fn masks_forecast(table: &[u8], order: u8) -> masks::Sizes
 pub extern "C" fn masks_mask(table: &[u8], order: u8, out: &mut [u8]) -> tables::Answer
     ensures { λ r. ⌜ MaskSays isw (now (table .entry)) order (now (out .entry)) (now (out .exit)) r ⌝ }
 {
-    masking::mask_table(table, order, out)
+    masking::mask_table(masks::And::Isw, table, order, out)
 }
 
 #[no_mangle]
@@ -67,7 +67,7 @@ pub extern "C" fn masks_run(
 pub extern "C" fn masks_marks_of(table: &[u8], order: u8, wire: u32) -> masks::Marks
     ensures { λ r. ⌜ MarksSay isw (marks isw) (now (table .entry)) order wire r ⌝ }
 {
-    marking::wire_marks(table, order, wire)
+    marking::wire_marks(masks::And::Isw, table, order, wire)
 }
 
 #[no_mangle]
@@ -96,6 +96,60 @@ pub extern "C" fn masks_map(
         r ⌝ }
 {
     mapping::map_tape(
+        masks::And::Isw,
+        table,
+        order,
+        first,
+        second,
+        tape,
+        probes,
+        mapped,
+        one,
+        other,
+    )
+}
+
+#[no_mangle]
+pub extern "C" fn masks_mask_dom(table: &[u8], order: u8, out: &mut [u8]) -> tables::Answer
+    ensures { λ r. ⌜ MaskSays dom (now (table .entry)) order (now (out .entry)) (now (out .exit)) r ⌝ }
+{
+    masking::mask_table(masks::And::Dom, table, order, out)
+}
+
+#[no_mangle]
+pub extern "C" fn masks_marks_of_dom(table: &[u8], order: u8, wire: u32) -> masks::Marks
+    ensures { λ r. ⌜ MarksSay dom (marks dom) (now (table .entry)) order wire r ⌝ }
+{
+    marking::wire_marks(masks::And::Dom, table, order, wire)
+}
+
+#[no_mangle]
+pub extern "C" fn masks_map_dom(
+    table: &[u8],
+    order: u8,
+    first: &[u8],
+    second: &[u8],
+    tape: &[u8],
+    probes: &[u32],
+    mapped: &mut [u8],
+    one: &mut [u8],
+    other: &mut [u8],
+) -> tables::Answer
+    ensures { λ r. ⌜ MapSays dom (marks dom) (now (table .entry)) order
+        (now (first .entry))
+        (now (second .entry))
+        (now (tape .entry))
+        (now (probes .entry))
+        (now (mapped .entry))
+        (now (mapped .exit))
+        (now (one .entry))
+        (now (one .exit))
+        (now (other .entry))
+        (now (other .exit))
+        r ⌝ }
+{
+    mapping::map_tape(
+        masks::And::Dom,
         table,
         order,
         first,

@@ -5,7 +5,7 @@ use Prim.Native.Nat.{ℕ, suc, _-_}
 use lib.ListN.{getD}
 use Rattle.pieces.specs.declared.Places as DP
 use Rattle.masks.specs.Shares.{upFrom, inTurn, Pair, pairOf}
-use Rattle.masks.specs.Gadgets.{isw}
+use Rattle.masks.specs.Gadgets.{Gadget}
 use Rattle.maps.specs.Both.{wiresFlip, BothFlip}
 use Rattle.pieces.specs.Layout.{shareWires, pairGates}
 
@@ -15,9 +15,9 @@ sharePairs n i = upFrom (n - suc i) (suc i) (λ j. pairOf i j)
 
 -- the pairs ps run on in both runs, and what they flip is read off the values x and y so far
 abbrev pub PairsRan :
-    ℕ → ℕ → DP.Places → DP.Places → List Pair → List ℕ → ℕ → ℕ → List ℕ → List ℕ → List ℕ → List ℕ → List ℕ → List ℕ → Type 0
-PairsRan n k a b ps ts at w m m′ x x′ y y′ =
+    Gadget → ℕ → ℕ → DP.Places → DP.Places → List Pair → List ℕ → ℕ → ℕ → List ℕ → List ℕ → List ℕ → List ℕ → List ℕ → List ℕ → Type 0
+PairsRan G n k a b ps ts at w m m′ x x′ y y′ =
     BothFlip
-    (inTurn 5 w ps (pairGates isw (shareWires n a) (shareWires n b)))
-    (map (wiresFlip isw k (shareWires n a) (shareWires n b) (λ p. getD x p 0) (λ p. getD y p 0)) ps)
+    (inTurn 5 w ps (pairGates G (shareWires n a) (shareWires n b)))
+    (map (wiresFlip G k (shareWires n a) (shareWires n b) (λ p. getD x p 0) (λ p. getD y p 0)) ps)
     ts at w m m′ x x′ y y′

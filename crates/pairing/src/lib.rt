@@ -2,12 +2,14 @@
 ghost use Prim.Native.Nat.{_+_, _-_, _*_, _≤_, _<_, suc};
 ghost use Rattle.tables.specs.Packing.{unpacked};
 ghost use Rattle.masks.specs.Shares.{pairs, tri};
+ghost use Rattle.masks.specs.Gadgets.{gadgetOf};
 ghost use Rattle.maps.specs.Both.{BothReady};
 ghost use Rattle.driving.specs.Driving.{SharesBefore};
 ghost use Rattle.pairing.specs.Pairing.{sharePairs, PairsRan};
 
 // The pairs of share i, counted from 0, with each later share, in both runs, from wire w and from a place of the tape on.
 fn map_share(
+    and: masks::And,
     k: usize,
     n: usize,
     i: usize,
@@ -22,7 +24,7 @@ fn map_share(
 )
     requires { ⌜ (i < n) × SharesBefore n w a b
         × BothReady w (5 * (n - suc i)) at (n - suc i) (unpacked (now tape)) (unpacked (now mapped)) (now one) (now other) ⌝ }
-    ensures { λ _. ⌜ PairsRan n k a b (sharePairs n i) (unpacked (now (tape .entry))) at w
+    ensures { λ _. ⌜ PairsRan (gadgetOf and) n k a b (sharePairs n i) (unpacked (now (tape .entry))) at w
         (unpacked (now (mapped .entry))) (unpacked (now (mapped .exit))) (now (one .entry)) (now (one .exit)) (now (other .entry)) (now (other .exit)) ⌝ }
 {
     let ai = pieces::share_wire(a, i);
@@ -34,6 +36,7 @@ fn map_share(
         let aj = pieces::later_wire(a, j);
         let bj = pieces::later_wire(b, j);
         crossing::map_pair(
+            and,
             k,
             i + 1,
             j + 1,
@@ -54,6 +57,7 @@ fn map_share(
 
 // All pairs of n shares in both runs, from wire w and from a place of the tape on.
 pub fn map_pairs(
+    and: masks::And,
     k: usize,
     n: usize,
     w: usize,
@@ -67,14 +71,14 @@ pub fn map_pairs(
 )
     requires { ⌜ SharesBefore n w a b × (w + 5 * tri n ≤ 65535)
         × BothReady w (5 * tri n) at (tri n) (unpacked (now tape)) (unpacked (now mapped)) (now one) (now other) ⌝ }
-    ensures { λ _. ⌜ PairsRan n k a b (pairs n) (unpacked (now (tape .entry))) at w
+    ensures { λ _. ⌜ PairsRan (gadgetOf and) n k a b (pairs n) (unpacked (now (tape .entry))) at w
         (unpacked (now (mapped .entry))) (unpacked (now (mapped .exit))) (now (one .entry)) (now (one .exit)) (now (other .entry)) (now (other .exit)) ⌝ }
 {
     let mut v = w;
     let mut next = at;
     let mut i = 0;
     while i < n {
-        map_share(k, n, i, v, a, b, tape, next, mapped, one, other);
+        map_share(and, k, n, i, v, a, b, tape, next, mapped, one, other);
         let later = n - 1 - i;
         v += 5 * later;
         next += later;

@@ -6,7 +6,7 @@ ghost use lib.ListN.{length};
 ghost use Rattle.tables.specs.Tables.{two, tableOf, total, wordBytes};
 ghost use Rattle.tables.specs.Says.{over};
 ghost use Rattle.tables.specs.Inside.{putAt};
-ghost use Rattle.masks.specs.Gadgets.{isw};
+ghost use Rattle.masks.specs.Gadgets.{gadgetOf};
 ghost use Rattle.masks.specs.Wires.{cost, masked, outputShares};
 ghost use Rattle.sizing.specs.Plans.{PlanReady};
 ghost use Rattle.pieces.specs.Layout.{shareWires, LowShares, operandBytes};
@@ -38,6 +38,7 @@ pub fn write_kinds(table: &[u8], p: sizing::Plan, from: usize, to: usize, kinds:
 
 // Writes the operands of the masked gates of the plain gates from..to, the first of which begins at wire w.
 pub fn write_operands(
+    and: masks::And,
     table: &[u8],
     p: sizing::Plan,
     from: usize,
@@ -51,7 +52,7 @@ pub fn write_operands(
     requires { ⌜ PlanReady (now table) p × Located (tableOf (now table)) (p .shares) (now head) (now base) (now step)
         × (from ≤ to) × (to ≤ p .gates) × (w ≡ gateWire (p .shares) (tableOf (now table)) from)
         × (4 * total (λ k. cost k (p .shares)) (stretch (tableOf (now table)) from to) ≤ length (now ops)) ⌝ }
-    ensures { λ _. ⌜ now (ops .exit) ≡ over (operandBytes (masked isw (p .shares) from w
+    ensures { λ _. ⌜ now (ops .exit) ≡ over (operandBytes (masked (gadgetOf and) (p .shares) from w
         (sharesTo (p .shares) (tableOf (now (table .entry))) from) (stretch (tableOf (now (table .entry))) from to))) (now (ops .entry)) ⌝ }
 {
     let n = p.shares;
@@ -63,7 +64,19 @@ pub fn write_operands(
     let mut g = from;
     while g < to {
         let x = tables::gate_at(table, gates, g);
-        writing::write_operands_of(x.kind, x.left, x.right, n, next, head, base, step, ops, at);
+        writing::write_operands_of(
+            and,
+            x.kind,
+            x.left,
+            x.right,
+            n,
+            next,
+            head,
+            base,
+            step,
+            ops,
+            at,
+        );
         let new = masks::noted_cost(&costs, x.kind);
         next += new;
         at += 4 * new;

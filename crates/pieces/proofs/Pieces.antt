@@ -10,7 +10,7 @@ use lib.Dec.{eqb}
 use lib.ListN.{length, getD, length-append, length-map}
 use Rattle.tables.specs.Tables.{NOT, XOR, AND, CONSTANT, OR, Gate, gate}
 use Rattle.masks.specs.Shares.{upFrom, inTurn, Pair, pairOf, pairs, tri, pairAt, row}
-use Rattle.masks.specs.Gadgets.{Gadget, isw}
+use Rattle.masks.specs.Gadgets.{first, Gadget}
 use Rattle.masks.specs.Wires.{Part, sum, inAnd, Origin, andPart, xorShare, constantShare, orPart, driverOf, wire, share, firstOn, pairWires}
 use Rattle.masks.specs.Wires.{adding, pairWire, rowWires, andWires, andShares, andCost, newWires}
 use Rattle.pieces.specs.Layout.{joined, sumGates, highGates, lowGates, rowGates, rowsGates}
@@ -19,6 +19,7 @@ use Rattle.pieces.proofs.Bytes.{joined-long, joined-same}
 use Rattle.masks.proofs.Sum.{up-length, up-plus, up-shift}
 use Rattle.masks.proofs.Rows.{pairs-length, pair-below, pair-closed}
 use Rattle.masks.proofs.Costs.{and-length, or-driven}
+use Rattle.masks.proofs.Forms.{index-below}
 
 -- blocks for a counted list, from block c on: the block c starts at wire w + size·c
 in-turn-from :
@@ -107,7 +108,7 @@ pub upright-turn :
 upright-turn n w i j z h k e = omega arith
 
 pub upright-high :
-    (n w i j z : ℕ) → j < i → i < n → Upright n w i j z → z ≡ pairWire w (isw .high) (pairAt n j i) + 1
+    (n w i j z : ℕ) → j < i → i < n → Upright n w i j z → z ≡ w + 5 * pairAt n j i + 5
 upright-high n w i j z h k e = omega (arith, pair-closed n j i h k)
 
 pub upright-within :
@@ -115,15 +116,15 @@ pub upright-within :
 upright-within n w i j z h k e = omega (arith, upright-high n w i j z h k e, pair-below n j i h k)
 
 pub upright-low :
-    (n w i j z : ℕ) → suc i < n → j ≡ i → Upright n w i j z → z ≡ pairWire w (isw .low) (pairAt n i (suc i))
+    (n w i j z : ℕ) → suc i < n → j ≡ i → Upright n w i j z → z ≡ pairWire w first (pairAt n i (suc i))
 upright-low n w i j z h k e =
     let end : Upright n w i i z = rw k at e in omega (arith, pair-closed n i (suc i) (omega arith) h)
 
 -- the wires of the pairs (i, j) follow one another
 pub low-same :
-    (n w i z v m : ℕ) → m ≡ n - suc i → (suc i < n → z ≡ pairWire w (isw .low) (pairAt n i (suc i)))
-    → joined (n - suc i) 0 (sumGates v (λ j. pairWire w (isw .low) (pairAt n i (suc i + j)))) ≡ lowGates isw z v m
-low-same n w i z v m e h =
+    (G : Gadget) (n w i z v m : ℕ) → m ≡ n - suc i → (suc i < n → z ≡ pairWire w first (pairAt n i (suc i)))
+    → joined (n - suc i) 0 (sumGates v (λ j. pairWire w (G .low) (pairAt n i (suc i + j)))) ≡ lowGates G z v m
+low-same G n w i z v m e h =
     rw e
     (joined-same (n - suc i) 0 _ _
     (λ c k.
@@ -136,11 +137,12 @@ low-same n w i z v m e h =
     ))))
 
 pub low-within :
-    (n w i z c : ℕ) → z ≡ pairWire w (isw .low) (pairAt n i (suc i)) → suc i + c < n
-    → pairWire z (isw .low) c < w + 5 * tri n
-low-within n w i z c e h =
+    (G : Gadget) (n w i z c : ℕ) → z ≡ pairWire w first (pairAt n i (suc i)) → suc i + c < n
+    → pairWire z (G .low) c < w + 5 * tri n
+low-within G n w i z c e h =
     omega (
       arith,
+      index-below (G .low),
       pair-closed n i (suc i) (omega arith) (omega arith),
       pair-closed n i (suc i + c) (omega arith) h,
       pair-below n i (suc i + c) (omega arith) h,

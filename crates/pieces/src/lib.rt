@@ -1,4 +1,4 @@
-// Where the shares of a plain wire are kept, which wires the rows of an AND add, and the operands of one gate.
+// Where the shares of a plain wire are kept, and the operands of one gate.
 ghost use mathlib.Core.Path.{_≡_};
 ghost use Prim.Native.Nat.{_+_, _-_, _*_, _≤_, _<_, ℕ, suc};
 ghost use Rattle.masks.specs.Shares.{tri};
@@ -8,11 +8,6 @@ ghost use mathlib.Core.List.{_++_};
 ghost use lib.ListN.{length};
 ghost use Rattle.tables.specs.Inside.{putAt};
 ghost use Rattle.tables.specs.Tables.{two};
-
-// Which of the five wires of a pair (i, j) the rows add: row i the first, row j the fifth.
-pub const LOW: usize = 0;
-
-pub const HIGH: usize = 4;
 
 // Where the shares of a plain wire are: share 1 on wire head, share s on wire base + (s − 2)·step.
 pub struct Places {

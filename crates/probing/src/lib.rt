@@ -4,7 +4,7 @@ ghost use Prim.Native.Nat.{ℕ, _≤_};
 ghost use mathlib.Core.Bool.{true};
 ghost use mathlib.Core.List.{List};
 ghost use Rattle.tables.specs.Tables.{tableOf};
-ghost use Rattle.masks.specs.Gadgets.{isw};
+ghost use Rattle.masks.specs.Gadgets.{gadgetOf};
 ghost use Rattle.masks.specs.Wires.{marks, origins};
 ghost use Rattle.sizing.specs.Plans.{PlanReady};
 ghost use Rattle.maps.specs.Maps.{carried, freeFrom, freeShare};
@@ -27,15 +27,15 @@ fn free_of(seen: &[u8; 256], n: usize) -> usize
 }
 
 // Marks the share numbers that the probes carry.
-fn mark_probes(table: &[u8], p: sizing::Plan, probes: &[u32], seen: &mut [u8; 256])
+fn mark_probes(and: masks::And, table: &[u8], p: sizing::Plan, probes: &[u32], seen: &mut [u8; 256])
     requires { ⌜ PlanReady (now table) p × MarkReady (now probes) (p .wires) (now seen) ⌝ }
     ensures { λ _. ⌜ Seen
-        (carried (marks isw) (origins isw (p .order) (tableOf (now (table .entry)))) (now (probes .entry)))
+        (carried (marks (gadgetOf and)) (origins (gadgetOf and) (p .order) (tableOf (now (table .entry)))) (now (probes .entry)))
         (now (seen .exit)) ⌝ }
 {
     let mut j = 0;
     while j < probes.len() {
-        let c = marking::marks_at(table, p, probes[j] as usize);
+        let c = marking::marks_at(and, table, p, probes[j] as usize);
         let first = c.first as usize;
         let second = c.second as usize;
         seen[first] = 1;
@@ -45,11 +45,11 @@ fn mark_probes(table: &[u8], p: sizing::Plan, probes: &[u32], seen: &mut [u8; 25
 }
 
 // The smallest share number that no probe carries.
-pub fn free_share(table: &[u8], p: sizing::Plan, probes: &[u32]) -> usize
+pub fn free_share(and: masks::And, table: &[u8], p: sizing::Plan, probes: &[u32]) -> usize
     requires { ⌜ PlanReady (now table) p × (allBelow (p .wires) (now probes) ≡ true) ⌝ }
-    ensures { λ r. ⌜ r ≡ freeShare isw (marks isw) (p .order) (tableOf (now (table .entry))) (now (probes .entry)) ⌝ }
+    ensures { λ r. ⌜ r ≡ freeShare (gadgetOf and) (marks (gadgetOf and)) (p .order) (tableOf (now (table .entry))) (now (probes .entry)) ⌝ }
 {
     let mut seen = [0u8; 256];
-    mark_probes(table, p, probes, &mut seen);
+    mark_probes(and, table, p, probes, &mut seen);
     free_of(&seen, p.shares)
 }

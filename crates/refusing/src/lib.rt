@@ -1,7 +1,8 @@
 // The refusals of a mapping call.
 ghost use Prim.Native.Nat.{_≤_};
 ghost use Rattle.tables.specs.Says.{Refused};
-ghost use Rattle.masks.specs.Gadgets.{isw};
+ghost use Rattle.masks.specs.declared.And as DAnd;
+ghost use Rattle.masks.specs.Gadgets.{gadgetOf};
 ghost use Rattle.sizing.specs.Plans.{PlanSays};
 ghost use Rattle.maps.specs.Says.{supplyFault, probesFault, roomFault, callFault, mapFault};
 
@@ -100,8 +101,8 @@ pub fn map_fault(
     one: usize,
     other: usize,
 ) -> sizing::Planned
-    ensures { λ r. ⌜ PlanSays
-        (mapFault isw (now (table .entry)) order
+    ensures { λ r. ⌜ ((a : DAnd.And) → PlanSays
+        (mapFault (gadgetOf a) (now (table .entry)) order
         (now (first .entry))
         (now (second .entry))
         (now (tape .entry))
@@ -111,7 +112,7 @@ pub fn map_fault(
         other)
         (now (table .entry))
         order
-        r ⌝ }
+        r) ⌝ }
 {
     let planned = sizing::plan_table(table, order);
     match planned {

@@ -10,7 +10,7 @@ use Rattle.tables.specs.Tables.{tableOf}
 use Rattle.tables.specs.Packing.{bytesFor, packed, tapeOf, spare}
 use Rattle.tables.specs.Says.{over}
 use Rattle.tables.specs.Runs.{Bits}
-use Rattle.masks.specs.Gadgets.{isw}
+use Rattle.masks.specs.Gadgets.{Gadget}
 use Rattle.masks.specs.Wires.{tapeLong}
 use Rattle.masks.specs.Codes.{maskedRun}
 use Rattle.sizing.specs.declared.Plan as DP
@@ -33,11 +33,11 @@ pub record WorkReady (s : List ℕ) (p : DP.Plan) (k : ℕ) (xs ys ts m a b : Li
   pub other : p .wires ≤ length b
 
 -- the mapped tape, packed, and both runs
-pub record WorkSays (s : List ℕ) (o k : ℕ) (xs ys ts m m′ a a′ b b′ : List ℕ) : Type 0 where
-  pub mapped : m′ ≡ over (packed (mappedAt isw o (tableOf s) k xs ys (tapeOf (tapeLong isw o (tableOf s)) ts))) m
-  pub one : a′ ≡ over (maskedRun isw o (tableOf s) xs (tapeOf (tapeLong isw o (tableOf s)) ts)) a
+pub record WorkSays (G : Gadget) (s : List ℕ) (o k : ℕ) (xs ys ts m m′ a a′ b b′ : List ℕ) : Type 0 where
+  pub mapped : m′ ≡ over (packed (mappedAt G o (tableOf s) k xs ys (tapeOf (tapeLong G o (tableOf s)) ts))) m
+  pub one : a′ ≡ over (maskedRun G o (tableOf s) xs (tapeOf (tapeLong G o (tableOf s)) ts)) a
   pub other :
       b′
       ≡ over
-      (maskedRun isw o (tableOf s) ys (mappedAt isw o (tableOf s) k xs ys (tapeOf (tapeLong isw o (tableOf s)) ts)))
+      (maskedRun G o (tableOf s) ys (mappedAt G o (tableOf s) k xs ys (tapeOf (tapeLong G o (tableOf s)) ts)))
       b

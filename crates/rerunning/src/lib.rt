@@ -1,10 +1,12 @@
 // The mapped tape and both runs, where mapping is not refused and the free share is known.
 ghost use Prim.Native.Nat.{_+_, _≤_};
+ghost use Rattle.masks.specs.Gadgets.{gadgetOf};
 ghost use Rattle.placing.specs.Located.{Room};
 ghost use Rattle.rerunning.specs.Working.{WorkReady, WorkSays};
 
 // Maps with three arrays that are lent to note where shares are; k is the free share.
 fn map_with(
+    and: masks::And,
     table: &[u8],
     p: sizing::Plan,
     k: usize,
@@ -20,13 +22,14 @@ fn map_with(
 )
     requires { ⌜ WorkReady (now table) p k (now first) (now second) (now tape) (now mapped) (now one) (now other)
         × Room (p .inputs + p .gates) (now head) (now base) (now step) ⌝ }
-    ensures { λ _. ⌜ WorkSays (now (table .entry)) (p .order) k (now (first .entry)) (now (second .entry)) (now (tape .entry))
+    ensures { λ _. ⌜ WorkSays (gadgetOf and) (now (table .entry)) (p .order) k (now (first .entry)) (now (second .entry)) (now (tape .entry))
         (now (mapped .entry)) (now (mapped .exit)) (now (one .entry)) (now (one .exit)) (now (other .entry)) (now (other .exit)) ⌝ }
 {
     let split = 2 * p.order * p.inputs;
     placing::locate(table, p, head, base, step);
     flipping::begin_runs(p.order, k, first, second, tape, mapped, one, other);
     steps::map_gates(
+        and,
         table,
         p,
         k,
@@ -43,6 +46,7 @@ fn map_with(
 
 // Maps with a table of at most 256 wires.
 fn map_tiny(
+    and: masks::And,
     table: &[u8],
     p: sizing::Plan,
     k: usize,
@@ -55,13 +59,14 @@ fn map_tiny(
 )
     requires { ⌜ WorkReady (now table) p k (now first) (now second) (now tape) (now mapped) (now one) (now other)
         × (p .inputs + p .gates ≤ 256) ⌝ }
-    ensures { λ _. ⌜ WorkSays (now (table .entry)) (p .order) k (now (first .entry)) (now (second .entry)) (now (tape .entry))
+    ensures { λ _. ⌜ WorkSays (gadgetOf and) (now (table .entry)) (p .order) k (now (first .entry)) (now (second .entry)) (now (tape .entry))
         (now (mapped .entry)) (now (mapped .exit)) (now (one .entry)) (now (one .exit)) (now (other .entry)) (now (other .exit)) ⌝ }
 {
     let mut head = [0u16; 256];
     let mut base = [0u16; 256];
     let mut step = [0u16; 256];
     map_with(
+        and,
         table,
         p,
         k,
@@ -79,6 +84,7 @@ fn map_tiny(
 
 // Maps with a table of at most 2,048 wires.
 fn map_small(
+    and: masks::And,
     table: &[u8],
     p: sizing::Plan,
     k: usize,
@@ -91,13 +97,14 @@ fn map_small(
 )
     requires { ⌜ WorkReady (now table) p k (now first) (now second) (now tape) (now mapped) (now one) (now other)
         × (p .inputs + p .gates ≤ 2048) ⌝ }
-    ensures { λ _. ⌜ WorkSays (now (table .entry)) (p .order) k (now (first .entry)) (now (second .entry)) (now (tape .entry))
+    ensures { λ _. ⌜ WorkSays (gadgetOf and) (now (table .entry)) (p .order) k (now (first .entry)) (now (second .entry)) (now (tape .entry))
         (now (mapped .entry)) (now (mapped .exit)) (now (one .entry)) (now (one .exit)) (now (other .entry)) (now (other .exit)) ⌝ }
 {
     let mut head = [0u16; 2048];
     let mut base = [0u16; 2048];
     let mut step = [0u16; 2048];
     map_with(
+        and,
         table,
         p,
         k,
@@ -115,6 +122,7 @@ fn map_small(
 
 // Maps with a table of at most 16,384 wires.
 fn map_middle(
+    and: masks::And,
     table: &[u8],
     p: sizing::Plan,
     k: usize,
@@ -127,13 +135,14 @@ fn map_middle(
 )
     requires { ⌜ WorkReady (now table) p k (now first) (now second) (now tape) (now mapped) (now one) (now other)
         × (p .inputs + p .gates ≤ 16384) ⌝ }
-    ensures { λ _. ⌜ WorkSays (now (table .entry)) (p .order) k (now (first .entry)) (now (second .entry)) (now (tape .entry))
+    ensures { λ _. ⌜ WorkSays (gadgetOf and) (now (table .entry)) (p .order) k (now (first .entry)) (now (second .entry)) (now (tape .entry))
         (now (mapped .entry)) (now (mapped .exit)) (now (one .entry)) (now (one .exit)) (now (other .entry)) (now (other .exit)) ⌝ }
 {
     let mut head = [0u16; 16384];
     let mut base = [0u16; 16384];
     let mut step = [0u16; 16384];
     map_with(
+        and,
         table,
         p,
         k,
@@ -151,6 +160,7 @@ fn map_middle(
 
 // Maps with a table of any number of wires.
 fn map_large(
+    and: masks::And,
     table: &[u8],
     p: sizing::Plan,
     k: usize,
@@ -162,13 +172,14 @@ fn map_large(
     other: &mut [u8],
 )
     requires { ⌜ WorkReady (now table) p k (now first) (now second) (now tape) (now mapped) (now one) (now other) ⌝ }
-    ensures { λ _. ⌜ WorkSays (now (table .entry)) (p .order) k (now (first .entry)) (now (second .entry)) (now (tape .entry))
+    ensures { λ _. ⌜ WorkSays (gadgetOf and) (now (table .entry)) (p .order) k (now (first .entry)) (now (second .entry)) (now (tape .entry))
         (now (mapped .entry)) (now (mapped .exit)) (now (one .entry)) (now (one .exit)) (now (other .entry)) (now (other .exit)) ⌝ }
 {
     let mut head = [0u16; 65536];
     let mut base = [0u16; 65536];
     let mut step = [0u16; 65536];
     map_with(
+        and,
         table,
         p,
         k,
@@ -186,6 +197,7 @@ fn map_large(
 
 // Maps with a table of any size.
 fn map_any(
+    and: masks::And,
     table: &[u8],
     p: sizing::Plan,
     k: usize,
@@ -197,22 +209,23 @@ fn map_any(
     other: &mut [u8],
 )
     requires { ⌜ WorkReady (now table) p k (now first) (now second) (now tape) (now mapped) (now one) (now other) ⌝ }
-    ensures { λ _. ⌜ WorkSays (now (table .entry)) (p .order) k (now (first .entry)) (now (second .entry)) (now (tape .entry))
+    ensures { λ _. ⌜ WorkSays (gadgetOf and) (now (table .entry)) (p .order) k (now (first .entry)) (now (second .entry)) (now (tape .entry))
         (now (mapped .entry)) (now (mapped .exit)) (now (one .entry)) (now (one .exit)) (now (other .entry)) (now (other .exit)) ⌝ }
 {
     if p.inputs + p.gates <= 2048 {
-        map_small(table, p, k, first, second, tape, mapped, one, other);
+        map_small(and, table, p, k, first, second, tape, mapped, one, other);
         return;
     }
     if p.inputs + p.gates <= 16384 {
-        map_middle(table, p, k, first, second, tape, mapped, one, other);
+        map_middle(and, table, p, k, first, second, tape, mapped, one, other);
         return;
     }
-    map_large(table, p, k, first, second, tape, mapped, one, other);
+    map_large(and, table, p, k, first, second, tape, mapped, one, other);
 }
 
 // Maps with little stack where the table is tiny: to reserve that of a large one takes time even where it is not used.
 fn map_lean(
+    and: masks::And,
     table: &[u8],
     p: sizing::Plan,
     k: usize,
@@ -224,19 +237,20 @@ fn map_lean(
     other: &mut [u8],
 )
     requires { ⌜ WorkReady (now table) p k (now first) (now second) (now tape) (now mapped) (now one) (now other) ⌝ }
-    ensures { λ _. ⌜ WorkSays (now (table .entry)) (p .order) k (now (first .entry)) (now (second .entry)) (now (tape .entry))
+    ensures { λ _. ⌜ WorkSays (gadgetOf and) (now (table .entry)) (p .order) k (now (first .entry)) (now (second .entry)) (now (tape .entry))
         (now (mapped .entry)) (now (mapped .exit)) (now (one .entry)) (now (one .exit)) (now (other .entry)) (now (other .exit)) ⌝ }
 {
     if p.inputs + p.gates <= 256 {
-        map_tiny(table, p, k, first, second, tape, mapped, one, other);
+        map_tiny(and, table, p, k, first, second, tape, mapped, one, other);
         return;
     }
-    map_any(table, p, k, first, second, tape, mapped, one, other);
+    map_any(and, table, p, k, first, second, tape, mapped, one, other);
 }
 
 // The mapped tape and both runs, where nothing is refused; k is the free share. As in masking, `map_any` is called in two places, so
 // that its stack is reserved only where it is called.
 pub fn map_work(
+    and: masks::And,
     table: &[u8],
     p: sizing::Plan,
     k: usize,
@@ -248,12 +262,12 @@ pub fn map_work(
     other: &mut [u8],
 )
     requires { ⌜ WorkReady (now table) p k (now first) (now second) (now tape) (now mapped) (now one) (now other) ⌝ }
-    ensures { λ _. ⌜ WorkSays (now (table .entry)) (p .order) k (now (first .entry)) (now (second .entry)) (now (tape .entry))
+    ensures { λ _. ⌜ WorkSays (gadgetOf and) (now (table .entry)) (p .order) k (now (first .entry)) (now (second .entry)) (now (tape .entry))
         (now (mapped .entry)) (now (mapped .exit)) (now (one .entry)) (now (one .exit)) (now (other .entry)) (now (other .exit)) ⌝ }
 {
     if p.inputs + p.gates <= 2048 {
-        map_lean(table, p, k, first, second, tape, mapped, one, other);
+        map_lean(and, table, p, k, first, second, tape, mapped, one, other);
         return;
     }
-    map_any(table, p, k, first, second, tape, mapped, one, other);
+    map_any(and, table, p, k, first, second, tape, mapped, one, other);
 }

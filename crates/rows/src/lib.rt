@@ -5,34 +5,44 @@ ghost use lib.ListN.{length};
 ghost use Rattle.tables.specs.Inside.{putAt};
 ghost use Rattle.tables.specs.Tables.{pairBytes};
 ghost use Rattle.masks.specs.Shares.{tri, pairAt};
-ghost use Rattle.masks.specs.Gadgets.{first, isw};
+ghost use Rattle.masks.specs.Gadgets.{first, gadgetOf};
 ghost use Rattle.masks.specs.Wires.{pairWire};
 ghost use Rattle.pieces.specs.Layout.{shareWires, ReadsShares, highGates, lowGates, rowGates, rowsGates};
 
 // Writes the operands of a row's last m sums, the first of which reads wire last: they add one wire each of m pairs, from
 // wire z on.
-fn write_low_sums(ops: &mut [u8], at: usize, last: usize, z: usize, m: usize)
-    requires { ⌜ (last + m ≤ 65536) × ((c : ℕ) → c < m → pairWire z (isw .low) c < 65536) × (at + 4 * m ≤ length (now ops)) ⌝ }
-    ensures { λ _. ⌜ now (ops .exit) ≡ putAt at (pairBytes (lowGates isw z last m)) (now (ops .entry)) ⌝ }
+fn write_low_sums(and: masks::And, ops: &mut [u8], at: usize, last: usize, z: usize, m: usize)
+    requires { ⌜ (last + m ≤ 65536) × ((c : ℕ) → c < m → pairWire z (gadgetOf and .low) c < 65536) × (at + 4 * m ≤ length (now ops)) ⌝ }
+    ensures { λ _. ⌜ now (ops .exit) ≡ putAt at (pairBytes (lowGates (gadgetOf and) z last m)) (now (ops .entry)) ⌝ }
 {
+    let form = masks::pair_form(and);
     let mut c = 0;
     while c < m {
-        pieces::put_gate(ops, at + 4 * c, last + c, z + 5 * c + pieces::LOW);
+        pieces::put_gate(ops, at + 4 * c, last + c, z + 5 * c + form.low);
         c += 1;
     }
 }
 
 // Writes the operands of row i's first i sums, the first of which reads wire last: they add one wire each of the pairs (j, i),
 // j rising, where the AND's first wire is w. Returns the first wire of the pair (i, i + 1), if there is one.
-fn write_high_sums(ops: &mut [u8], at: usize, last: usize, w: usize, n: usize, i: usize) -> usize
+fn write_high_sums(
+    and: masks::And,
+    ops: &mut [u8],
+    at: usize,
+    last: usize,
+    w: usize,
+    n: usize,
+    i: usize,
+) -> usize
     requires { ⌜ (i < n) × (last + n ≤ 65536) × (w + 5 * tri n ≤ 65536) × (at + 4 * i ≤ length (now ops)) ⌝ }
     ensures { λ r. ⌜ (suc i < n → r ≡ pairWire w first (pairAt n i (suc i)))
-        × (now (ops .exit) ≡ putAt at (pairBytes (highGates isw n w last i)) (now (ops .entry))) ⌝ }
+        × (now (ops .exit) ≡ putAt at (pairBytes (highGates (gadgetOf and) n w last i)) (now (ops .entry))) ⌝ }
 {
+    let form = masks::pair_form(and);
     let mut z = w + 5 * i;
     let mut j = 0;
     while j < i {
-        pieces::put_gate(ops, at + 4 * j, last + j, z - 5 + pieces::HIGH);
+        pieces::put_gate(ops, at + 4 * j, last + j, z - 5 + form.high);
         z += 5 * (n - 2 - j);
         j += 1;
     }
@@ -41,6 +51,7 @@ fn write_high_sums(ops: &mut [u8], at: usize, last: usize, w: usize, n: usize, i
 
 // Writes the operands of row i from wire v on, where the AND's first wire is w: its own product, then the sums.
 fn write_row(
+    and: masks::And,
     ops: &mut [u8],
     at: usize,
     v: usize,
@@ -51,17 +62,18 @@ fn write_row(
     b: pieces::Places,
 )
     requires { ⌜ ReadsShares n a b × (i < n) × (v + n ≤ 65536) × (w + 5 * tri n ≤ 65536) × (at + 4 * n ≤ length (now ops)) ⌝ }
-    ensures { λ _. ⌜ now (ops .exit) ≡ putAt at (pairBytes (rowGates isw n w v (shareWires n a) (shareWires n b) i)) (now (ops .entry)) ⌝ }
+    ensures { λ _. ⌜ now (ops .exit) ≡ putAt at (pairBytes (rowGates (gadgetOf and) n w v (shareWires n a) (shareWires n b) i)) (now (ops .entry)) ⌝ }
 {
     let ai = pieces::share_wire(a, i);
     let bi = pieces::share_wire(b, i);
     pieces::put_gate(ops, at, ai, bi);
-    let z = write_high_sums(ops, at + 4, v, w, n, i);
-    write_low_sums(ops, at + 4 + 4 * i, v + i, z, n - 1 - i);
+    let z = write_high_sums(and, ops, at + 4, v, w, n, i);
+    write_low_sums(and, ops, at + 4 + 4 * i, v + i, z, n - 1 - i);
 }
 
 // Writes the operands of all rows from wire v on, where the AND's first wire is w.
 pub fn write_rows(
+    and: masks::And,
     ops: &mut [u8],
     at: usize,
     v: usize,
@@ -74,13 +86,13 @@ pub fn write_rows(
         × (v + n * n ≤ 65536)
         × (w + 5 * tri n ≤ 65536)
         × (at + 4 * (n * n) ≤ length (now ops)) ⌝ }
-    ensures { λ _. ⌜ now (ops .exit) ≡ putAt at (pairBytes (rowsGates isw n w v (shareWires n a) (shareWires n b))) (now (ops .entry)) ⌝ }
+    ensures { λ _. ⌜ now (ops .exit) ≡ putAt at (pairBytes (rowsGates (gadgetOf and) n w v (shareWires n a) (shareWires n b))) (now (ops .entry)) ⌝ }
 {
     let mut to = at;
     let mut from = v;
     let mut i = 0;
     while i < n {
-        write_row(ops, to, from, w, n, i, a, b);
+        write_row(and, ops, to, from, w, n, i, a, b);
         to += 4 * n;
         from += n;
         i += 1;

@@ -8,7 +8,7 @@ use Prim.Native.Nat.{ℕ, _+_, _*_, _≤_}
 use lib.ListN.{getD, take, drop}
 use Rattle.tables.specs.Tables.{Kind, NOT, AND, OR, kindOf, Gate, gate, Table, total}
 use Rattle.tables.specs.Inside.{PlainByte}
-use Rattle.masks.specs.Gadgets.{isw}
+use Rattle.masks.specs.Gadgets.{Gadget}
 use Rattle.masks.specs.Wires.{driverOf, share, andShares, newWires, cost, draws, masked, inputShares}
 use Rattle.pieces.specs.declared.Places as DP
 use Rattle.pieces.specs.Layout.{shareWires, andGates, orGates}
@@ -21,8 +21,8 @@ abbrev pub productKind : Bool → Kind
 productKind or = cond or OR AND
 
 -- its gates, from wire w on
-abbrev pub productGates : Bool → ℕ → ℕ → List ℕ → List ℕ → List Gate
-productGates or n w a b = cond or (orGates isw n w a b) (andGates isw n w a b)
+abbrev pub productGates : Gadget → Bool → ℕ → ℕ → List ℕ → List ℕ → List Gate
+productGates G or n w a b = cond or (orGates G n w a b) (andGates G n w a b)
 
 -- two NOTs
 abbrev pub notGates : ℕ → ℕ → List Gate
@@ -43,21 +43,21 @@ pub record StepReady (kind left n w : ℕ) (a b : DP.Places) (ts : List ℕ) (at
 
 -- plain gate g has run on in both runs, and what it flips is read off the values x and y so far
 abbrev pub GateRan :
-    ℕ → ℕ → ℕ → ℕ → ℕ → ℕ → DP.Places → DP.Places → List ℕ → ℕ
+    Gadget → ℕ → ℕ → ℕ → ℕ → ℕ → ℕ → DP.Places → DP.Places → List ℕ → ℕ
     → List ℕ → List ℕ → List ℕ → List ℕ → List ℕ → List ℕ → Type 0
-GateRan kind left n k g w a b ts at m m′ x x′ y y′ =
+GateRan G kind left n k g w a b ts at m m′ x x′ y y′ =
     BothFlip
-    (map driverOf (newWires isw (kindOf kind) left n g w (shareWires n a) (shareWires n b)))
-    (gateFlips isw (kindOf kind) n k (shareWires n a) (shareWires n b) (λ p. getD x p 0) (λ p. getD y p 0))
+    (map driverOf (newWires G (kindOf kind) left n g w (shareWires n a) (shareWires n b)))
+    (gateFlips G (kindOf kind) n k (shareWires n a) (shareWires n b) (λ p. getD x p 0) (λ p. getD y p 0))
     ts at w m m′ x x′ y y′
 
 -- all gates have run on in both runs, from the values x and y of the inputs' shares, whatever these are: the second run's random
 -- bits are the map's
 abbrev pub GatesRan :
-    ℕ → ℕ → Table → List ℕ → ℕ → List ℕ → List ℕ → List ℕ → List ℕ → List ℕ → List ℕ → Type 0
-GatesRan n k t ts at m m′ x x′ y y′ =
+    Gadget → ℕ → ℕ → Table → List ℕ → ℕ → List ℕ → List ℕ → List ℕ → List ℕ → List ℕ → List ℕ → Type 0
+GatesRan G n k t ts at m m′ x x′ y y′ =
     let w = n * t .inputs in
     let S = inputShares n (t .inputs) in
     let rs = take (total (λ kd. draws kd n) (t .gates)) (drop at ts) in
-    BothRan (map driverOf (masked isw n 0 w S (t .gates))) rs (mapGates isw n k 0 w S (t .gates) rs (take w x) (take w y)) at w
+    BothRan (map driverOf (masked G n 0 w S (t .gates))) rs (mapGates G n k 0 w S (t .gates) rs (take w x) (take w y)) at w
     m m′ x x′ y y′

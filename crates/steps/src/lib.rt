@@ -8,7 +8,7 @@ ghost use Rattle.tables.specs.Tables.{AND, tableOf, total};
 ghost use Rattle.tables.specs.Inside.{ranOn, RunsTo};
 ghost use Rattle.tables.specs.Packing.{unpacked};
 ghost use Rattle.masks.specs.Shares.{pairs, tri};
-ghost use Rattle.masks.specs.Gadgets.{isw};
+ghost use Rattle.masks.specs.Gadgets.{gadgetOf};
 ghost use Rattle.masks.specs.Wires.{andCost, cost, draws};
 ghost use Rattle.maps.specs.Maps.{gateFlips};
 ghost use Rattle.maps.specs.Both.{wiresFlip, BothFlip, BothReady};
@@ -20,6 +20,7 @@ ghost use Rattle.steps.specs.Steps.{productKind, productGates, notGates,
 
 // An AND in both runs, from wire w and from a place of the tape on: the pairs, then the rows.
 fn map_and(
+    and: masks::And,
     k: usize,
     n: usize,
     w: usize,
@@ -34,17 +35,17 @@ fn map_and(
     requires { ⌜ SharesBefore n w a b × (w + cost AND n ≤ 65535)
         × BothReady w (cost AND n) at (tri n) (unpacked (now tape)) (unpacked (now mapped)) (now one) (now other) ⌝ }
     ensures { λ _. ⌜ BothFlip
-        (andGates isw n w (shareWires n a) (shareWires n b))
+        (andGates (gadgetOf and) n w (shareWires n a) (shareWires n b))
         (map
-        (wiresFlip isw k (shareWires n a) (shareWires n b) (λ p. getD (now (one .entry)) p 0) (λ p. getD (now (other .entry)) p 0))
+        (wiresFlip (gadgetOf and) k (shareWires n a) (shareWires n b) (λ p. getD (now (one .entry)) p 0) (λ p. getD (now (other .entry)) p 0))
         (pairs n))
         (unpacked (now (tape .entry))) at w
         (unpacked (now (mapped .entry))) (unpacked (now (mapped .exit))) (now (one .entry)) (now (one .exit)) (now (other .entry)) (now (other .exit)) ⌝ }
 {
     let v = w + 5 * masks::pair_count(n);
-    pairing::map_pairs(k, n, w, a, b, tape, at, mapped, one, other);
-    driving::run_rows(one, v, w, n, a, b);
-    driving::run_rows(other, v, w, n, a, b);
+    pairing::map_pairs(and, k, n, w, a, b, tape, at, mapped, one, other);
+    driving::run_rows(and, one, v, w, n, a, b);
+    driving::run_rows(and, other, v, w, n, a, b);
 }
 
 // The two NOTs that an OR begins with, in both runs, on wires w and w + 1; an AND begins with none.
@@ -77,6 +78,7 @@ fn run_last_not(or: bool, n: usize, w: usize, one: &mut [u8], other: &mut [u8])
 // An AND or an OR in both runs, from wire w and from a place of the tape on. `map_and` is called here alone, and no branch
 // stands around the call: so the compiler makes one function of both, and an AND is as fast as if there were no ORs.
 fn map_product(
+    and: masks::And,
     or: bool,
     k: usize,
     n: usize,
@@ -92,8 +94,8 @@ fn map_product(
     requires { ⌜ (1 ≤ n) × SharesBefore n w a b × (w + cost (productKind or) n ≤ 65535)
         × BothReady w (cost (productKind or) n) at (tri n) (unpacked (now tape)) (unpacked (now mapped)) (now one) (now other) ⌝ }
     ensures { λ _. ⌜ BothFlip
-        (productGates or n w (shareWires n a) (shareWires n b))
-        (gateFlips isw (productKind or) n k (shareWires n a) (shareWires n b) (λ p. getD (now (one .entry)) p 0) (λ p. getD (now (other .entry)) p 0))
+        (productGates (gadgetOf and) or n w (shareWires n a) (shareWires n b))
+        (gateFlips (gadgetOf and) (productKind or) n k (shareWires n a) (shareWires n b) (λ p. getD (now (one .entry)) p 0) (λ p. getD (now (other .entry)) p 0))
         (unpacked (now (tape .entry))) at w
         (unpacked (now (mapped .entry))) (unpacked (now (mapped .exit))) (now (one .entry)) (now (one .exit)) (now (other .entry)) (now (other .exit)) ⌝ }
 {
@@ -101,12 +103,13 @@ fn map_product(
     let y = pieces::first_on(tables::either(or, w + 1, b.head), b);
     let v = tables::either(or, w + 2, w);
     run_first_nots(or, w, a.head, b.head, one, other);
-    map_and(k, n, v, x, y, tape, at, mapped, one, other);
+    map_and(and, k, n, v, x, y, tape, at, mapped, one, other);
     run_last_not(or, n, v, one, other);
 }
 
 // A plain gate in both runs, from wire w and from a place of the tape on, where three arrays say where its operands' shares are.
 fn map_gate(
+    and: masks::And,
     kind: u8,
     left: usize,
     right: usize,
@@ -125,7 +128,7 @@ fn map_gate(
     requires { ⌜ Room (left + 1) (now head) (now base) (now step) × Room (right + 1) (now head) (now base) (now step)
         × StepReady kind left n w (placesAt (now head) (now base) (now step) left) (placesAt (now head) (now base) (now step) right)
         (unpacked (now tape)) at (unpacked (now mapped)) (now one) (now other) ⌝ }
-    ensures { λ _. ⌜ ((g : ℕ) → GateRan kind left n k g w
+    ensures { λ _. ⌜ ((g : ℕ) → GateRan (gadgetOf and) kind left n k g w
         (placesAt (now (head .entry)) (now (base .entry)) (now (step .entry)) left)
         (placesAt (now (head .entry)) (now (base .entry)) (now (step .entry)) right)
         (unpacked (now (tape .entry))) at
@@ -148,12 +151,13 @@ fn map_gate(
         driving::run_xors(other, w, n, a, b);
         return;
     }
-    map_product(kind == 5, k, n, w, a, b, tape, at, mapped, one, other);
+    map_product(and, kind == 5, k, n, w, a, b, tape, at, mapped, one, other);
 }
 
 // All gates of a plan in both runs, from a place of the tape on: both runs begin with the values of the inputs' shares, whatever
 // these are.
 pub fn map_gates(
+    and: masks::And,
     table: &[u8],
     p: sizing::Plan,
     k: usize,
@@ -169,7 +173,7 @@ pub fn map_gates(
     requires { ⌜ PlanReady (now table) p × Located (tableOf (now table)) (p .shares) (now head) (now base) (now step)
         × BothReady (p .shares * tableOf (now table) .inputs) (total (λ kd. cost kd (p .shares)) (tableOf (now table) .gates)) at
         (total (λ kd. draws kd (p .shares)) (tableOf (now table) .gates)) (unpacked (now tape)) (unpacked (now mapped)) (now one) (now other) ⌝ }
-    ensures { λ _. ⌜ GatesRan (p .shares) k (tableOf (now (table .entry))) (unpacked (now (tape .entry))) at
+    ensures { λ _. ⌜ GatesRan (gadgetOf and) (p .shares) k (tableOf (now (table .entry))) (unpacked (now (tape .entry))) at
         (unpacked (now (mapped .entry))) (unpacked (now (mapped .exit))) (now (one .entry)) (now (one .exit)) (now (other .entry)) (now (other .exit)) ⌝ }
 {
     let n = p.shares;
@@ -182,6 +186,7 @@ pub fn map_gates(
     while g < gates {
         let x = tables::gate_at(table, gates, g);
         map_gate(
+            and,
             x.kind,
             x.left,
             x.right,

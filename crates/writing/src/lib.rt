@@ -6,7 +6,7 @@ ghost use lib.ListN.{length};
 ghost use Rattle.tables.specs.Inside.{putAt};
 ghost use Rattle.tables.specs.Tables.{kindOf, pairBytes, AND, OR};
 ghost use Rattle.masks.specs.Shares.{inTurn, pairs, tri};
-ghost use Rattle.masks.specs.Gadgets.{allFive, isw};
+ghost use Rattle.masks.specs.Gadgets.{allFive, gadgetOf};
 ghost use Rattle.masks.specs.Wires.{cost, newWires};
 ghost use Rattle.writing.specs.Operands.{OperandRoom, PairRoom, PairNo};
 ghost use Rattle.pieces.specs.Layout.{shareWires, operandBytes, joined, ReadsShares, pairGates, xorGates};
@@ -14,16 +14,26 @@ ghost use Rattle.pieces.specs.Layout.{constantGates, andGates, orGates};
 ghost use Rattle.placing.specs.Located.{placesAt, Room};
 
 // Writes the operands of a pair's five wires, from wire w on.
-fn write_pair(ops: &mut [u8], at: usize, w: usize, ai: usize, bj: usize, aj: usize, bi: usize)
+fn write_pair(
+    and: masks::And,
+    ops: &mut [u8],
+    at: usize,
+    w: usize,
+    ai: usize,
+    bj: usize,
+    aj: usize,
+    bi: usize,
+)
     requires { ⌜ PairRoom w ai bj aj bi at (now ops) ⌝ }
     ensures { λ _. ⌜ now (ops .exit)
-        ≡ putAt at (pairBytes (map (isw .gates w ai bj aj bi) allFive)) (now (ops .entry)) ⌝ }
+        ≡ putAt at (pairBytes (map (gadgetOf and .gates w ai bj aj bi) allFive)) (now (ops .entry)) ⌝ }
 {
+    let form = masks::pair_form(and);
     pieces::put_gate(ops, at, 0, 0);
     pieces::put_gate(ops, at + 4, ai, bj);
-    pieces::put_gate(ops, at + 8, w, w + 1);
+    pieces::put_gate(ops, at + 8, w + form.third.left, w + form.third.right);
     pieces::put_gate(ops, at + 12, aj, bi);
-    pieces::put_gate(ops, at + 16, w + 2, w + 3);
+    pieces::put_gate(ops, at + 16, w + form.fifth.left, w + form.fifth.right);
 }
 
 // A pair of shares i < j, counted from 0.
@@ -48,6 +58,7 @@ fn next_pair(p: Pair, n: usize) -> Pair
 
 // Writes the operands of all pairs, from wire w on, and returns the wire after them.
 fn write_pairs(
+    and: masks::And,
     ops: &mut [u8],
     at: usize,
     w: usize,
@@ -58,7 +69,7 @@ fn write_pairs(
     requires { ⌜ ReadsShares n a b × (w + 5 * tri n ≤ 65536) × (at + 20 * tri n ≤ length (now ops)) ⌝ }
     ensures { λ r. ⌜ (r ≡ w + 5 * tri n)
         × (now (ops .exit)
-        ≡ putAt at (pairBytes (inTurn 5 w (pairs n) (pairGates isw (shareWires n a) (shareWires n b)))) (now (ops .entry))) ⌝ }
+        ≡ putAt at (pairBytes (inTurn 5 w (pairs n) (pairGates (gadgetOf and) (shareWires n a) (shareWires n b)))) (now (ops .entry))) ⌝ }
 {
     let m = masks::pair_count(n);
     let mut p = Pair { i: 0, j: 1 };
@@ -68,7 +79,7 @@ fn write_pairs(
         let bi = pieces::share_wire(b, p.i);
         let aj = pieces::later_wire(a, p.j);
         let bj = pieces::later_wire(b, p.j);
-        write_pair(ops, at + 20 * c, w + 5 * c, ai, bj, aj, bi);
+        write_pair(and, ops, at + 20 * c, w + 5 * c, ai, bj, aj, bi);
         p = next_pair(p, n);
         c += 1;
     }
@@ -104,20 +115,36 @@ fn write_constant(ops: &mut [u8], at: usize, n: usize, value: usize)
 }
 
 // Writes the operands of an AND's wires, from wire w on: the pairs, then the rows.
-fn write_and(ops: &mut [u8], at: usize, w: usize, n: usize, a: pieces::Places, b: pieces::Places)
+fn write_and(
+    and: masks::And,
+    ops: &mut [u8],
+    at: usize,
+    w: usize,
+    n: usize,
+    a: pieces::Places,
+    b: pieces::Places,
+)
     requires { ⌜ ReadsShares n a b × (w + cost AND n ≤ 65536) × (at + 4 * cost AND n ≤ length (now ops)) ⌝ }
     ensures { λ _. ⌜ now (ops .exit)
-        ≡ putAt at (pairBytes (andGates isw n w (shareWires n a) (shareWires n b))) (now (ops .entry)) ⌝ }
+        ≡ putAt at (pairBytes (andGates (gadgetOf and) n w (shareWires n a) (shareWires n b))) (now (ops .entry)) ⌝ }
 {
-    let v = write_pairs(ops, at, w, n, a, b);
-    rows::write_rows(ops, at + 4 * (v - w), v, w, n, a, b);
+    let v = write_pairs(and, ops, at, w, n, a, b);
+    rows::write_rows(and, ops, at + 4 * (v - w), v, w, n, a, b);
 }
 
 // Writes the operands of an OR's wires, from wire w on: the NOTs of both first shares, the AND, the NOT of its first share.
-fn write_or(ops: &mut [u8], at: usize, w: usize, n: usize, a: pieces::Places, b: pieces::Places)
+fn write_or(
+    and: masks::And,
+    ops: &mut [u8],
+    at: usize,
+    w: usize,
+    n: usize,
+    a: pieces::Places,
+    b: pieces::Places,
+)
     requires { ⌜ (1 ≤ n) × ReadsShares n a b × (w + cost OR n ≤ 65536) × (at + 4 * cost OR n ≤ length (now ops)) ⌝ }
     ensures { λ _. ⌜ now (ops .exit)
-        ≡ putAt at (pairBytes (orGates isw n w (shareWires n a) (shareWires n b))) (now (ops .entry)) ⌝ }
+        ≡ putAt at (pairBytes (orGates (gadgetOf and) n w (shareWires n a) (shareWires n b))) (now (ops .entry)) ⌝ }
 {
     let last = pieces::and_first(n, w + 2);
     let end = at + 8 + 4 * masks::and_cost(n);
@@ -125,13 +152,14 @@ fn write_or(ops: &mut [u8], at: usize, w: usize, n: usize, a: pieces::Places, b:
     let y = pieces::first_on(w + 1, b);
     pieces::put_gate(ops, at, a.head, 0);
     pieces::put_gate(ops, at + 4, b.head, 0);
-    write_and(ops, at + 8, w + 2, n, x, y);
+    write_and(and, ops, at + 8, w + 2, n, x, y);
     pieces::put_gate(ops, end, last, 0);
 }
 
 // Writes the operands of a plain gate's new wires, from wire w on, where three arrays say where its operands' shares are; a
 // constant's left operand is its value. A NOT reads one number of the arrays.
 pub fn write_operands_of(
+    and: masks::And,
     kind: u8,
     left: usize,
     right: usize,
@@ -147,7 +175,7 @@ pub fn write_operands_of(
         × OperandRoom kind left n w (placesAt (now head) (now base) (now step) left) (placesAt (now head) (now base) (now step) right)
         at (now ops) ⌝ }
     ensures { λ _. ⌜ ((g : ℕ) → now (ops .exit)
-        ≡ putAt at (operandBytes (newWires isw (kindOf kind) left n g w
+        ≡ putAt at (operandBytes (newWires (gadgetOf and) (kindOf kind) left n g w
         (shareWires n (placesAt (now (head .entry)) (now (base .entry)) (now (step .entry)) left))
         (shareWires n (placesAt (now (head .entry)) (now (base .entry)) (now (step .entry)) right)))) (now (ops .entry))) ⌝ }
 {
@@ -166,8 +194,8 @@ pub fn write_operands_of(
         return;
     }
     if kind == 2 {
-        write_and(ops, at, w, n, a, b);
+        write_and(and, ops, at, w, n, a, b);
         return;
     }
-    write_or(ops, at, w, n, a, b);
+    write_or(and, ops, at, w, n, a, b);
 }
