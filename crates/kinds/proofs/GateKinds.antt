@@ -11,9 +11,10 @@ use Rattle.tables.specs.Inside.{putAt}
 use Rattle.tables.proofs.Format.{kinds-long}
 use Rattle.tables.proofs.Put.{put-length, put-set, put-past, put-then}
 use Rattle.masks.specs.Shares.{inTurn, pairs, tri, pairAt}
-use Rattle.masks.specs.Gadgets.{isw}
+use Rattle.masks.specs.Gadgets.{Gadget}
 use Rattle.masks.specs.Wires.{andPart, Wire, driverOf, share, firstOn, pairWire, andShares, andCost, newWires, newShares, cost}
 use Rattle.masks.specs.Wires.{masked}
+use Rattle.masks.proofs.Lawful.{Lawful}
 use Rattle.pieces.specs.Layout.{joined, pairGates, sumGates, highGates, rowGates, rowsGates, andGates}
 use Rattle.pieces.proofs.Bytes.{joined-same, joined-long, joined-through}
 use Rattle.pieces.proofs.Pieces.{pairs-in-turn, xor-gates, constant-gates, and-gates, or-gates}
@@ -96,56 +97,60 @@ unfolding kindBytes
 same-kinds k m l r = kinds-joined m 0 (λ c. gate k (l c) (r c) ∷ []) ∙ sym (replicate-joined m (kindByte k))
 
 row-kinds :
-    (n w v : ℕ) (a b : List ℕ) (i : ℕ) → i < n → kindBytes (rowGates isw n w v a b i) ≡ rowKinds n
+    (G : Gadget) (n w v : ℕ) (a b : List ℕ) (i : ℕ) → i < n → kindBytes (rowGates G n w v a b i) ≡ rowKinds n
 unfolding kindBytes
-row-kinds n w v a b i h =
-    let low : ℕ → ℕ = λ j. pairWire w (isw .low) (pairAt n i (suc i + j)) in
+row-kinds G n w v a b i h =
+    let low : ℕ → ℕ = λ j. pairWire w (G .low) (pairAt n i (suc i + j)) in
     ap {A = List ℕ} {B = List ℕ} (λ y. 2 ∷ y)
-    (kinds-append (highGates isw n w v i) (joined (n - suc i) 0 (sumGates (v + i) low))
+    (kinds-append (highGates G n w v i) (joined (n - suc i) 0 (sumGates (v + i) low))
     ∙ ap₂ {A = List ℕ} {B = List ℕ} {C = List ℕ} (λ y z. y ++ z) (same-kinds XOR i _ _) (same-kinds XOR (n - suc i) _ _)
     ∙ replicate-append-replicate {A = ℕ} i (n - suc i) 1
     ∙ ap ones {x = i + (n - suc i)} {y = n - 1} (omega arith))
 
-and-kinds : (n w : ℕ) (a b : List ℕ) → kindBytes (andGates isw n w a b) ≡ andKinds n
+and-kinds :
+    {G : Gadget} → Lawful G → (n w : ℕ) (a b : List ℕ) → kindBytes (andGates G n w a b) ≡ andKinds n
 unfolding kindBytes
-and-kinds n w a b =
-    let F = pairGates isw a b in
+and-kinds {G} L n w a b =
+    let F = pairGates G a b in
     let v = w + 5 * tri n in
-    kinds-append (inTurn 5 w (pairs n) F) (rowsGates isw n w v a b)
+    kinds-append (inTurn 5 w (pairs n) F) (rowsGates G n w v a b)
     ∙ ap₂ {A = List ℕ} {B = List ℕ} {C = List ℕ} (λ y z. y ++ z)
-    (ap {A = List Gate} {B = List ℕ} kindBytes (pairs-in-turn n 5 w F) ∙ kinds-joined (tri n) 0 _)
-    (kinds-joined n 0 _ ∙ joined-same n 0 _ _ (λ i h. row-kinds n w (v + n * i) a b i (omega arith)))
+    (ap {A = List Gate} {B = List ℕ} kindBytes (pairs-in-turn n 5 w F)
+    ∙ kinds-joined (tri n) 0 _
+    ∙ joined-same (tri n) 0 _ _ (λ c h. L .kinds _ _ _ _ _))
+    (kinds-joined n 0 _ ∙ joined-same n 0 _ _ (λ i h. row-kinds G n w (v + n * i) a b i (omega arith)))
 
-pub new-kinds : (k : Kind) (l n g w : ℕ) (a b : List ℕ) → wireKinds (newWires isw k l n g w a b) ≡ newKinds k n
+pub new-kinds :
+    {G : Gadget} → Lawful G → (k : Kind) (l n g w : ℕ) (a b : List ℕ) → wireKinds (newWires G k l n g w a b) ≡ newKinds k n
 unfolding kindBytes
-new-kinds NOT l n g w a b = refl
-new-kinds XOR l n g w a b =
-    ap {A = List Gate} {B = List ℕ} kindBytes (xor-gates isw l n g w a b) ∙ same-kinds XOR n (share a) (share b)
-new-kinds AND l n g w a b =
-    ap {A = List Gate} {B = List ℕ} kindBytes (and-gates isw n (andPart g) w a b) ∙ and-kinds n w a b
-new-kinds RANDOM l n g w a b = refl
-new-kinds CONSTANT l n g w a b =
-    ap {A = List Gate} {B = List ℕ} kindBytes (constant-gates isw l n g w a b) ∙ same-kinds CONSTANT n _ (λ _. 0)
-new-kinds OR l n g w a b =
+new-kinds {G} L NOT l n g w a b = refl
+new-kinds {G} L XOR l n g w a b =
+    ap {A = List Gate} {B = List ℕ} kindBytes (xor-gates G l n g w a b) ∙ same-kinds XOR n (share a) (share b)
+new-kinds {G} L AND l n g w a b =
+    ap {A = List Gate} {B = List ℕ} kindBytes (and-gates G n (andPart g) w a b) ∙ and-kinds L n w a b
+new-kinds {G} L RANDOM l n g w a b = refl
+new-kinds {G} L CONSTANT l n g w a b =
+    ap {A = List Gate} {B = List ℕ} kindBytes (constant-gates G l n g w a b) ∙ same-kinds CONSTANT n _ (λ _. 0)
+new-kinds {G} L OR l n g w a b =
     let v = suc (suc w) in
     let A = firstOn w a in
     let B = firstOn (suc w) b in
     let last = gate NOT (share (andShares n v) 0) 0 ∷ [] in
-    ap {A = List Gate} {B = List ℕ} kindBytes (or-gates isw l n g w a b)
+    ap {A = List Gate} {B = List ℕ} kindBytes (or-gates G l n g w a b)
     ∙ ap {A = List ℕ} {B = List ℕ} (λ ks. 0 ∷ 0 ∷ ks)
-    (kinds-append (andGates isw n v A B) last
-    ∙ ap {A = List ℕ} {B = List ℕ} (λ ks. ks ++ (0 ∷ [])) (and-kinds n v A B))
-new-kinds (UNKNOWN c) l n g w a b = refl
+    (kinds-append (andGates G n v A B) last
+    ∙ ap {A = List ℕ} {B = List ℕ} (λ ks. ks ++ (0 ∷ [])) (and-kinds L n v A B))
+new-kinds {G} L (UNKNOWN c) l n g w a b = refl
 
 pub masked-kinds :
-    (n g w : ℕ) (S : List (List ℕ)) (xs : List Gate) → wireKinds (masked isw n g w S xs) ≡ gateKinds n xs
+    {G : Gadget} → Lawful G → (n g w : ℕ) (S : List (List ℕ)) (xs : List Gate) → wireKinds (masked G n g w S xs) ≡ gateKinds n xs
 unfolding masked gateKinds kindBytes
-masked-kinds n g w S [] = refl
-masked-kinds n g w S (x ∷ xs) =
-    wire-kinds-append (newWires isw (x .kind) (x .left) n g w (getD S (x .left) []) (getD S (x .right) [])) _
+masked-kinds {G} L n g w S [] = refl
+masked-kinds {G} L n g w S (x ∷ xs) =
+    wire-kinds-append (newWires G (x .kind) (x .left) n g w (getD S (x .left) []) (getD S (x .right) [])) _
     ∙ ap₂ {A = List ℕ} {B = List ℕ} {C = List ℕ} (λ p q. p ++ q)
-    (new-kinds (x .kind) (x .left) n g w _ _)
-    (masked-kinds n (suc g) (w + cost (x .kind) n) (S ++ (newShares (x .kind) n w (getD S (x .left) []) ∷ [])) xs)
+    (new-kinds L (x .kind) (x .left) n g w _ _)
+    (masked-kinds L n (suc g) (w + cost (x .kind) n) (S ++ (newShares (x .kind) n w (getD S (x .left) []) ∷ [])) xs)
 
 -- an AND's kinds
 pub and-kinds-long : (n : ℕ) → 1 ≤ n → length (andKinds n) ≡ andCost n

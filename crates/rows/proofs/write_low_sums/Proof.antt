@@ -1,32 +1,39 @@
 -- `rows::write_low_sums` meets its contract. The invariant: c sums are written, the others follow them.
 -- Assumes nothing.
-use mathlib.Core.Path.{refl}
-use Prim.Native.Nat.{_+_, _-_, _*_, _<_}
+use mathlib.Core.Path.{refl, ap, _∙_}
+use mathlib.Core.List.{List}
+use Prim.Native.Nat.{ℕ, _+_, _-_, _*_, _<_}
 use native.Mathlib.Omega.{arith}
 use Rattle.tables.specs.Tables.{pairBytes}
-use Rattle.masks.specs.Gadgets.{isw}
+use Rattle.tables.specs.Inside.{putAt}
+use Rattle.masks.specs.Gadgets.{gadgetOf}
 use Rattle.masks.specs.Wires.{pairWire}
-use Rattle.pieces.specs.Layout.{sumGates}
+use Rattle.pieces.specs.Layout.{joined, sumGates}
 use Rattle.pieces.proofs.Bytes.{pairs-joined, Joining, joining-start, joining-turn, joining-end}
 use Rattle.rows.proofs.write_low_sums.Statement.{statement}
 use Rattle.rows.proofs.write_low_sums.Tie as tie
 
 abbrev Inv-loop : tie.InvT-loop
-Inv-loop ops₀ at last z m c₀ ops c =
-    Joining 4 at m (λ c. pairBytes (sumGates last (pairWire z (isw .low)) c)) ops₀ (at + 4 * c) c ops
+Inv-loop ops₀ at last z m form c₀ ops c =
+    Joining 4 at m (λ c. pairBytes (sumGates last (λ c. z + 5 * c + form .low) c)) ops₀ (at + 4 * c) c ops
 
 abbrev μ-loop : tie.MeasureT-loop
-μ-loop ops₀ at last z m c₀ ops c = m - c
+μ-loop ops₀ at last z m form c₀ ops c = m - c
 
 -- the wire that a turn adds
 low-wire :
-    (c : tie.In-loop Inv-loop μ-loop) → pairWire (c .before .before .before .args .z) (isw .low) (c .before .loop .c) < 65536
-low-wire c = c .before .before .before .pre .1 (c .before .loop .c) (c .loop-test .taken)
+    (c : tie.In-loop Inv-loop μ-loop)
+    → pairWire (c .before .before .before .before .args .z) (gadgetOf (c .before .before .before .before .args .and) .low)
+    (c .before .loop .c) < 65536
+low-wire c = c .before .before .before .before .pre .1 (c .before .loop .c) (c .loop-test .taken)
+
+pair-form-requires : tie.Need-pair-form-requires Inv-loop μ-loop
+pair-form-requires c κs = tt
 
 loop-holds : tie.Need-loop-holds Inv-loop μ-loop
 unfolding pairBytes
 loop-holds c =
-    let s = c .before in
+    let s = c .before .before in
     joining-start 4 (s .args .at) _ _ _ _ (λ _ _. refl) (omega arith) (s .pre .2)
 
 mul-put-gate : tie.Need-mul-put-gate Inv-loop μ-loop
@@ -45,10 +52,11 @@ add-put-gate-3 : tie.Need-add-put-gate-3 Inv-loop μ-loop
 add-put-gate-3 c = omega (arith, low-wire (c .before))
 
 add-put-gate-4 : tie.Need-add-put-gate-4 Inv-loop μ-loop
-add-put-gate-4 c = omega (arith, low-wire (c .before))
+add-put-gate-4 c = omega (arith, low-wire (c .before .before), c .before .before .before .before .pair-form .ensures .low)
 
 put-gate-requires : tie.Need-put-gate-requires Inv-loop μ-loop
-put-gate-requires c κs = omega (arith, low-wire (c .before))
+put-gate-requires c κs =
+    omega (arith, low-wire (c .before .before), c .before .before .before .before .pair-form .ensures .low)
 
 add-c : tie.Need-add-c Inv-loop μ-loop
 add-c c = omega arith
@@ -60,14 +68,18 @@ loop-again : tie.Need-loop-again Inv-loop μ-loop
 unfolding pairBytes
 loop-again c =
     let call = c .before .before in
-    let head = call .before .before .before in
+    let head = call .before .before .before .before in
     joining-turn (head .loop .inv) _ _ (omega arith) refl refl (call .put-gate .ensures) (omega arith)
 
 same-length : tie.Need-same-length Inv-loop μ-loop
 same-length c = c .before .loop .inv .long
 
 returns : tie.Need-returns Inv-loop μ-loop
-returns c = rw pairs-joined (joining-end (c .before .loop .inv) (omega arith))
+returns c =
+    let s = c .before .before .before .before in
+    rw pairs-joined (joining-end (c .before .loop .inv) (omega arith))
+    ∙ ap {A = ℕ} {B = List ℕ} (λ v. putAt (s .args .at) (pairBytes (joined (s .args .m) 0 (sumGates (s .args .last) (λ c. s .args .z + 5 * c + v)))) (s .args .ops .now))
+    (c .before .before .pair-form .ensures .low)
 
 pub write-low-sums-spec : {M : Type 1} → statement M
 write-low-sums-spec =
@@ -75,6 +87,7 @@ write-low-sums-spec =
     (tie.spec
     Inv-loop
     μ-loop
+    pair-form-requires
     loop-holds
     mul-put-gate
     add-put-gate

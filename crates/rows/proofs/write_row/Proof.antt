@@ -9,7 +9,7 @@ use borrow.Author.Needs.{needs}
 use Rattle.tables.specs.Tables.{two, pairBytes}
 use Rattle.tables.proofs.Format.{pairs-long}
 use Rattle.tables.proofs.Put.{put-then}
-use Rattle.masks.specs.Gadgets.{isw}
+use Rattle.masks.specs.Gadgets.{Gadget, gadgetOf}
 use Rattle.pieces.specs.Layout.{highGates, lowGates}
 use Rattle.pieces.proofs.ShareWires.{share-low}
 use Rattle.pieces.proofs.Bytes.{pairs-append}
@@ -57,7 +57,7 @@ write-low-sums-requires c κs =
     let z = high .write-high-sums .result in
     let low = high .write-high-sums .ensures .0 in (
       omega arith,
-      λ m h. omega (arith, low-within (s .args .n) (s .args .w) (s .args .i) z m (low (omega arith)) (omega arith), s .pre .3),
+      λ m h. omega (arith, low-within (gadgetOf (s .args .and)) (s .args .n) (s .args .w) (s .args .i) z m (low (omega arith)) (omega arith), s .pre .3),
       omega arith,
     )
 
@@ -73,6 +73,7 @@ returns c =
     let bi = own .before .before in
     let ai = bi .before in
     let s = ai .before .before in
+    let G : Gadget = gadgetOf (s .args .and) in
     let n = s .args .n in
     let i = s .args .i in
     let v = s .args .v in
@@ -81,15 +82,15 @@ returns c =
     let inside = s .pre .1 in
     let z = high .write-high-sums .result in
     let product = two (ai .share-wire .result) ++ two (bi .share-wire2 .result) in
-    let firsts = highGates isw n (s .args .w) v i in
-    let lasts = lowGates isw z (v + i) (n - 1 - i) in
-    let long : length (pairBytes firsts) ≡ 4 * i = omega (arith, pairs-long firsts, high-long isw n (s .args .w) v i) in
+    let firsts = highGates G n (s .args .w) v i in
+    let lasts = lowGates G z (v + i) (n - 1 - i) in
+    let long : length (pairBytes firsts) ≡ 4 * i = omega (arith, pairs-long firsts, high-long G n (s .args .w) v i) in
     let to2 = put-then at product (pairBytes firsts) b (omega (arith, s .pre .4)) (own .put-gate .ensures) refl
     (high .write-high-sums .ensures .1) in
     let to3 = put-then at (product ++ pairBytes firsts) (pairBytes lasts) b (omega (arith, s .pre .4)) to2 (omega arith)
     (low .write-low-sums .ensures) in
     rw (
-      low-same n (s .args .w) i z (v + i) (n - 1 - i) (omega arith) (high .write-high-sums .ensures .0),
+      low-same G n (s .args .w) i z (v + i) (n - 1 - i) (omega arith) (high .write-high-sums .ensures .0),
       pairs-append firsts lasts,
       ← ai .share-wire .ensures .1 n inside,
       ← bi .share-wire2 .ensures .1 n inside,

@@ -8,7 +8,7 @@ use native.Mathlib.Omega.{arith}
 use lib.ListN.{length}
 use Rattle.tables.specs.Tables.{pairBytes}
 use Rattle.tables.proofs.Format.{pairs-long}
-use Rattle.masks.specs.Gadgets.{isw}
+use Rattle.masks.specs.Gadgets.{Gadget, gadgetOf}
 use Rattle.pieces.specs.Layout.{shareWires, rowGates}
 use Rattle.pieces.proofs.Bytes.{pairs-joined, Joining, joining-start, joining-turn, joining-end}
 use Rattle.pieces.proofs.Pieces.{row-long}
@@ -16,17 +16,17 @@ use Rattle.rows.proofs.write_rows.Statement.{statement}
 use Rattle.rows.proofs.write_rows.Tie as tie
 
 abbrev Inv-loop : tie.InvT-loop
-Inv-loop ops₀ at v w n a b to₀ from₀ i₀ ops to from i =
-    Joining (4 * n) at n (λ i. pairBytes (rowGates isw n w (v + n * i) (shareWires n a) (shareWires n b) i)) ops₀ to i ops
+Inv-loop and ops₀ at v w n a b to₀ from₀ i₀ ops to from i =
+    Joining (4 * n) at n (λ i. pairBytes (rowGates (gadgetOf and) n w (v + n * i) (shareWires n a) (shareWires n b) i)) ops₀ to i ops
     × (from ≡ v + n * i)
 
 abbrev μ-loop : tie.MeasureT-loop
-μ-loop ops₀ at v w n a b to₀ from₀ i₀ ops to from i = n - i
+μ-loop and ops₀ at v w n a b to₀ from₀ i₀ ops to from i = n - i
 
 -- the bytes of a row
 row-bytes :
-    (n w v : ℕ) (A B : List ℕ) (i : ℕ) → i < n → length (pairBytes (rowGates isw n w v A B i)) ≡ 4 * n
-row-bytes n w v A B i h = omega (arith, pairs-long (rowGates isw n w v A B i), row-long isw n w v A B i h)
+    (G : Gadget) (n w v : ℕ) (A B : List ℕ) (i : ℕ) → i < n → length (pairBytes (rowGates G n w v A B i)) ≡ 4 * n
+row-bytes G n w v A B i h = omega (arith, pairs-long (rowGates G n w v A B i), row-long G n w v A B i h)
 
 -- a turn stays below the last wire and inside the buffer
 turn-within :
@@ -45,7 +45,7 @@ loop-holds c =
     let n = s .args .n in
     let A = shareWires n (s .args .a) in
     let B = shareWires n (s .args .b) in (
-      joining-start (4 * n) (s .args .at) _ _ _ _ (λ i h. row-bytes n (s .args .w) _ A B i h) (omega arith) (omega (arith, s .pre .3)),
+      joining-start (4 * n) (s .args .at) _ _ _ _ (λ i h. row-bytes (gadgetOf (s .args .and)) n (s .args .w) _ A B i h) (omega arith) (omega (arith, s .pre .3)),
       omega arith,
     )
 
@@ -86,8 +86,8 @@ loop-again c =
     let A = shareWires n (s .args .a) in
     let B = shareWires n (s .args .b) in
     let inv = head .loop .inv in
-    let piece = ap (λ (v : ℕ). pairBytes (rowGates isw n (s .args .w) v A B i)) (inv .1) in (
-      joining-turn (inv .0) _ _ (test .loop-test .taken) (row-bytes n (s .args .w) _ A B i (test .loop-test .taken)) piece
+    let piece = ap (λ (v : ℕ). pairBytes (rowGates (gadgetOf (s .args .and)) n (s .args .w) v A B i)) (inv .1) in (
+      joining-turn (inv .0) _ _ (test .loop-test .taken) (row-bytes (gadgetOf (s .args .and)) n (s .args .w) _ A B i (test .loop-test .taken)) piece
           (call .write-row .ensures) (omega arith),
       omega (arith, inv .1),
     )
