@@ -15,6 +15,7 @@ use Rattle.tables.proofs.Accept.{accepted, operands-read, operands-below, cond-
 use Rattle.tables.proofs.Accept.{outputs-of-length}
 use Rattle.tables.proofs.Format.{gates-passed, sound-at}
 use Rattle.masks.specs.Shares.{upFrom}
+use Rattle.masks.specs.declared.And.the-variants.{Isw}
 use Rattle.masks.specs.Gadgets.{isw}
 use Rattle.masks.specs.Wires.{cost}
 use Rattle.masks.proofs.Costs.{masked-wires}
@@ -96,7 +97,7 @@ module _ {s : List ℕ} {p : DP.Plan} (R : PlanReady s p) where
 
   -- the masked wires, as the gates cost them
   pub plan-wires : p .shares * tableOf s .inputs + total (λ k. cost k (p .shares)) (tableOf s .gates) ≡ p .wires
-  plan-wires = rw (R .shares) (sym (R .wires ∙ masked-wires isw (p .order) (tableOf s)))
+  plan-wires = rw (R .shares) (sym (R .wires Isw ∙ masked-wires isw (p .order) (tableOf s)))
 
   pub turn :
       {g w : ℕ} {r : DG.GateFields} → g < p .gates → w ≡ gateWire (p .shares) (tableOf s) g → GateIs (gateOf (tableOf s) g) r

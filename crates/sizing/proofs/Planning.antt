@@ -30,7 +30,7 @@ use Rattle.sizing.specs.declared.Planned.the-variants as Planned
 use Rattle.masks.specs.Shares.{sharesOf}
 use Rattle.masks.specs.declared.And as DAnd
 use Rattle.masks.specs.declared.And.the-variants.{Isw}
-use Rattle.masks.specs.Gadgets.{gadgetOf}
+use Rattle.masks.specs.Gadgets.{isw, gadgetOf}
 use Rattle.masks.specs.Wires.{cost, draws, maskedTable, tapeLong}
 use Rattle.masks.specs.Says.{orderOk, orderFault, tooMany, plainFault}
 use Rattle.masks.specs.Counts.{figuresBy, tooManyBy}
@@ -306,10 +306,11 @@ module _ {s : List ℕ} {p : DP.Plan} (R : PlanReady s p) where
   few-outputs : p .shares * p .outputs ≡ sharesOf (p .order) * length (tableOf s .outputs)
   few-outputs = rw (R .shares, R .outputs)
 
-  module _ (a : DAnd.And) where
-    pub plan-passed : PlainPassed (gadgetOf a) s (p .order)
-    plan-passed = plain-passed (gadgetOf a) s (p .order) (rw (R .none a))
+  -- 1 to 7 accept, and the sizes are small
+  pub plan-passed : PlainPassed isw s (p .order)
+  plan-passed = plain-passed isw s (p .order) (rw (R .none Isw))
 
+  module _ (a : DAnd.And) where
     pub plan-inputs : p .shares * p .inputs ≡ maskedTable (gadgetOf a) (p .order) (tableOf s) .inputs
     plan-inputs = rw (R .shares, R .inputs) (sym (masked-inputs (gadgetOf a) (p .order) (tableOf s)))
 
@@ -322,7 +323,7 @@ module _ {s : List ℕ} {p : DP.Plan} (R : PlanReady s p) where
 
   pub plan-fits : PlanFits p
   plan-fits =
-      let q = plan-passed Isw in
+      let q = plan-passed in
       record {
         shares = omega (arith, R .shares, order-range (p .order) (q .order) .1);
         inputs = omega (arith, plan-inputs Isw, R .wires Isw);
