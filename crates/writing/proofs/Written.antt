@@ -5,7 +5,7 @@ use mathlib.Core.List.{List, map}
 use Prim.Native.Nat.{ℕ}
 use Rattle.tables.specs.Tables.{kindOf, Gate, pairBytes}
 use Rattle.tables.specs.Inside.{putAt}
-use Rattle.masks.specs.Gadgets.{isw}
+use Rattle.masks.specs.Gadgets.{Gadget}
 use Rattle.masks.specs.Wires.{driverOf, newWires}
 use Rattle.pieces.specs.declared.Places as DP
 use Rattle.pieces.specs.Layout.{shareWires, operandBytes}
@@ -19,11 +19,11 @@ room-where {kind} {value} {n} {w} {at = at} {ops} R ea eb =
 
 -- whatever the gates of the kind are
 pub written-where :
-    (kind value n g w at : ℕ) (ops : List ℕ) {a a′ b b′ : DP.Places} {ops′ : List ℕ} (gates : List ℕ → List ℕ → List Gate)
-    → ((A B : List ℕ) → map driverOf (newWires isw (kindOf kind) value n g w A B) ≡ gates A B) → a ≡ a′ → b ≡ b′
+    (G : Gadget) (kind value n g w at : ℕ) (ops : List ℕ) {a a′ b b′ : DP.Places} {ops′ : List ℕ} (gates : List ℕ → List ℕ → List Gate)
+    → ((A B : List ℕ) → map driverOf (newWires G (kindOf kind) value n g w A B) ≡ gates A B) → a ≡ a′ → b ≡ b′
     → ops′ ≡ putAt at (pairBytes (gates (shareWires n a) (shareWires n b))) ops
-    → ops′ ≡ putAt at (operandBytes (newWires isw (kindOf kind) value n g w (shareWires n a′) (shareWires n b′))) ops
-written-where kind value n g w at ops {a} {a′} {b} {b′} gates are ea eb e =
+    → ops′ ≡ putAt at (operandBytes (newWires G (kindOf kind) value n g w (shareWires n a′) (shareWires n b′))) ops
+written-where G kind value n g w at ops {a} {a′} {b} {b′} gates are ea eb e =
     e
     ∙ ap₂ {A = DP.Places} {B = DP.Places} {C = List ℕ} (λ p q. putAt at (pairBytes (gates (shareWires n p) (shareWires n q))) ops) ea eb
     ∙ ap {A = List Gate} {B = List ℕ} (λ gs. putAt at (pairBytes gs) ops) (sym (are (shareWires n a′) (shareWires n b′)))

@@ -10,7 +10,7 @@ use Rattle.tables.specs.Tables.{pairBytes}
 use Rattle.tables.proofs.Format.{pairs-long}
 use Rattle.masks.specs.Shares.{inTurn, pairs, tri}
 use Rattle.tables.specs.Inside.{putAt}
-use Rattle.masks.specs.Gadgets.{isw}
+use Rattle.masks.specs.Gadgets.{Gadget, gadgetOf}
 use Rattle.pieces.specs.Layout.{shareWires, pairGates, rowsGates}
 use Rattle.pieces.proofs.Bytes.{pairs-append}
 use Rattle.tables.proofs.Put.{put-then}
@@ -45,21 +45,22 @@ returns c =
     let rows = c .before .before in
     let crosses = rows .before .before .before .before in
     let s = crosses .before .before .before in
+    let G : Gadget = gadgetOf (s .args .and) in
     let n = s .args .n in
     let w = s .args .w in
     let A = shareWires n (s .args .a) in
     let B = shareWires n (s .args .b) in
     let at = s .args .at in
     let b = s .args .ops .now in
-    let all = inTurn 5 w (pairs n) (pairGates isw A B) in
-    let each = in-turn-length 5 w (pairs n) (pairGates isw A B) (all-of _ (λ _ _. refl) (pairs n)) in
+    let all = inTurn 5 w (pairs n) (pairGates G A B) in
+    let each = in-turn-length 5 w (pairs n) (pairGates G A B) (all-of _ (λ _ _. refl) (pairs n)) in
     let long : length (pairBytes all) ≡ 20 * tri n = omega (arith, pairs-long all, each, pairs-length n 0) in
     let next = crosses .write-pairs .ensures .0 in
     rw pairs-append
-    (put-then at (pairBytes all) (pairBytes (rowsGates isw n w _ A B)) b (omega (arith, s .pre .2)) (crosses .write-pairs .ensures .1)
+    (put-then at (pairBytes all) (pairBytes (rowsGates G n w _ A B)) b (omega (arith, s .pre .2)) (crosses .write-pairs .ensures .1)
     (omega (arith, long, next))
     (rows .write-rows .ensures)
-    ∙ ap {A = ℕ} {B = List ℕ} (λ v. putAt at (pairBytes all ++ pairBytes (rowsGates isw n w v A B)) b) next)
+    ∙ ap {A = ℕ} {B = List ℕ} (λ v. putAt at (pairBytes all ++ pairBytes (rowsGates G n w v A B)) b) next)
 
 pub write-and-spec : {M : Type 1} → statement M
 write-and-spec =

@@ -4,7 +4,7 @@ use mathlib.Core.Path.{_≡_}
 use native.Mathlib.Omega.{arith}
 use borrow.Author.Needs.{needs}
 use Rattle.tables.specs.Tables.{pairBytes}
-use Rattle.masks.specs.Gadgets.{isw}
+use Rattle.masks.specs.Gadgets.{gadgetOf}
 use Rattle.masks.specs.Wires.{andPart}
 use Rattle.pieces.specs.Layout.{shareWires, joined, xorGates, andGates, orGates}
 use Rattle.pieces.proofs.Pieces.{xor-gates, constant-gates, and-gates, or-gates}
@@ -48,7 +48,7 @@ returns-2 c g =
     let n = s .args .n in
     let A = shareWires n (at (s .args .left)) in
     let B = shareWires n (at (s .args .right)) in
-    rw (c .before .before .before .before .if2 .taken, constant-gates isw (s .args .left) n g (s .args .w) A B) (c .before .before .write-constant .ensures)
+    rw (c .before .before .before .before .if2 .taken, constant-gates (gadgetOf (s .args .and)) (s .args .left) n g (s .args .w) A B) (c .before .before .write-constant .ensures)
 
 places-at-requires : tie.Need-places-at-requires
 places-at-requires c κs = c .before .before .before .before .before .before .pre .0
@@ -70,8 +70,8 @@ returns-3 : tie.Need-returns-3
 returns-3 c g =
     let s = c .before .before .before .before .before .before .before .before .before .before .before .before .before in
     let n = s .args .n in
-    written-where (s .args .kind) (s .args .left) n g (s .args .w) (s .args .at) (s .args .ops .now) (λ A B. joined n 0 (xorGates A B))
-    (λ A B. rw (c .before .before .before .before .if3 .taken) (xor-gates isw (s .args .left) n g (s .args .w) A B))
+    written-where (gadgetOf (s .args .and)) (s .args .kind) (s .args .left) n g (s .args .w) (s .args .at) (s .args .ops .now) (λ A B. joined n 0 (xorGates A B))
+    (λ A B. rw (c .before .before .before .before .if3 .taken) (xor-gates (gadgetOf (s .args .and)) (s .args .left) n g (s .args .w) A B))
     (c .before .before .before .before .before .before .places-at .ensures .0)
     (c .before .before .before .before .before .places-at2 .ensures .0)
     (c .before .before .write-xor .ensures)
@@ -91,8 +91,8 @@ returns-4 : tie.Need-returns-4
 returns-4 c g =
     let s = c .before .before .before .before .before .before .before .before .before .before .before .before .before .before in
     let n = s .args .n in
-    written-where (s .args .kind) (s .args .left) n g (s .args .w) (s .args .at) (s .args .ops .now) (andGates isw n (s .args .w))
-    (λ A B. rw (c .before .before .before .before .if4 .taken) (and-gates isw n (andPart g) (s .args .w) A B))
+    written-where (gadgetOf (s .args .and)) (s .args .kind) (s .args .left) n g (s .args .w) (s .args .at) (s .args .ops .now) (andGates (gadgetOf (s .args .and)) n (s .args .w))
+    (λ A B. rw (c .before .before .before .before .if4 .taken) (and-gates (gadgetOf (s .args .and)) n (andPart g) (s .args .w) A B))
     (c .before .before .before .before .before .before .before .places-at .ensures .0)
     (c .before .before .before .before .before .before .places-at2 .ensures .0)
     (c .before .before .write-and .ensures)
@@ -118,8 +118,8 @@ returns-5 : tie.Need-returns-5
 returns-5 c g =
     let s = c .before .before .before .before .before .before .before .before .before .before .before .before .before .before in
     let n = s .args .n in
-    written-where (s .args .kind) (s .args .left) n g (s .args .w) (s .args .at) (s .args .ops .now) (orGates isw n (s .args .w))
-    (λ A B. rw (is-or (c .before .before .before .before)) (or-gates isw (s .args .left) n g (s .args .w) A B))
+    written-where (gadgetOf (s .args .and)) (s .args .kind) (s .args .left) n g (s .args .w) (s .args .at) (s .args .ops .now) (orGates (gadgetOf (s .args .and)) n (s .args .w))
+    (λ A B. rw (is-or (c .before .before .before .before)) (or-gates (gadgetOf (s .args .and)) (s .args .left) n g (s .args .w) A B))
     (c .before .before .before .before .before .before .before .places-at .ensures .0)
     (c .before .before .before .before .before .before .places-at2 .ensures .0)
     (c .before .before .write-or .ensures)

@@ -4,6 +4,7 @@ use Prim.Native.Nat.{_+_, _<_}
 use native.Mathlib.Nat.{mul-le-mul-left}
 use native.Mathlib.Omega.{arith}
 use borrow.Author.Needs.{needs}
+use Rattle.masks.specs.Gadgets.{gadgetOf}
 use Rattle.pieces.specs.Layout.{shareWires}
 use Rattle.pieces.proofs.ShareWires.{first-each}
 use Rattle.writing.proofs.OrBytes.{or-bytes}
@@ -104,7 +105,7 @@ returns c =
     let first = places .before .before .before in
     let s = first .before .before in
     let n = s .args .n in
-    or-bytes n (s .args .w) (s .args .at) (shareWires n (s .args .a)) (shareWires n (s .args .b)) (s .args .ops .now)
+    or-bytes (gadgetOf (s .args .and)) n (s .args .w) (s .args .at) (shareWires n (s .args .a)) (shareWires n (s .args .b)) (s .args .ops .now)
     {u = s .args .w + 1}
     (s .pre .0)
     (s .pre .3)

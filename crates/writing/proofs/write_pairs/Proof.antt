@@ -8,7 +8,7 @@ use native.Mathlib.Omega.{arith}
 use lib.ListN.{length}
 use Rattle.tables.specs.Tables.{Gate, pairBytes}
 use Rattle.masks.specs.Shares.{tri}
-use Rattle.masks.specs.Gadgets.{isw}
+use Rattle.masks.specs.Gadgets.{gadgetOf}
 use Rattle.pieces.specs.Layout.{shareWires, pairGates}
 use Rattle.writing.specs.Operands.{PairNo}
 use Rattle.pieces.proofs.ShareWires.{share-low}
@@ -19,12 +19,12 @@ use Rattle.writing.proofs.write_pairs.Statement.{statement}
 use Rattle.writing.proofs.write_pairs.Tie as tie
 
 abbrev Inv-loop : tie.InvT-loop
-Inv-loop ops₀ at w n a b m p₀ c₀ ops p c =
-    Joining 20 at (tri n) (λ c. pairBytes (pairGates isw (shareWires n a) (shareWires n b) (w + 5 * c) (pairNumber n c))) ops₀ (at + 20 * c) c ops
+Inv-loop and ops₀ at w n a b m p₀ c₀ ops p c =
+    Joining 20 at (tri n) (λ c. pairBytes (pairGates (gadgetOf and) (shareWires n a) (shareWires n b) (w + 5 * c) (pairNumber n c))) ops₀ (at + 20 * c) c ops
     × (c < tri n → PairNo n c p)
 
 abbrev μ-loop : tie.MeasureT-loop
-μ-loop ops₀ at w n a b m p₀ c₀ ops p c = m - c
+μ-loop and ops₀ at w n a b m p₀ c₀ ops p c = m - c
 
 pair-count-requires : tie.Need-pair-count-requires Inv-loop μ-loop
 pair-count-requires c κs = c .before .pre .0 .few
@@ -119,7 +119,7 @@ loop-again c =
     let A = shareWires n (s .args .a) in
     let B = shareWires n (s .args .b) in
     let P = here test in
-    let piece = pair-piece isw (s .args .w + 5 * head .loop .c) A B P
+    let piece = pair-piece (gadgetOf (s .args .and)) (s .args .w + 5 * head .loop .c) A B P
     (ai .share-wire .ensures .1 n (lower test))
     (bj .later-wire2 .ensures .1 n (P .inside))
     (aj .later-wire .ensures .1 n (P .inside))
