@@ -12,8 +12,10 @@ use Rattle.tables.specs.Says.{over}
 use Rattle.tables.specs.Inside.{putAt}
 use Rattle.tables.proofs.Format.{kinds-long, pairs-long, words-long}
 use Rattle.tables.proofs.Put.{Writing, writing-start, writing-fits, writing-piece, put-zero, put-then, part-put}
-use Rattle.masks.specs.Gadgets.{isw}
+use Rattle.masks.specs.declared.And as DAnd
+use Rattle.masks.specs.Gadgets.{gadgetOf}
 use Rattle.masks.specs.Wires.{cost, masked, outputShares, sharesAfter, maskedTable}
+use Rattle.masks.proofs.Lawful.{lawful}
 use Rattle.masks.proofs.Placed.{masked-outputs}
 use Rattle.sizing.specs.declared.Plan as DP
 use Rattle.sizing.specs.Plans.{PlanReady, planBytes}
@@ -34,15 +36,15 @@ gatesOf p = p .wires - p .shares * p .inputs
 stretch-all : (t : Table) (e : ℕ) → e ≡ length (t .gates) → stretch t 0 e ≡ t .gates
 stretch-all t e h = let none : e - 0 ≡ length (t .gates) = omega arith in rw none (take-length (t .gates))
 
-module _ {s : List ℕ} {p : DP.Plan} (R : PlanReady s p) where
+module _ (a : DAnd.And) {s : List ℕ} {p : DP.Plan} (R : PlanReady s p) where
   abbrev m : Table
-  m = maskedTable isw (p .order) (tableOf s)
+  m = maskedTable (gadgetOf a) (p .order) (tableOf s)
 
   gates-count : length (m .gates) ≡ gatesOf p
-  gates-count = omega (arith, R .wires, plan-inputs R)
+  gates-count = omega (arith, R .wires a, plan-inputs R a)
 
   outputs-count : length (m .outputs) ≡ p .shares * p .outputs
-  outputs-count = rw (R .shares, R .outputs) (masked-outputs isw (p .order) (tableOf s) (plan-passed R .plain) .0)
+  outputs-count = rw (R .shares, R .outputs) (masked-outputs (gadgetOf a) (p .order) (tableOf s) (plan-passed R .plain) .0)
 
   -- what is written over all gates is the masked table's
   whole-cost : total (λ k. cost k (p .shares)) (stretch (tableOf s) 0 (p .gates)) ≡ gatesOf p
@@ -51,11 +53,11 @@ module _ {s : List ℕ} {p : DP.Plan} (R : PlanReady s p) where
   kinds-whole : gateKinds (p .shares) (stretch (tableOf s) 0 (p .gates)) ≡ kindBytes (m .gates)
   unfolding maskedTable
   kinds-whole =
-      rw (R .shares, stretch-all (tableOf s) (p .gates) (R .gates)) (sym (masked-kinds _ 0 _ _ (tableOf s .gates)))
+      rw (R .shares, stretch-all (tableOf s) (p .gates) (R .gates)) (sym (masked-kinds (lawful a) _ 0 _ _ (tableOf s .gates)))
 
   operands-whole :
       operandBytes
-      (masked isw (p .shares) 0 (p .shares * p .inputs) (sharesTo (p .shares) (tableOf s) 0) (stretch (tableOf s) 0 (p .gates)))
+      (masked (gadgetOf a) (p .shares) 0 (p .shares * p .inputs) (sharesTo (p .shares) (tableOf s) 0) (stretch (tableOf s) 0 (p .gates)))
       ≡ pairBytes (m .gates)
   unfolding maskedTable sharesAfter
   operands-whole = rw (R .shares, R .inputs, stretch-all (tableOf s) (p .gates) (R .gates)) refl
@@ -67,7 +69,7 @@ module _ {s : List ℕ} {p : DP.Plan} (R : PlanReady s p) where
   -- the parts of a buffer with room for the table, each once it is back
   pub parts-start : (b : List ℕ) → planBytes p ≤ length b → Writing (putAt 6 (afterSizes m) b) 6 (afterSizes m) b
   unfolding tableBytes
-  parts-start b h = writing-start 6 (afterSizes m) b (omega (arith, plan-bytes R))
+  parts-start b h = writing-start 6 (afterSizes m) b (omega (arith, plan-bytes R a))
 
   module _ {whole b x : List ℕ} where
     pub kinds-back :
@@ -88,7 +90,7 @@ module _ {s : List ℕ} {p : DP.Plan} (R : PlanReady s p) where
         → x
         ≡ over
         (operandBytes
-        (masked isw (p .shares) 0 (p .shares * p .inputs) (sharesTo (p .shares) (tableOf s) 0) (stretch (tableOf s) 0 (p .gates))))
+        (masked (gadgetOf a) (p .shares) 0 (p .shares * p .inputs) (sharesTo (p .shares) (tableOf s) 0) (stretch (tableOf s) 0 (p .gates))))
         (midOf (6 + gatesOf p) (6 + 5 * gatesOf p - (6 + gatesOf p)) b)
         → Writing whole (6 + 5 * gatesOf p) (wordBytes (m .outputs))
         (putMid (6 + gatesOf p) (6 + 5 * gatesOf p - (6 + gatesOf p)) b x)
@@ -107,8 +109,8 @@ module _ {s : List ℕ} {p : DP.Plan} (R : PlanReady s p) where
         (midOf (6 + 5 * gatesOf p) (length b - (6 + 5 * gatesOf p)) b)
         → putMid (6 + 5 * gatesOf p) (length b - (6 + 5 * gatesOf p)) b x ≡ whole
     outputs-back W e =
-        let a = 6 + 5 * gatesOf p in
-        part-put a (length b) (wordBytes (m .outputs)) b (omega (arith, W .room)) (omega arith) (omega (arith, W .room))
+        let start = 6 + 5 * gatesOf p in
+        part-put start (length b) (wordBytes (m .outputs)) b (omega (arith, W .room)) (omega arith) (omega (arith, W .room))
         (rw outputs-whole at e)
         ∙ W .goal
 
@@ -155,7 +157,7 @@ module _ {s : List ℕ} {p : DP.Plan} (R : PlanReady s p) where
   whole-back b room sizes parts =
       let six = two (p .shares * p .inputs) ++ (two (gatesOf p) ++ two (p .shares * p .outputs)) in
       let same : six ++ afterSizes m ≡ tableBytes m =
-      ap (λ (x : ℕ). (two x ++ (two (gatesOf p) ++ two (p .shares * p .outputs))) ++ afterSizes m) (plan-inputs R)
+      ap (λ (x : ℕ). (two x ++ (two (gatesOf p) ++ two (p .shares * p .outputs))) ++ afterSizes m) (plan-inputs R a)
       ∙ ap₂ (λ (x y : ℕ). (two (m .inputs) ++ (two x ++ two y)) ++ afterSizes m) (sym gates-count) (sym outputs-count) in
       put-then 0 six (afterSizes m) b (omega arith) sizes refl parts
       ∙ put-zero (six ++ afterSizes m) b

@@ -16,7 +16,8 @@ use Rattle.tables.proofs.Lists.{all-getD}
 use Rattle.tables.proofs.Run.{OfLeft, OfRight, read-left, read-right}
 use Rattle.tables.proofs.Format.{words-long}
 use Rattle.tables.proofs.Put.{Writing, writing-front, writing-fits, writing-piece, writing-end, put-length, put-zero}
-use Rattle.masks.specs.Gadgets.{isw}
+use Rattle.masks.specs.Gadgets.{Gadget, isw}
+use Rattle.masks.proofs.Lawful.{isw-lawful}
 use Rattle.masks.specs.Wires.{cost, share, newShares, masked, outputShares, newWires}
 use Rattle.masks.proofs.Costs.{new-length, masked-length}
 use Rattle.masks.proofs.Placed.{new-wires-read}
@@ -117,34 +118,35 @@ stretch-none : (t : Table) (e g : ℕ) → e ≤ g → stretch t g e ≡ []
 stretch-none t e g h = let none : e - g ≡ 0 = omega arith in rw none refl
 
 -- the operands from gate g on and before gate e are left to write; gate g's first masked wire is w
-pub record Operands (t : Table) (n : ℕ) (whole b₀ : List ℕ) (e g w at : ℕ) (b : List ℕ) : Type 0 where
+pub record Operands (G : Gadget) (t : Table) (n : ℕ) (whole b₀ : List ℕ) (e g w at : ℕ) (b : List ℕ) : Type 0 where
   pub within : g ≤ e
   pub wire : w ≡ gateWire n t g
-  pub rest : Writing whole at (operandBytes (masked isw n g w (sharesTo n t g) (stretch t g e))) b
+  pub rest : Writing whole at (operandBytes (masked G n g w (sharesTo n t g) (stretch t g e))) b
   pub long : length b ≡ length b₀
 
-abbrev pub operandsWhole : Table → ℕ → ℕ → ℕ → ℕ → List ℕ → List ℕ
-operandsWhole t n g e w b = over (operandBytes (masked isw n g w (sharesTo n t g) (stretch t g e))) b
+abbrev pub operandsWhole : Gadget → Table → ℕ → ℕ → ℕ → ℕ → List ℕ → List ℕ
+operandsWhole G t n g e w b = over (operandBytes (masked G n g w (sharesTo n t g) (stretch t g e))) b
 
 pub operands-start :
-    {t : Table} {n e g w : ℕ} {b : List ℕ} → g ≤ e → w ≡ gateWire n t g
-    → 4 * total (λ k. cost k n) (stretch t g e) ≤ length b → Operands t n (operandsWhole t n g e w b) b e g w 0 b
-operands-start {t} {n} {e} {g} {w} {b} within wire room =
-    let xs = masked isw n g w (sharesTo n t g) (stretch t g e) in
+    (G : Gadget) {t : Table} {n e g w : ℕ} {b : List ℕ} → g ≤ e → w ≡ gateWire n t g
+    → 4 * total (λ k. cost k n) (stretch t g e) ≤ length b → Operands G t n (operandsWhole G t n g e w b) b e g w 0 b
+operands-start G {t} {n} {e} {g} {w} {b} within wire room =
+    let xs = masked G n g w (sharesTo n t g) (stretch t g e) in
     record {
       within = within;
       wire = wire;
-      rest = writing-front (operandBytes xs) b (omega (arith, operands-long xs, masked-length isw n g w (sharesTo n t g) (stretch t g e)));
+      rest = writing-front (operandBytes xs) b (omega (arith, operands-long xs, masked-length G n g w (sharesTo n t g) (stretch t g e)));
       long = refl;
     }
 
-module _ {t : Table} {n : ℕ} {whole b₀ : List ℕ} {e g w at : ℕ} {b : List ℕ} (P : Operands t n whole b₀ e g w at b) where
+module _ {G : Gadget} {t : Table} {n : ℕ} {whole b₀ : List ℕ} {e g w at : ℕ} {b : List ℕ} (P : Operands G t n whole b₀ e g w at b) where
   pub operands-end : e ≤ g → b ≡ whole
   unfolding masked pairBytes
   operands-end h = writing-end (P .rest) (rw (stretch-none t e g h) refl)
 
 -- in a turn, at a gate whose fields are x
 module _
+    {G : Gadget}
     {s : List ℕ}
     {p : DP.Plan}
     {whole b₀ : List ℕ}
@@ -152,7 +154,7 @@ module _
     {b : List ℕ}
     {x : DG.GateFields}
     (R : PlanReady s p)
-    (P : Operands (tableOf s) (p .shares) whole b₀ e g w at b)
+    (P : Operands G (tableOf s) (p .shares) whole b₀ e g w at b)
     (h : g < e)
     (k : e ≤ p .gates)
     (is : GateIs (gateOf (tableOf s) g) x) where
@@ -172,48 +174,48 @@ module _
         let t = tableOf s in
         let n = p .shares in
         let c = gateOf t g .kind in
-        operandBytes (masked isw n g w (sharesTo n t g) (stretch t g e))
-        ≡ operandBytes (newWires isw c (x .left) n g w y z)
-        ++ operandBytes (masked isw n (suc g) (w + cost c n) (sharesTo n t (suc g)) (stretch t (suc g) e))
+        operandBytes (masked G n g w (sharesTo n t g) (stretch t g e))
+        ≡ operandBytes (newWires G c (x .left) n g w y z)
+        ++ operandBytes (masked G n (suc g) (w + cost c n) (sharesTo n t (suc g)) (stretch t (suc g) e))
     unfolding masked
     operands-piece =
         let t = tableOf s in
         let n = p .shares in
-        let G = gateOf t g in
+        let this = gateOf t g in
         let S = sharesTo n t g in
         let inside : g < length (t .gates) = omega (arith, R .gates) in
         let f = operands-facts in
         let o = operandsOf (kindOf (x .kind)) in
-        let at-left : OfLeft o (getD S (G .left) [] ≡ y) =
+        let at-left : OfLeft o (getD S (this .left) [] ≡ y) =
         read-left o (p .inputs + g) (x .left) (x .right) (f .reads)
         (λ k. rw (← is .left) (located-at L g (x .left) (omega arith) (omega (arith, k, R .inputs)))) in
-        let at-right : OfRight o (getD S (G .right) [] ≡ z) =
+        let at-right : OfRight o (getD S (this .right) [] ≡ z) =
         read-right o (p .inputs + g) (x .left) (x .right) (f .reads)
         (λ k. rw (← is .right) (located-at L g (x .right) (omega arith) (omega (arith, k, R .inputs)))) in
-        let next : S ++ (newShares (G .kind) n w (getD S (G .left) []) ∷ []) ≡ sharesTo n t (suc g) =
+        let next : S ++ (newShares (this .kind) n w (getD S (this .left) []) ∷ []) ≡ sharesTo n t (suc g) =
         rw (P .wire) (sym (shares-to-next n t g inside)) in
-        let same : newWires isw (G .kind) (G .left) n g w (getD S (G .left) []) (getD S (G .right) [])
-        ≡ newWires isw (G .kind) (x .left) n g w y z =
-        ap (λ (v : ℕ). newWires isw (G .kind) v n g w (getD S (G .left) []) (getD S (G .right) [])) (sym (is .left))
+        let same : newWires G (this .kind) (this .left) n g w (getD S (this .left) []) (getD S (this .right) [])
+        ≡ newWires G (this .kind) (x .left) n g w y z =
+        ap (λ (v : ℕ). newWires G (this .kind) v n g w (getD S (this .left) []) (getD S (this .right) [])) (sym (is .left))
         ∙ rw (← is .kind)
-        (new-wires-read isw (kindOf (x .kind)) (x .left) n g w (getD S (G .left) []) y (getD S (G .right) []) z
+        (new-wires-read G (kindOf (x .kind)) (x .left) n g w (getD S (this .left) []) y (getD S (this .right) []) z
         at-left at-right) in
-        ap {A = List Gate} {B = List ℕ} (λ gs. operandBytes (masked isw n g w S gs)) (stretch-step t e g h (omega (arith, R .gates)))
-        ∙ operands-append (newWires isw (G .kind) (G .left) n g w (getD S (G .left) []) (getD S (G .right) [])) _
+        ap {A = List Gate} {B = List ℕ} (λ gs. operandBytes (masked G n g w S gs)) (stretch-step t e g h (omega (arith, R .gates)))
+        ∙ operands-append (newWires G (this .kind) (this .left) n g w (getD S (this .left) []) (getD S (this .right) [])) _
         ∙ rw (next, same) refl
 
     pub operands-turn :
         {u : ℕ} {b′ : List ℕ}
-        → b′ ≡ putAt at (operandBytes (newWires isw (kindOf (x .kind)) (x .left) (p .shares) g w y z)) b
+        → b′ ≡ putAt at (operandBytes (newWires G (kindOf (x .kind)) (x .left) (p .shares) g w y z)) b
         → u ≡ cost (kindOf (x .kind)) (p .shares)
-        → Operands (tableOf s) (p .shares) whole b₀ e (g + 1) (w + u) (at + 4 * u) b′
+        → Operands G (tableOf s) (p .shares) whole b₀ e (g + 1) (w + u) (at + 4 * u) b′
     operands-turn {u} {b′} put₀ size =
         let t = tableOf s in
         let n = p .shares in
         let c = gateOf t g .kind in
-        let ws = newWires isw c (x .left) n g w y z in
+        let ws = newWires G c (x .left) n g w y z in
         let long : length (operandBytes ws) ≡ 4 * cost c n =
-        operands-long ws ∙ ap (λ (v : ℕ). 4 * v) (new-length isw c (x .left) n g w y z) in
+        operands-long ws ∙ ap (λ (v : ℕ). 4 * v) (new-length G c (x .left) n g w y z) in
         let put : b′ ≡ putAt at (operandBytes ws) b = rw (is .kind) at put₀ in
         rw (add-one, size, is .kind)
         (record {
@@ -229,13 +231,13 @@ module _
       let n = p .shares in
       let y = shareWires n (placesAt H B T (x .left)) in
       let z = shareWires n (placesAt H B T (x .right)) in
-      let ws = newWires isw (gateOf (tableOf s) g .kind) (x .left) n g w y z in
+      let ws = newWires G (gateOf (tableOf s) g .kind) (x .left) n g w y z in
       rw (is .kind)
       (omega (
         arith,
         writing-fits (P .rest) (operandBytes ws) _ (operands-piece L),
         operands-long ws,
-        new-length isw (gateOf (tableOf s) g .kind) (x .left) n g w y z,
+        new-length G (gateOf (tableOf s) g .kind) (x .left) n g w y z,
       ))
 
 -- what covers a buffer is all that it holds
@@ -245,11 +247,13 @@ over-all xs b e =
 
 pub kinds-long : (n : ℕ) (xs : List Gate) → length (gateKinds n xs) ≡ total (λ k. cost k n) xs
 kinds-long n xs =
-    ap length (sym (masked-kinds n 0 0 [] xs)) ∙ wire-kinds-long (masked isw n 0 0 [] xs) ∙ masked-length isw n 0 0 [] xs
+    ap length (sym (masked-kinds isw-lawful n 0 0 [] xs)) ∙ wire-kinds-long (masked isw n 0 0 [] xs) ∙ masked-length isw n 0 0 [] xs
 
 new-kinds-long : (k : Kind) (n : ℕ) → length (newKinds k n) ≡ cost k n
 new-kinds-long k n =
-    ap length (sym (new-kinds k 0 n 0 0 [] [])) ∙ wire-kinds-long (newWires isw k 0 n 0 0 [] []) ∙ new-length isw k 0 n 0 0 [] []
+    ap length (sym (new-kinds isw-lawful k 0 n 0 0 [] []))
+    ∙ wire-kinds-long (newWires isw k 0 n 0 0 [] [])
+    ∙ new-length isw k 0 n 0 0 [] []
 
 -- the kinds from gate g on and before gate e are left to write
 pub record Kinds (t : Table) (n : ℕ) (whole b₀ : List ℕ) (e g at : ℕ) (b : List ℕ) : Type 0 where

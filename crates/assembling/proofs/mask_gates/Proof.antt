@@ -30,7 +30,7 @@ write-kinds-requires : tie.Need-write-kinds-requires
 write-kinds-requires c κs =
     let s = c .before .before .before .before .before .before .before .before in
     let R = s .pre .0 in
-    (R, omega arith, omega arith, kinds-asked R (parts-start R (s .args .out .now) (s .pre .2)))
+    (R, omega arith, omega arith, kinds-asked (s .args .and) R (parts-start (s .args .and) R (s .args .out .now) (s .pre .2)))
 
 add-write-operands : tie.Need-add-write-operands
 add-write-operands c = search needs
@@ -54,7 +54,7 @@ write-operands-requires : tie.Need-write-operands-requires
 write-operands-requires c κs =
     let s = c .before .before .before .before .before .before .before .before .before .before .before .before in
     let R = s .pre .0 in
-    let asked = operands-asked R (kinds-back R (parts-start R (s .args .out .now) (s .pre .2)) (c .before .before .before .write-kinds .ensures)) in
+    let asked = operands-asked (s .args .and) R (kinds-back (s .args .and) R (parts-start (s .args .and) R (s .args .out .now) (s .pre .2)) (c .before .before .before .write-kinds .ensures)) in
     (R, s .pre .1, omega arith, omega arith, asked .0, asked .1)
 
 mul-write-outputs : tie.Need-mul-write-outputs
@@ -78,9 +78,9 @@ write-outputs-requires : tie.Need-write-outputs-requires
 write-outputs-requires c κs =
     let s = c .before .before .before .before .before .before .before .before .before .before .before .before .before .before .before .before in
     let R = s .pre .0 in
-    let kinds = kinds-back R (parts-start R (s .args .out .now) (s .pre .2)) (c .before .before .before .before .before .before .before
+    let kinds = kinds-back (s .args .and) R (parts-start (s .args .and) R (s .args .out .now) (s .pre .2)) (c .before .before .before .before .before .before .before
     .write-kinds .ensures) in
-    (R, s .pre .1, outputs-asked R (operands-back R kinds (c .before .before .before .write-operands .ensures)))
+    (R, s .pre .1, outputs-asked (s .args .and) R (operands-back (s .args .and) R kinds (c .before .before .before .write-operands .ensures)))
 
 same-length : tie.Need-same-length
 same-length c = search needs
@@ -90,9 +90,9 @@ returns c =
     let s = c .before .before .before .before .before .before .before .before .before .before .before .before .before .before .before .before
     .before .before .before in
     let R = s .pre .0 in
-    let kinds = kinds-back R (parts-start R (s .args .out .now) (s .pre .2)) (c .before .before .before .before .before .before .before .before
+    let kinds = kinds-back (s .args .and) R (parts-start (s .args .and) R (s .args .out .now) (s .pre .2)) (c .before .before .before .before .before .before .before .before
     .before .before .write-kinds .ensures) in
-    outputs-back R (operands-back R kinds (c .before .before .before .before .before .before .write-operands .ensures)) (c .before .before
+    outputs-back (s .args .and) R (operands-back (s .args .and) R kinds (c .before .before .before .before .before .before .write-operands .ensures)) (c .before .before
     .write-outputs .ensures)
 
 pub mask-gates-spec : {M : Type 1} → statement M

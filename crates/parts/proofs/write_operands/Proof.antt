@@ -6,6 +6,7 @@ use native.Mathlib.Omega.{arith}
 use borrow.Author.Needs.{needs}
 use lib.ListN.{length}
 use Rattle.tables.specs.Tables.{kindOf, tableOf}
+use Rattle.masks.specs.Gadgets.{gadgetOf}
 use Rattle.masks.specs.Wires.{cost}
 use Rattle.placing.proofs.Turns.{Turn, plan-sized, located-room}
 use Rattle.parts.proofs.Stretches.{
@@ -22,11 +23,11 @@ use Rattle.parts.proofs.write_operands.Statement.{statement}
 use Rattle.parts.proofs.write_operands.Tie as tie
 
 abbrev Inv-loop : tie.InvT-loop
-Inv-loop table from to w head base step ops₀ n gates costs next₀ at₀ g₀ ops next at g =
-    Operands (tableOf table) n (operandsWhole (tableOf table) n from to w ops₀) ops₀ to g next at ops
+Inv-loop and table from to w head base step ops₀ n gates costs next₀ at₀ g₀ ops next at g =
+    Operands (gadgetOf and) (tableOf table) n (operandsWhole (gadgetOf and) (tableOf table) n from to w ops₀) ops₀ to g next at ops
 
 abbrev μ-loop : tie.MeasureT-loop
-μ-loop table from to w head base step ops₀ n gates costs next₀ at₀ g₀ ops next at g = to - g
+μ-loop and table from to w head base step ops₀ n gates costs next₀ at₀ g₀ ops next at g = to - g
 
 slice-aggregate-note-costs : tie.Need-slice-aggregate-note-costs Inv-loop μ-loop
 slice-aggregate-note-costs c = search needs
@@ -35,7 +36,9 @@ note-costs-requires : tie.Need-note-costs-requires Inv-loop μ-loop
 note-costs-requires c κs = (plan-sized (c .before .before .before .before .before .before .pre .0) .few, refl)
 
 loop-holds : tie.Need-loop-holds Inv-loop μ-loop
-loop-holds c = let p = c .before .before .before .before .before .before .before .before .pre in operands-start (p .2) (p .4) (p .5)
+loop-holds c =
+    let s = c .before .before .before .before .before .before .before .before in
+    operands-start (gadgetOf (s .args .and)) (s .pre .2) (s .pre .4) (s .pre .5)
 
 gate-at-requires : tie.Need-gate-at-requires Inv-loop μ-loop
 gate-at-requires c κs =
