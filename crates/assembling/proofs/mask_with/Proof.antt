@@ -61,9 +61,11 @@ same-length-4 : tie.Need-same-length-4
 same-length-4 c = search needs
 
 returns : tie.Need-returns
-returns c = let pre = c .before .before .before .before .before .before .before .before .before .before .before .before .before .before .before
-    .before .before .before .before .before .before .before .before .before .before .before .before .before .before .pre in whole-back (pre .0) _
-    (pre .2) (c .before .before .before .before .before .before .before .before .before .put-sizes .ensures) (c .before .before .mask-gates .ensures)
+returns c =
+    let s = c .before .before .before .before .before .before .before .before .before .before .before .before .before .before .before .before .before .before .before .before .before .before .before .before .before .before .before .before .before in
+    whole-back (s .args .and) (s .pre .0) _ (s .pre .2)
+    (c .before .before .before .before .before .before .before .before .before .put-sizes .ensures)
+    (c .before .before .mask-gates .ensures)
 
 pub mask-with-spec : {M : Type 1} → statement M
 mask-with-spec =
