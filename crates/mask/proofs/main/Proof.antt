@@ -10,7 +10,7 @@ use Rattle.mask.proofs.main.Statement.{statement}
 use Rattle.mask.proofs.main.Tie as tie
 
 slice-aggregate-read-full : tie.Need-slice-aggregate-read-full
-slice-aggregate-read-full c = sym (length-replicate {A = ℕ} 458748 0)
+slice-aggregate-read-full c = sym (length-replicate {A = ℕ} 458749 0)
 
 read-full-requires : tie.Need-read-full-requires
 read-full-requires c κs = search needs

@@ -1,53 +1,58 @@
--- `masking::mask_input` meets its contract: no input, or an order byte and a table.
+-- `masking::mask_input` meets its contract: no input, or a byte that names the AND, an order byte and a table.
 -- Assumes nothing.
 use Rattle.masking.proofs.Masked.{mask-none, mask-part}
 use borrow.Author.Needs.{needs}
 use Rattle.masking.proofs.mask_input.Statement.{statement}
 use Rattle.masking.proofs.mask_input.Tie as tie
+use Rattle.masking.proofs.and_of.Reads as and-of-reads
+use Rattle.masking.proofs.mask_ordered.Reads as mask-ordered-reads
 
-mask-table-requires : tie.Need-mask-table-requires
-mask-table-requires c κs = search needs
+mask-ordered-requires : tie.Need-mask-ordered-requires
+mask-ordered-requires c κs = search needs
 
 same-length : tie.Need-same-length
 same-length c = search needs
 
 returns : tie.Need-returns
-returns c = mask-none (c .before .before .before .before .before .before .before .args .input .now)
-    (c .before .before .before .before .if1 .taken) (c .before .before .mask-table .ensures)
+returns c = mask-none (c .before .before .before .before .before .before .before .args .input .now) (c .before .before .before .before .if1 .taken) (c .before .before .mask-ordered .ensures)
 
-sub-mask-table : tie.Need-sub-mask-table
-sub-mask-table c = search needs
+shared-slice-read-and-of : tie.Need-shared-slice-read-and-of
+shared-slice-read-and-of c = search needs
 
-part-mask-table-start : tie.Need-part-mask-table-start
-part-mask-table-start c = search needs
+and-of-requires : tie.Need-and-of-requires
+and-of-requires c κs = search needs
 
-part-mask-table-end : tie.Need-part-mask-table-end
-part-mask-table-end c = search needs
+sub-mask-ordered : tie.Need-sub-mask-ordered
+sub-mask-ordered c = search needs
 
-shared-slice-read-mask-table : tie.Need-shared-slice-read-mask-table
-shared-slice-read-mask-table c = search needs
+part-mask-ordered-start : tie.Need-part-mask-ordered-start
+part-mask-ordered-start c = search needs
 
-mask-table-requires-2 : tie.Need-mask-table-requires-2
-mask-table-requires-2 c κs = search needs
+part-mask-ordered-end : tie.Need-part-mask-ordered-end
+part-mask-ordered-end c = search needs
+
+mask-ordered-requires-2 : tie.Need-mask-ordered-requires-2
+mask-ordered-requires-2 c κs = search needs
 
 same-length-2 : tie.Need-same-length-2
 same-length-2 c = search needs
 
 returns-2 : tie.Need-returns-2
-returns-2 c = mask-part (c .before .before .before .before .before .before .before .before .before .args .input .now)
-    (c .before .before .mask-table2 .ensures)
+returns-2 c =
+    mask-part (c .before .before .before .before .before .before .before .before .before .before .args .input .now) (c .before .before .before .before .before .and-of .ensures) (c .before .before .mask-ordered2 .ensures)
 
 pub mask-input-spec : {M : Type 1} → statement M
 mask-input-spec =
     tie.close
     (tie.spec
-    mask-table-requires
+    mask-ordered-requires
     same-length
     returns
-    sub-mask-table
-    part-mask-table-start
-    part-mask-table-end
-    shared-slice-read-mask-table
-    mask-table-requires-2
+    shared-slice-read-and-of
+    and-of-requires
+    sub-mask-ordered
+    part-mask-ordered-start
+    part-mask-ordered-end
+    mask-ordered-requires-2
     same-length-2
     returns-2)

@@ -1,6 +1,7 @@
 -- `masking::mask_table` meets its contract: the plan's refusal, 9, or the masked table.
 -- Assumes nothing.
 use native.Mathlib.Omega.{arith}
+use Rattle.masks.specs.Gadgets.{gadgetOf}
 use Rattle.sizing.proofs.Planning.{planned-as, planned-ready, plan-fits}
 use Rattle.masking.proofs.Masked.{mask-refused, mask-short, mask-done}
 use borrow.Author.Needs.{needs}
@@ -18,14 +19,14 @@ refused-requires c κs = tt
 
 returns : tie.Need-returns
 returns c = rw (c .refused .ensures)
-    (mask-refused _ (planned-as (c .before .before .before .before .plan-table .ensures) (c .before .before .planned .given .1)))
+    (mask-refused (gadgetOf (c .before .before .before .before .before .before .before .args .and)) _ (planned-as (c .before .before .before .before .plan-table .ensures (c .before .before .before .before .before .before .before .args .and)) (c .before .before .planned .given .1)))
 
 enum-known-planned-2 : tie.Need-enum-known-planned-2
 enum-known-planned-2 c = search needs
 
 plan-bytes-requires : tie.Need-plan-bytes-requires
 plan-bytes-requires c κs = plan-fits
-    (planned-ready (planned-as (c .before .before .before .plan-table .ensures) (c .before .planned2 .given .1)) .ready)
+    (planned-ready (planned-as (c .before .before .before .plan-table .ensures (c .before .before .before .before .before .before .args .and)) (c .before .planned2 .given .1)) .ready)
 
 refuse-requires : tie.Need-refuse-requires
 refuse-requires c κs = omega arith
@@ -36,15 +37,15 @@ refused-requires-2 c κs = tt
 returns-2 : tie.Need-returns-2
 returns-2 c =
     rw (c .refused2 .ensures)
-    (mask-short
-    (planned-ready (planned-as (c .before .before .before .before .before .before .before .plan-table .ensures)
+    (mask-short (c .before .before .before .before .before .before .before .before .before .before .args .and)
+    (planned-ready (planned-as (c .before .before .before .before .before .before .before .plan-table .ensures (c .before .before .before .before .before .before .before .before .before .before .args .and))
     (c .before .before .before .before .before .planned2 .given .1)))
     (omega (arith, c .before .before .if1 .taken, c .before .before .before .plan-bytes .ensures))
     (c .before .refuse .ensures))
 
 mask-into-requires : tie.Need-mask-into-requires
 mask-into-requires c κs = (
-  planned-ready (planned-as (c .before .before .before .before .before .before .plan-table .ensures)
+  planned-ready (planned-as (c .before .before .before .before .before .before .plan-table .ensures (c .before .before .before .before .before .before .before .before .before .args .and))
       (c .before .before .before .before .planned2 .given .1)) .ready,
   omega (arith, c .before .if1 .left, c .before .before .plan-bytes .ensures),
 )
@@ -55,7 +56,7 @@ refuse-requires-2 c κs = omega arith
 cast-done : tie.Need-cast-done
 cast-done c =
     let f = plan-fits (planned-ready
-    (planned-as (c .before .before .before .before .before .before .before .before .before .before .plan-table .ensures)
+    (planned-as (c .before .before .before .before .before .before .before .before .before .before .plan-table .ensures (c .before .before .before .before .before .before .before .before .before .before .before .before .before .args .and))
     (c .before .before .before .before .before .before .before .before .planned2 .given .1)) .ready) in
     record { fits = omega (arith, f .wires, f .inputs, f .outputs, c .before .before .before .before .before .before .plan-bytes .ensures) }
 
@@ -68,9 +69,9 @@ same-length c = search needs
 returns-3 : tie.Need-returns-3
 returns-3 c =
     rw (c .done .ensures)
-    (mask-done
+    (mask-done (c .before .before .before .before .before .before .before .before .before .before .before .before .before .before .args .and)
     (planned-ready (planned-as
-    (c .before .before .before .before .before .before .before .before .before .before .before .plan-table .ensures)
+    (c .before .before .before .before .before .before .before .before .before .before .before .plan-table .ensures (c .before .before .before .before .before .before .before .before .before .before .before .before .before .before .args .and))
     (c .before .before .before .before .before .before .before .before .before .planned2 .given .1)))
     (omega (
       arith,
