@@ -1,12 +1,12 @@
 -- The share numbers that wires carry, for each case that the code tells apart.
 -- Assumes nothing.
-use mathlib.Core.Path.{_≡_, refl, sym, _∙_}
+use mathlib.Core.Path.{_≡_, refl, sym, ap, _∙_}
 use mathlib.Core.Bool.{Bool, true, false, _||_, cond}
 use mathlib.Core.List.{List, [], _∷_}
 use Prim.Native.Nat.{ℕ, zero, suc, _+_, _-_, _*_, _%_, _≤_, _<_}
 use native.Mathlib.Numerals.{add-one}
 use native.Mathlib.Omega.{arith}
-use borrow.Author.Tests.{ltb-true, ltb-false, eqb-true, eqb-false, le-leb, lt-leb}
+use borrow.Author.Tests.{ltb-true, ltb-false, eqb-true, eqb-false, eq-eqb, ne-eqb, le-leb, lt-leb}
 use Rattle.tables.proofs.Tests.{or-false}
 use lib.Dec.{eqb, ltb, leb}
 use Rattle.tables.specs.Refusals.{fault, none}
@@ -18,7 +18,10 @@ use Rattle.marking.specs.declared.Carried as DC
 use Rattle.marking.specs.declared.AndPart as DA
 use Rattle.marking.specs.declared.AndPart.the-variants.{Pair, Own, Sum}
 use Rattle.masks.specs.Shares.{sharesOf}
-use Rattle.masks.specs.Gadgets.{iswMarks, isw}
+use Rattle.masks.specs.declared.And as DAnd
+use Rattle.masks.specs.declared.PairForm as DF
+use Rattle.masks.specs.Gadgets.{indexOf, Gadget, gadgetOf}
+use Rattle.masks.specs.Forms.{formMarks, FormSays}
 use Rattle.masks.specs.Wires.{inAnd, xorShare, andPart, constantShare, orPart, partMarks, marks, share, firstOn, andCost, cost}
 use Rattle.masks.specs.Wires.{maskedTable, origins}
 use Rattle.masks.specs.Says.{plainFault, originAt, marksFault, MarksSay}
@@ -36,55 +39,59 @@ one i = record { first = i + 1; second = 0 }
 abbrev pub both : ℕ → ℕ → DC.Carried
 both i j = record { first = i + 1; second = j + 1 }
 
-is-one : {p : DA.AndPart} (i : ℕ) → partMarks isw (partOf p) ≡ suc i ∷ [] → PartMarksSay p (one i)
+is-one :
+    {G : Gadget} {p : DA.AndPart} (i : ℕ) → partMarks G (partOf p) ≡ suc i ∷ [] → PartMarksSay G p (one i)
 is-one i h = record { carried = record { first = rw h (add-one i); second = rw h } }
 
 is-both :
-    {p : DA.AndPart} (i j : ℕ) → partMarks isw (partOf p) ≡ suc i ∷ suc j ∷ [] → PartMarksSay p (both i j)
+    {G : Gadget} {p : DA.AndPart} (i j : ℕ) → partMarks G (partOf p) ≡ suc i ∷ suc j ∷ [] → PartMarksSay G p (both i j)
 is-both i j h = record { carried = record { first = rw h (add-one i); second = rw h (add-one j) } }
 
-middle : (f i j : ℕ) → (f ≡ 0 → ⊥) → f < 4 → iswMarks (suc i) (suc j) (fiveOf f) ≡ suc i ∷ suc j ∷ []
-middle zero i j h k = absurd (h refl)
-middle (suc zero) i j h k = refl
-middle (suc (suc zero)) i j h k = refl
-middle (suc (suc (suc zero))) i j h k = refl
-middle (suc (suc (suc (suc f)))) i j h k = absurd (omega arith)
+index-five : (f : ℕ) → f < 5 → indexOf (fiveOf f) ≡ f
+index-five zero h = refl
+index-five (suc zero) h = refl
+index-five (suc (suc zero)) h = refl
+index-five (suc (suc (suc zero))) h = refl
+index-five (suc (suc (suc (suc zero)))) h = refl
+index-five (suc (suc (suc (suc (suc f))))) h = absurd (omega arith)
 
-last : (f i j : ℕ) → 4 ≤ f → iswMarks (suc i) (suc j) (fiveOf f) ≡ suc j ∷ []
-last zero i j h = absurd (omega arith)
-last (suc zero) i j h = absurd (omega arith)
-last (suc (suc zero)) i j h = absurd (omega arith)
-last (suc (suc (suc zero))) i j h = absurd (omega arith)
-last (suc (suc (suc (suc f)))) i j h = refl
+pub pair-among :
+    {p : DA.AndPart} (f i j : ℕ) → p ≡ Pair f i j → Among 31 p → (f < 5) × (i < j) × (j < 31)
+pair-among f i j e a = rw e at a
 
-module _ {p : DA.AndPart} (f i j : ℕ) (e : p ≡ Pair f i j) where
-  pub pair-among : {n : ℕ} → Among n p → (f < 5) × (i < j) × (j < n)
-  pair-among a = rw e at a
+-- a wire of a pair, by the form of the AND's pairs
+module _
+    {G : Gadget} {r : DF.PairForm} (F : FormSays G r) {p : DA.AndPart} (f i j : ℕ) (e : p ≡ Pair f i j) (small : f < 5)
+  where
+    marks-are : partMarks G (partOf p) ≡ formMarks r (suc i) (suc j) f
+    marks-are =
+        rw e
+        (F .marks (suc i) (suc j) (fiveOf f) ∙ ap (formMarks r (suc i) (suc j)) (index-five f small))
 
-  -- z(i,j)
-  pub first-marks : f ≡ 0 → PartMarksSay p (one i)
-  first-marks h = rw (e, h) (is-one i refl)
+    -- what row i adds
+    pub low-marks : f ≡ r .low → PartMarksSay G p (one i)
+    low-marks h = is-one i (marks-are ∙ rw (eq-eqb f (r .low) h))
 
-  -- a_i·b_j, z(i,j)⊕a_i·b_j and a_j·b_i
-  pub middle-marks : (f ≡ 0 → ⊥) → f < 4 → PartMarksSay p (both i j)
-  middle-marks h k = rw e (is-both i j (middle f i j h k))
+    -- what row j adds
+    pub high-marks : (f ≡ r .low → ⊥) → f ≡ r .high → PartMarksSay G p (one j)
+    high-marks h k = is-one j (marks-are ∙ rw (ne-eqb f (r .low) h, eq-eqb f (r .high) k))
 
-  -- z(j,i)
-  pub last-marks : 4 ≤ f → PartMarksSay p (one j)
-  last-marks h = rw e (is-one j (last f i j h))
+    -- any other
+    pub cross-marks : (f ≡ r .low → ⊥) → (f ≡ r .high → ⊥) → PartMarksSay G p (both i j)
+    cross-marks h k = is-both i j (marks-are ∙ rw (ne-eqb f (r .low) h, ne-eqb f (r .high) k))
 
 module _ {p : DA.AndPart} (i : ℕ) (e : p ≡ Own i) where
   pub own-among : {n : ℕ} → Among n p → i < n
   own-among a = rw e at a
 
-  pub own-marks : PartMarksSay p (one i)
+  pub own-marks : {G : Gadget} → PartMarksSay G p (one i)
   own-marks = rw e (is-one i refl)
 
 module _ {p : DA.AndPart} (i m : ℕ) (e : p ≡ Sum i m) where
   pub sum-among : {n : ℕ} → Among n p → i < n
   sum-among a = (rw e at a) .0
 
-  pub sum-marks : PartMarksSay p (one i)
+  pub sum-marks : {G : Gadget} → PartMarksSay G p (one i)
   sum-marks = rw e (is-one i refl)
 
 -- share 1 alone
@@ -93,12 +100,12 @@ first-alone e = rw e (record { first = refl; second = refl })
 
 -- new wire d of an OR, whose last one is number e
 module _ (n d : ℕ) {e : ℕ} (last : e ≡ 2 + andCost n) where
-  pub or-not-marks : ltb d 2 || eqb d e ≡ true → GateMarksSay OR n d (record { first = 1; second = 0 })
-  or-not-marks h = go (ltb d 2) refl h
+  pub or-not-marks : {G : Gadget} → ltb d 2 || eqb d e ≡ true → GateMarksSay G OR n d (record { first = 1; second = 0 })
+  or-not-marks {G} h = go (ltb d 2) refl h
     where
-      go : (t : Bool) → ltb d 2 ≡ t → t || eqb d e ≡ true → GateMarksSay OR n d (record { first = 1; second = 0 })
-      go true t h = record { carried = λ l g w a b. first-alone (first-origin isw l n g w a b d (ltb-true d 2 t)) }
-      go false t h = record { carried = λ l g w a b. first-alone (last-origin isw l n g w a b d (eqb-true d e h ∙ last)) }
+      go : (t : Bool) → ltb d 2 ≡ t → t || eqb d e ≡ true → GateMarksSay G OR n d (record { first = 1; second = 0 })
+      go true t h = record { carried = λ l g w a b. first-alone (first-origin G l n g w a b d (ltb-true d 2 t)) }
+      go false t h = record { carried = λ l g w a b. first-alone (last-origin G l n g w a b d (eqb-true d e h ∙ last)) }
 
   -- a wire of the AND
   module _ (h : ltb d 2 || eqb d e ≡ false) (below : d < cost OR n) where
@@ -109,20 +116,20 @@ module _ (n d : ℕ) {e : ℕ} (last : e ≡ 2 + andCost n) where
         (ltb-false d 2 (both .0), omega (arith, other, last))
 
     pub or-and-marks :
-        {p : DA.AndPart} {r : DC.Carried} → PartSays n (d - 2) p → PartMarksSay p r → GateMarksSay OR n d r
-    or-and-marks P M =
+        {G : Gadget} {p : DA.AndPart} {r : DC.Carried} → PartSays n (d - 2) p → PartMarksSay G p r → GateMarksSay G OR n d r
+    or-and-marks {G} P M =
         record {
           carried = λ l g w a b.
-              rw (inner-origin isw l n g w a b d (inner .0) (inner .1), P .origin isw (λ p. orPart g (inAnd p)) (suc (suc w)) (firstOn w a) (firstOn (suc w) b))
+              rw (inner-origin G l n g w a b d (inner .0) (inner .1), P .origin G (λ p. orPart g (inAnd p)) (suc (suc w)) (firstOn w a) (firstOn (suc w) b))
               (M .carried);
         }
 
 -- new wire d of the gate of kind k
 module _ (k n d : ℕ) (h : d < cost (kindOf k) n) where
-  pub not-marks : k ≡ 0 → GateMarksSay (kindOf k) n d (record { first = 1; second = 0 })
-  not-marks e =
+  pub not-marks : {G : Gadget} → k ≡ 0 → GateMarksSay G (kindOf k) n d (record { first = 1; second = 0 })
+  not-marks {G} e =
       let small : d < 1 = rw e at h in
-      rw e (record { carried = λ l g w a b. rw (not-origin isw l n g w a b d small) (record { first = refl; second = refl }) })
+      rw e (record { carried = λ l g w a b. rw (not-origin G l n g w a b d small) (record { first = refl; second = refl }) })
 
   -- an XOR or a constant
   pub share-below : eqb k 1 || eqb k 4 ≡ true → d < n
@@ -132,10 +139,10 @@ module _ (k n d : ℕ) (h : d < cost (kindOf k) n) where
       go true t e = rw (eqb-true k 1 t) at h
       go false t e = rw (eqb-true k 4 e) at h
 
-  pub share-marks : eqb k 1 || eqb k 4 ≡ true → GateMarksSay (kindOf k) n d (one d)
-  share-marks e = go (eqb k 1) refl e (share-below e)
+  pub share-marks : {G : Gadget} → eqb k 1 || eqb k 4 ≡ true → GateMarksSay G (kindOf k) n d (one d)
+  share-marks {G} e = go (eqb k 1) refl e (share-below e)
     where
-      go : (t : Bool) → eqb k 1 ≡ t → t || eqb k 4 ≡ true → d < n → GateMarksSay (kindOf k) n d (one d)
+      go : (t : Bool) → eqb k 1 ≡ t → t || eqb k 4 ≡ true → d < n → GateMarksSay G (kindOf k) n d (one d)
       go true t e below =
           rw (eqb-true k 1 t)
           (record {
@@ -154,8 +161,8 @@ module _ (k n d : ℕ) (h : d < cost (kindOf k) n) where
   and-below e = rw e at h
 
   pub and-marks :
-      {p : DA.AndPart} {r : DC.Carried} → k ≡ 2 → PartSays n d p → PartMarksSay p r → GateMarksSay (kindOf k) n d r
-  and-marks e P M = rw e (record { carried = λ l g w a b. rw (P .origin isw (andPart g) w a b) (M .carried) })
+      {G : Gadget} {p : DA.AndPart} {r : DC.Carried} → k ≡ 2 → PartSays n d p → PartMarksSay G p r → GateMarksSay G (kindOf k) n d r
+  and-marks {G} e P M = rw e (record { carried = λ l g w a b. rw (P .origin G (andPart g) w a b) (M .carried) })
 
   -- a gate with new wires of no other kind
   pub is-or : (k ≡ 0 → ⊥) → eqb k 1 || eqb k 4 ≡ false → (k ≡ 2 → ⊥) → kindOf k ≡ OR
@@ -172,7 +179,7 @@ module _ (k n d : ℕ) (h : d < cost (kindOf k) n) where
       go (suc (suc (suc (suc (suc zero))))) p q r s h = refl
       go (suc (suc (suc (suc (suc (suc k)))))) p q r s h = absurd (omega arith)
 
-  pub or-marks : {r : DC.Carried} → kindOf k ≡ OR → GateMarksSay OR n d r → GateMarksSay (kindOf k) n d r
+  pub or-marks : {G : Gadget} {r : DC.Carried} → kindOf k ≡ OR → GateMarksSay G OR n d r → GateMarksSay G (kindOf k) n d r
   or-marks e M = rw e M
 
 pub among-more : {n m : ℕ} (p : DA.AndPart) → n ≤ m → Among n p → Among m p
@@ -181,55 +188,55 @@ among-more (Own i) h a = omega arith
 among-more (Sum i m) h a = omega arith
 
 -- the wires of a planned table: an input share, and a new wire of a gate
-module _ {s : List ℕ} {p : DP.Plan} {w : ℕ} (R : PlanReady s p) where
+module _ (G : Gadget) {s : List ℕ} {p : DP.Plan} {w : ℕ} (R : PlanReady s p) where
   pub input-carried :
       w < p .shares * p .inputs
-      → CarriedSays (marks isw (originAt (origins isw (p .order) (tableOf s)) w)) (one (w % p .shares))
+      → CarriedSays (marks G (originAt (origins G (p .order) (tableOf s)) w)) (one (w % p .shares))
   input-carried h =
       let shares : p .shares * p .inputs ≡ sharesOf (p .order) * tableOf s .inputs = rw (R .shares, R .inputs) in
-      rw (R .shares, origins-input isw (p .order) (tableOf s) w (omega arith))
+      rw (R .shares, origins-input G (p .order) (tableOf s) w (omega arith))
       (record { first = add-one (w % sharesOf (p .order)); second = refl })
 
-  pub new-below : {x : DW.NewWire} → NewWireSays (tableOf s) (p .order) w x → x .place < cost (kindOf (x .kind)) (p .shares)
+  pub new-below : {x : DW.NewWire} → NewWireSays G (tableOf s) (p .order) w x → x .place < cost (kindOf (x .kind)) (p .shares)
   new-below N = rw (R .shares) (N .below)
 
   pub new-carried :
-      {x : DW.NewWire} {r : DC.Carried} → NewWireSays (tableOf s) (p .order) w x
-      → GateMarksSay (kindOf (x .kind)) (p .shares) (x .place) r
-      → CarriedSays (marks isw (originAt (origins isw (p .order) (tableOf s)) w)) r
+      {x : DW.NewWire} {r : DC.Carried} → NewWireSays G (tableOf s) (p .order) w x
+      → GateMarksSay G (kindOf (x .kind)) (p .shares) (x .place) r
+      → CarriedSays (marks G (originAt (origins G (p .order) (tableOf s)) w)) r
   new-carried {x} N M =
       rw (N .origin) ((rw (R .shares) at M) .carried (N .operand) (x .gate) (N .start) (N .left) (N .right))
 
 -- the marks call: 1 to 8, 13, and the share numbers
 pub marks-refused :
-    {s : List ℕ} {o : ℕ} {r : DR.Refusal} (w : ℕ) → PlanSays (plainFault isw s o) s o (Planned.Refused r)
-    → MarksSay isw (marks isw) s o w (record { number = r .number; place = r .place; first = 0; second = 0 })
+    (G : Gadget) {s : List ℕ} {o : ℕ} {r : DR.Refusal} (w : ℕ) → PlanSays (plainFault G s o) s o (Planned.Refused r)
+    → MarksSay G (marks G) s o w (record { number = r .number; place = r .place; first = 0; second = 0 })
 unfolding marksFault
-marks-refused w P =
+marks-refused G w P =
     let R = planned-refused P in
     let F = first-of _ (R .0) (R .1) in
     let fails = refused-fails F (R .1) in
     record { number = F .number; place = F .place; first = rw fails; second = rw fails }
 
-module _ {s : List ℕ} {o : ℕ} {p : DP.Plan} (P : Planned-Ready (plainFault isw s o) s o p) where
-  masked-wires-are : wires (maskedTable isw o (tableOf s)) ≡ p .wires
-  masked-wires-are = rw (← P .order) (sym (P .ready .wires))
+module _ (a : DAnd.And) {s : List ℕ} {o : ℕ} {p : DP.Plan} (P : Planned-Ready (plainFault (gadgetOf a) s o) s o p) where
+  masked-wires-are : wires (maskedTable (gadgetOf a) o (tableOf s)) ≡ p .wires
+  masked-wires-are = rw (← P .order) (sym (P .ready .wires a))
 
   pub marks-outside :
       (w : ℕ) → p .wires ≤ w
-      → MarksSay isw (marks isw) s o w (record { number = 13; place = 0; first = 0; second = 0 })
+      → MarksSay (gadgetOf a) (marks (gadgetOf a)) s o w (record { number = 13; place = 0; first = 0; second = 0 })
   unfolding marksFault
   marks-outside w h =
-      let past : leb (wires (maskedTable isw o (tableOf s))) w ≡ true = le-leb _ w (omega (arith, masked-wires-are)) in
-      let e : marksFault isw s o w ≡ fault 13 0 = rw (P .none, past) in
+      let past : leb (wires (maskedTable (gadgetOf a) o (tableOf s))) w ≡ true = le-leb _ w (omega (arith, masked-wires-are)) in
+      let e : marksFault (gadgetOf a) s o w ≡ fault 13 0 = rw (P .none, past) in
       record { number = rw e; place = rw e; first = rw e; second = rw e }
 
   pub marks-inside :
-      (w : ℕ) {c : DC.Carried} → w < p .wires → CarriedSays (marks isw (originAt (origins isw (p .order) (tableOf s)) w)) c
-      → MarksSay isw (marks isw) s o w (record { number = 0; place = 0; first = c .first; second = c .second })
+      (w : ℕ) {c : DC.Carried} → w < p .wires → CarriedSays (marks (gadgetOf a) (originAt (origins (gadgetOf a) (p .order) (tableOf s)) w)) c
+      → MarksSay (gadgetOf a) (marks (gadgetOf a)) s o w (record { number = 0; place = 0; first = c .first; second = c .second })
   unfolding marksFault
   marks-inside w h C =
-      let before : leb (wires (maskedTable isw o (tableOf s))) w ≡ false = lt-leb _ w (omega (arith, masked-wires-are)) in
-      let e : marksFault isw s o w ≡ none = rw (P .none, before) in
+      let before : leb (wires (maskedTable (gadgetOf a) o (tableOf s))) w ≡ false = lt-leb _ w (omega (arith, masked-wires-are)) in
+      let e : marksFault (gadgetOf a) s o w ≡ none = rw (P .none, before) in
       let D = rw (P .order) at C in
       record { number = rw e; place = rw e; first = rw e (D .first); second = rw e (D .second) }

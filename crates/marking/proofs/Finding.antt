@@ -11,7 +11,8 @@ use Rattle.tables.specs.Tables.{kindOf, noGate, Table, gateOf, tableOf, total}
 use Rattle.tables.proofs.Total.{total-next, total-none}
 use Rattle.sizing.specs.declared.Plan as DP
 use Rattle.masks.specs.Shares.{sharesOf, upFrom, pairOf, pairsFrom, pairs, tri}
-use Rattle.masks.specs.Gadgets.{isw}
+use Rattle.masks.specs.declared.And.the-variants.{Isw}
+use Rattle.masks.specs.Gadgets.{Gadget, isw}
 use Rattle.masks.specs.Wires.{originOf, inputShare, cost, newShares, inputShares, inputOrigins, masked}
 use Rattle.masks.specs.Wires.{origins}
 use Rattle.masks.specs.Says.{originAt}
@@ -77,9 +78,9 @@ pub record Seeking (t : Table) (n wire g start : ℕ) : Type 0 where
   pub past : start ≤ wire
   pub ahead : wire < start + total (λ k. cost k n) (drop g (t .gates))
   pub same :
-      (o : ℕ) → n ≡ sharesOf o
-      → originAt (origins isw o t) wire
-      ≡ originAt (map originOf (masked isw n g start shares (drop g (t .gates)))) (wire - start)
+      (G : Gadget) (o : ℕ) → n ≡ sharesOf o
+      → originAt (origins G o t) wire
+      ≡ originAt (map originOf (masked G n g start shares (drop g (t .gates)))) (wire - start)
 
 pub seek-start :
     {s : List ℕ} {p : DP.Plan} {wire : ℕ} → PlanReady s p → p .shares * p .inputs ≤ wire → wire < p .wires
@@ -89,15 +90,15 @@ seek-start {s} {p} {wire} R h k =
     let n = p .shares in
     let m = tableOf s .inputs in
     let long = masked-wires isw (p .order) (tableOf s) in
-    let ws = map originOf (masked isw n 0 (n * m) (inputShares n m) (tableOf s .gates)) in
     let past : wire ≡ length (inputOrigins n m) + (wire - n * m) =
     omega (arith, input-origins-length n m, rw (R .inputs) at h) in
     rw (R .inputs)
     (record {
       shares = inputShares n m;
       past = rw (R .inputs) at h;
-      ahead = omega (arith, R .wires, rw (← R .shares) at long);
-      same = λ o e.
+      ahead = omega (arith, R .wires Isw, rw (← R .shares) at long);
+      same = λ G o e.
+          let ws = map originOf (masked G n 0 (n * m) (inputShares n m) (tableOf s .gates)) in
           rw (← e)
           (ap (λ (y : ℕ). getD (inputOrigins n m ++ ws) y (inputShare 0 0)) past
           ∙ getD-append-add (inputOrigins n m) ws (wire - n * m) (inputShare 0 0));
@@ -111,10 +112,10 @@ module _ {t : Table} {n wire g start : ℕ} (S : Seeking t n wire g start) where
       omega (arith, some)
 
   same-wires :
-      (o : ℕ) → n ≡ sharesOf o
-      → originAt (origins isw o t) wire
-      ≡ originAt (map originOf (masked isw n g start (S .shares) (gateOf t g ∷ drop (suc g) (t .gates)))) (wire - start)
-  same-wires o e = rw (drop-cons (t .gates) g noGate seek-some) at (S .same o e)
+      (G : Gadget) (o : ℕ) → n ≡ sharesOf o
+      → originAt (origins G o t) wire
+      ≡ originAt (map originOf (masked G n g start (S .shares) (gateOf t g ∷ drop (suc g) (t .gates)))) (wire - start)
+  same-wires G o e = rw (drop-cons (t .gates) g noGate seek-some) at (S .same G o e)
 
   -- gate g and its c new wires are passed
   pub seek-turn :
@@ -128,9 +129,9 @@ module _ {t : Table} {n wire g start : ℕ} (S : Seeking t n wire g start) where
         shares = S .shares ++ (newShares (x .kind) n start (getD (S .shares) (x .left) []) ∷ []);
         past = omega arith;
         ahead = omega (arith, S .ahead, total-next (λ k. cost k n) t g seek-some);
-        same = λ o en.
-            same-wires o en
-            ∙ masked-past isw n g start (S .shares) x (drop (suc g) (t .gates)) (wire - start)
+        same = λ G o en.
+            same-wires G o en
+            ∙ masked-past G n g start (S .shares) x (drop (suc g) (t .gates)) (wire - start)
             (wire - (start + cost (x .kind) n))
             (omega arith);
       })
@@ -138,8 +139,8 @@ module _ {t : Table} {n wire g start : ℕ} (S : Seeking t n wire g start) where
   -- the wire is one of gate g's c new wires
   pub seek-end :
       {b c o : ℕ} → n ≡ sharesOf o → kindOf b ≡ gateOf t g .kind → c ≡ cost (kindOf b) n → wire < start + c
-      → NewWireSays t o wire (record { gate = g; kind = b; place = wire - start })
-  seek-end {b} {c} {o} en k e h =
+      → (G : Gadget) → NewWireSays G t o wire (record { gate = g; kind = b; place = wire - start })
+  seek-end {b} {c} {o} en k e h G =
       let x = gateOf t g in
       let costs : c ≡ cost (x .kind) n = rw (← k) e in
       record {
@@ -150,6 +151,6 @@ module _ {t : Table} {n wire g start : ℕ} (S : Seeking t n wire g start) where
         below = rw (k, ← en) (omega (arith, S .past, costs));
         origin =
             rw (k, ← en)
-            (same-wires o en
-            ∙ masked-here isw n g start (S .shares) x (drop (suc g) (t .gates)) (wire - start) (omega (arith, S .past, costs)));
+            (same-wires G o en
+            ∙ masked-here G n g start (S .shares) x (drop (suc g) (t .gates)) (wire - start) (omega (arith, S .past, costs)));
       }

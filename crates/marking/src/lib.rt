@@ -5,7 +5,7 @@ ghost use Rattle.masks.specs.Shares.{tri};
 ghost use Rattle.masks.specs.Wires.{marks, cost, origins};
 ghost use Rattle.masks.specs.Says.{originAt, MarksSay};
 ghost use Rattle.sizing.specs.Plans.{PlanReady};
-ghost use Rattle.masks.specs.Gadgets.{gadgetOf};
+ghost use Rattle.masks.specs.Gadgets.{Gadget, gadgetOf};
 ghost use Rattle.marking.specs.Origins.{PairSays, Among, PartSays, CarriedSays, PartMarksSay, GateMarksSay, NewWireSays};
 
 // The share numbers that a wire carries, ascending, 0 for none.

@@ -10,13 +10,13 @@ use Rattle.marking.proofs.gate_marks.Tie as tie
 returns : tie.Need-returns
 returns c = not-marks _ _ _ (c .before .pre .1) (c .if1 .taken)
 
-add-t7 : tie.Need-add-t7
-add-t7 c =
+add-t8 : tie.Need-add-t8
+add-t8 c =
     let s = c .before .before in
     omega (arith, share-below (s .args .kind) (s .args .n) (s .args .d) (s .pre .1) (c .if2 .taken), s .pre .0)
 
-cast-t8 : tie.Need-cast-t8
-cast-t8 c =
+cast-t9 : tie.Need-cast-t9
+cast-t9 c =
     let s = c .before .before in
     omega (arith, share-below (s .args .kind) (s .args .n) (s .args .d) (s .pre .1) (c .if2 .taken), s .pre .0)
 
@@ -55,8 +55,8 @@ gate-marks-spec =
     tie.close
     (tie.spec
     returns
-    add-t7
-    cast-t8
+    add-t8
+    cast-t9
     returns-2
     and-part-requires
     part-marks-requires

@@ -3,6 +3,7 @@
 use Prim.Native.Nat.{_<_}
 use native.Mathlib.Nat.{mod-lt}
 use native.Mathlib.Omega.{arith}
+use Rattle.masks.specs.Gadgets.{gadgetOf}
 use Rattle.sizing.proofs.Planning.{plan-fits}
 use Rattle.marking.proofs.Carrying.{input-carried, new-below, new-carried}
 use Rattle.marking.proofs.marks_at.Statement.{statement}
@@ -11,44 +12,49 @@ use Rattle.marking.proofs.marks_at.Tie as tie
 mul-if1 : tie.Need-mul-if1
 mul-if1 c = record { fits = omega (arith, plan-fits (c .before .before .pre .0) .inputs, plan-fits (c .before .before .pre .0) .wires) }
 
-rem-t8 : tie.Need-rem-t8
-rem-t8 c = omega (arith, c .before .before .before .pre .0 .shares)
+rem-t9 : tie.Need-rem-t9
+rem-t9 c = omega (arith, c .before .before .before .pre .0 .shares)
 
-add-t9 : tie.Need-add-t9
-add-t9 c =
+add-t10 : tie.Need-add-t10
+add-t10 c =
     let R = c .before .before .before .pre .0 in
     let some : 0 < c .before .before .before .args .p .shares = omega (arith, R .shares) in
     let below = mod-lt (c .before .before .before .args .wire) some in
     record { fits = omega (arith, below, plan-fits R .shares) }
 
-cast-t10 : tie.Need-cast-t10
-cast-t10 c =
+cast-t11 : tie.Need-cast-t11
+cast-t11 c =
     let R = c .before .before .before .pre .0 in
     let some : 0 < c .before .before .before .args .p .shares = omega (arith, R .shares) in
     let below = mod-lt (c .before .before .before .args .wire) some in
     record { fits = omega (arith, below, plan-fits R .shares) }
 
 returns : tie.Need-returns
-returns c = input-carried (c .before .before .before .pre .0) (c .if1 .taken)
+returns c = let s = c .before .before .before in input-carried (gadgetOf (s .args .and)) (s .pre .0) (c .if1 .taken)
 
 find-gate-requires : tie.Need-find-gate-requires
 find-gate-requires c κs = (c .before .before .before .pre .0, c .if1 .left, c .before .before .before .pre .1)
 
 gate-marks-requires : tie.Need-gate-marks-requires
 gate-marks-requires c κs =
-    (plan-fits (c .before .before .before .before .pre .0) .shares, new-below (c .before .before .before .before .pre .0) (c .find-gate .ensures))
+    let s = c .before .before .before .before in
+    let G = gadgetOf (s .args .and) in
+    (plan-fits (s .pre .0) .shares, new-below G (s .pre .0) (c .find-gate .ensures G))
 
 returns-2 : tie.Need-returns-2
-returns-2 c = new-carried (c .before .before .before .before .before .pre .0) (c .before .find-gate .ensures) (c .gate-marks .ensures)
+returns-2 c =
+    let s = c .before .before .before .before .before in
+    let G = gadgetOf (s .args .and) in
+    new-carried G (s .pre .0) (c .before .find-gate .ensures G) (c .gate-marks .ensures)
 
 pub marks-at-spec : {M : Type 1} → statement M
 marks-at-spec =
     tie.close
     (tie.spec
     mul-if1
-    rem-t8
-    add-t9
-    cast-t10
+    rem-t9
+    add-t10
+    cast-t11
     returns
     find-gate-requires
     gate-marks-requires

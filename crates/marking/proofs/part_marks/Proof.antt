@@ -1,50 +1,67 @@
--- `marking::part_marks` meets its contract, case by case.
+-- `marking::part_marks` meets its contract: a wire of a pair by its place in the form, a row's by its row.
 -- Assumes nothing.
 use native.Mathlib.Omega.{arith}
 use borrow.Author.Needs.{needs}
-use Rattle.marking.proofs.Carrying.{pair-among, first-marks, middle-marks, last-marks, own-among, own-marks}
-use Rattle.marking.proofs.Carrying.{sum-among, sum-marks}
+use Rattle.marking.proofs.Carrying.{pair-among, low-marks, high-marks, cross-marks, own-among, own-marks, sum-among, sum-marks}
 use Rattle.marking.proofs.part_marks.Statement.{statement}
 use Rattle.marking.proofs.part_marks.Tie as tie
 
 enum-known-part : tie.Need-enum-known-part
 enum-known-part c = search needs
 
-add-t9 : tie.Need-add-t9
-add-t9 c = omega (arith, pair-among _ _ _ (c .before .before .part .given .1) (c .before .before .before .before .pre))
+pair-form-requires : tie.Need-pair-form-requires
+pair-form-requires c κs = tt
 
-returns : tie.Need-returns
-returns c = first-marks _ _ _ (c .before .before .part .given .1) (c .if1 .taken)
-
-add-t10 : tie.Need-add-t10
-add-t10 c =
-    let b = c .before .before .before in omega (arith, pair-among _ _ _ (b .part .given .1) (b .before .before .pre))
-
-add-t11 : tie.Need-add-t11
-add-t11 c =
-    let b = c .before .before .before in omega (arith, pair-among _ _ _ (b .part .given .1) (b .before .before .pre))
-
-returns-2 : tie.Need-returns-2
-returns-2 c = middle-marks _ _ _ (c .before .before .before .part .given .1) (c .before .if1 .left) (c .if2 .taken)
+cast-if1 : tie.Need-cast-if1
+cast-if1 c = search needs
 
 add-t12 : tie.Need-add-t12
-add-t12 c =
-    let b = c .before .before .before in omega (arith, pair-among _ _ _ (b .part .given .1) (b .before .before .pre))
+add-t12 c = omega (arith, pair-among _ _ _ (c .before .before .before .before .part .given .1) (c .before .before .before .before .before .before .pre))
+
+returns : tie.Need-returns
+returns c =
+    let form = c .before .before in
+    let read = form .before .before in
+    let small = pair-among _ _ _ (read .part .given .1) (read .before .before .pre) .0 in
+    low-marks (form .pair-form .ensures) _ _ _ (read .part .given .1) small (c .if1 .taken)
+
+cast-if2 : tie.Need-cast-if2
+cast-if2 c = search needs
+
+add-t13 : tie.Need-add-t13
+add-t13 c = omega (arith, pair-among _ _ _ (c .before .before .before .before .before .before .part .given .1) (c .before .before .before .before .before .before .before .before .pre))
+
+returns-2 : tie.Need-returns-2
+returns-2 c =
+    let form = c .before .before .before .before in
+    let read = form .before .before in
+    let small = pair-among _ _ _ (read .part .given .1) (read .before .before .pre) .0 in
+    high-marks (form .pair-form .ensures) _ _ _ (read .part .given .1) small (c .before .before .if1 .left) (c .if2 .taken)
+
+add-t14 : tie.Need-add-t14
+add-t14 c = omega (arith, pair-among _ _ _ (c .before .before .before .before .before .before .part .given .1) (c .before .before .before .before .before .before .before .before .pre))
+
+add-t15 : tie.Need-add-t15
+add-t15 c = omega (arith, pair-among _ _ _ (c .before .before .before .before .before .before .part .given .1) (c .before .before .before .before .before .before .before .before .pre))
 
 enum-known-part-2 : tie.Need-enum-known-part-2
 enum-known-part-2 c = search needs
 
-add-t13 : tie.Need-add-t13
-add-t13 c = omega (arith, own-among _ (c .before .part2 .given .1) (c .before .before .before .pre))
+add-t16 : tie.Need-add-t16
+add-t16 c = omega (arith, own-among _ (c .before .part2 .given .1) (c .before .before .before .pre))
 
 enum-known-part-3 : tie.Need-enum-known-part-3
 enum-known-part-3 c = search needs
 
-add-t14 : tie.Need-add-t14
-add-t14 c = omega (arith, sum-among _ _ (c .before .part3 .given .1) (c .before .before .before .pre))
+add-t17 : tie.Need-add-t17
+add-t17 c = omega (arith, sum-among _ _ (c .before .part3 .given .1) (c .before .before .before .pre))
 
 returns-3 : tie.Need-returns-3
-returns-3 c = last-marks _ _ _ (c .before .before .before .part .given .1) (c .if2 .left)
+returns-3 c =
+    let form = c .before .before .before .before in
+    let read = form .before .before in
+    let small = pair-among _ _ _ (read .part .given .1) (read .before .before .pre) .0 in
+    cross-marks (form .pair-form .ensures) _ _ _ (read .part .given .1) small (c .before .before .if1 .left) (c .if2 .left)
 
 returns-4 : tie.Need-returns-4
 returns-4 c = own-marks _ (c .before .part2 .given .1)
@@ -57,16 +74,19 @@ part-marks-spec =
     tie.close
     (tie.spec
     enum-known-part
-    add-t9
-    returns
-    add-t10
-    add-t11
-    returns-2
+    pair-form-requires
+    cast-if1
     add-t12
-    enum-known-part-2
+    returns
+    cast-if2
     add-t13
-    enum-known-part-3
+    returns-2
     add-t14
+    add-t15
+    enum-known-part-2
+    add-t16
+    enum-known-part-3
+    add-t17
     returns-3
     returns-4
     returns-5)

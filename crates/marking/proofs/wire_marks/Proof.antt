@@ -1,5 +1,6 @@
 -- `marking::wire_marks` meets its contract: the plan's refusal, 13, or the share numbers.
 -- Assumes nothing.
+use Rattle.masks.specs.Gadgets.{gadgetOf}
 use Rattle.sizing.proofs.Planning.{planned-as, planned-ready}
 use Rattle.marking.proofs.Carrying.{marks-refused, marks-outside, marks-inside}
 use borrow.Author.Needs.{needs}
@@ -16,24 +17,24 @@ enum-known-p : tie.Need-enum-known-p
 enum-known-p c = search needs
 
 returns : tie.Need-returns
-returns c = marks-outside
-    (planned-ready (planned-as (c .before .before .before .before .before .plan-table .ensures) (c .before .before .before .p .given .1))) _
+returns c = marks-outside (c .before .before .before .before .before .before .before .args .and)
+    (planned-ready (planned-as (c .before .before .before .before .before .plan-table .ensures (c .before .before .before .before .before .before .before .args .and)) (c .before .before .before .p .given .1))) _
     (c .if1 .taken)
 
 marks-at-requires : tie.Need-marks-at-requires
 marks-at-requires c κs = (
-  planned-ready (planned-as (c .before .before .before .before .before .plan-table .ensures)
+  planned-ready (planned-as (c .before .before .before .before .before .plan-table .ensures (c .before .before .before .before .before .before .before .args .and))
       (c .before .before .before .p .given .1)) .ready,
   c .if1 .left,
 )
 
 returns-2 : tie.Need-returns-2
-returns-2 c = marks-refused _ (planned-as (c .before .before .before .plan-table .ensures) (c .before .r .given .1))
+returns-2 c = marks-refused (gadgetOf (c .before .before .before .before .before .args .and)) _ (planned-as (c .before .before .before .plan-table .ensures (c .before .before .before .before .before .args .and)) (c .before .r .given .1))
 
 returns-3 : tie.Need-returns-3
 returns-3 c =
-    marks-inside (planned-ready
-    (planned-as (c .before .before .before .before .before .before .plan-table .ensures)
+    marks-inside (c .before .before .before .before .before .before .before .before .args .and) (planned-ready
+    (planned-as (c .before .before .before .before .before .before .plan-table .ensures (c .before .before .before .before .before .before .before .before .args .and))
     (c .before .before .before .before .p .given .1))) _ (c .before .if1 .left) (c .marks-at .ensures)
 
 pub wire-marks-spec : {M : Type 1} → statement M
