@@ -6,6 +6,7 @@ use Prim.Native.Nat.{ℕ}
 use Rattle.tables.specs.declared.Refusal as DR
 use Rattle.tables.proofs.Answers.{refused-fails}
 use Rattle.masks.specs.declared.Sizes as DS
+use Rattle.masks.specs.declared.And.the-variants.{Isw}
 use Rattle.masks.specs.Gadgets.{isw}
 use Rattle.masks.specs.Says.{plainFault, ForecastSays}
 use Rattle.sizing.specs.declared.Plan as DP
@@ -25,9 +26,9 @@ forecast-ready {s} {o} {p} P F =
       number = F .number;
       place = F .place;
       shares = F .shares ∙ R .shares;
-      wires = F .wires ∙ R .wires;
-      tape = F .tape ∙ R .tape;
-      bytes = F .bytes ∙ sym (plan-bytes R);
+      wires = F .wires ∙ R .wires Isw;
+      tape = F .tape ∙ R .tape Isw;
+      bytes = F .bytes ∙ sym (plan-bytes R Isw);
     })
 
 pub forecast-refused :

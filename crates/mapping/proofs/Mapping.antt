@@ -15,9 +15,10 @@ use Rattle.tables.specs.Packing.{bytesFor, tapeOf, spare}
 use Rattle.tables.proofs.Tests.{and-true}
 use Rattle.tables.proofs.Answers.{refused-fails, answered-refused, answered-none}
 use Rattle.masks.specs.Shares.{sharesOf}
-use Rattle.masks.specs.Gadgets.{isw}
+use Rattle.masks.specs.declared.And as DAnd
+use Rattle.masks.specs.Gadgets.{gadgetOf}
 use Rattle.masks.specs.Wires.{marks, origins, maskedTable, tapeLong}
-use Rattle.masks.proofs.Lawful.{isw-lawful}
+use Rattle.masks.proofs.Lawful.{lawful}
 use Rattle.sizing.specs.declared.Plan as DP
 use Rattle.sizing.specs.declared.Planned as DN
 use Rattle.sizing.specs.declared.Planned.the-variants as Planned
@@ -34,12 +35,12 @@ use Rattle.rerunning.specs.Working.{WorkReady, WorkSays}
 
 -- a call that is refused; a, b and c are the lengths lent
 pub map-refused :
-    (s : List ℕ) (o : ℕ) (xs ys ts ps : List ℕ) (a b c : ℕ) {x y z : List ℕ} {r : DN.Planned} {f : DR.Refusal} {q : DA.Answer}
-    → PlanSays (mapFault isw s o xs ys ts ps a b c) s o r → r ≡ Planned.Refused f
+    (A : DAnd.And) (s : List ℕ) (o : ℕ) (xs ys ts ps : List ℕ) (a b c : ℕ) {x y z : List ℕ} {r : DN.Planned} {f : DR.Refusal} {q : DA.Answer}
+    → PlanSays (mapFault (gadgetOf A) s o xs ys ts ps a b c) s o r → r ≡ Planned.Refused f
     → q ≡ record { number = f .number; place = f .place; value = 0 }
-    → MapDone (mapFault isw s o xs ys ts ps a b c) isw (marks isw) (tableOf s) o xs ys (tapeOf (tapeLong isw o (tableOf s)) ts) ps
+    → MapDone (mapFault (gadgetOf A) s o xs ys ts ps a b c) (gadgetOf A) (marks (gadgetOf A)) (tableOf s) o xs ys (tapeOf (tapeLong (gadgetOf A) o (tableOf s)) ts) ps
     x x y y z z q
-map-refused s o xs ys ts ps a b c P is e =
+map-refused A s o xs ys ts ps a b c P is e =
     let R = planned-refused (planned-as P is) in
     let fails = refused-fails (R .0) (R .1) in
     rw e
@@ -51,37 +52,37 @@ map-refused s o xs ys ts ps a b c P is e =
     })
 
 -- a call that is not refused
-module _ (s : List ℕ) (o : ℕ) (xs ys ts ps : List ℕ) (a b c : ℕ) {r : DN.Planned} {p : DP.Plan}
-    (P : PlanSays (mapFault isw s o xs ys ts ps a b c) s o r) (is : r ≡ Planned.Ready p) where
-  plan : Planned-Ready (mapFault isw s o xs ys ts ps a b c) s o p
+module _ (A : DAnd.And) (s : List ℕ) (o : ℕ) (xs ys ts ps : List ℕ) (a b c : ℕ) {r : DN.Planned} {p : DP.Plan}
+    (P : PlanSays (mapFault (gadgetOf A) s o xs ys ts ps a b c) s o r) (is : r ≡ Planned.Ready p) where
+  plan : Planned-Ready (mapFault (gadgetOf A) s o xs ys ts ps a b c) s o p
   plan = planned-ready (planned-as P is)
 
-  good : MapGood isw s o xs ys ts ps a b c
-  good = map-good isw s o xs ys ts ps a b c (rw (plan .none))
+  good : MapGood (gadgetOf A) s o xs ys ts ps a b c
+  good = map-good (gadgetOf A) s o xs ys ts ps a b c (rw (plan .none))
 
   -- the plan's sizes at the order of the call
-  wires-are : p .wires ≡ wires (maskedTable isw o (tableOf s))
-  wires-are = plan .ready .wires ∙ ap (λ (y : ℕ). wires (maskedTable isw y (tableOf s))) (plan .order)
+  wires-are : p .wires ≡ wires (maskedTable (gadgetOf A) o (tableOf s))
+  wires-are = plan .ready .wires A ∙ ap (λ (y : ℕ). wires (maskedTable (gadgetOf A) y (tableOf s))) (plan .order)
 
-  tape-are : p .tape ≡ tapeLong isw o (tableOf s)
-  tape-are = plan .ready .tape ∙ ap (λ (y : ℕ). tapeLong isw y (tableOf s)) (plan .order)
+  tape-are : p .tape ≡ tapeLong (gadgetOf A) o (tableOf s)
+  tape-are = plan .ready .tape A ∙ ap (λ (y : ℕ). tapeLong (gadgetOf A) y (tableOf s)) (plan .order)
 
-  probes : (leb (length ps) o ≡ true) × (allBelow (wires (maskedTable isw o (tableOf s))) ps ≡ true)
+  probes : (leb (length ps) o ≡ true) × (allBelow (wires (maskedTable (gadgetOf A) o (tableOf s))) ps ≡ true)
   probes = and-true (leb (length ps) o) _ (good .probes)
 
   pub free-ready : PlanReady s p × (allBelow (p .wires) ps ≡ true)
   free-ready = (plan .ready, rw wires-are (probes .1))
 
   free :
-      Free (sharesOf o) (carried (marks isw) (origins isw o (tableOf s)) ps) (freeShare isw (marks isw) o (tableOf s) ps)
+      Free (sharesOf o) (carried (marks (gadgetOf A)) (origins (gadgetOf A) o (tableOf s)) ps) (freeShare (gadgetOf A) (marks (gadgetOf A)) o (tableOf s) ps)
   unfolding freeShare
   free =
       free-laws (sharesOf o) _
-      (few-carried (marks isw) (marks-two isw-lawful) (origins isw o (tableOf s)) o ps (leb-true (length ps) o (probes .0)))
+      (few-carried (marks (gadgetOf A)) (marks-two (lawful A)) (origins (gadgetOf A) o (tableOf s)) o ps (leb-true (length ps) o (probes .0)))
 
-  module _ {k : ℕ} (e : k ≡ freeShare isw (marks isw) (p .order) (tableOf s) ps) where
-    free-is : k ≡ freeShare isw (marks isw) o (tableOf s) ps
-    free-is = e ∙ ap (λ (y : ℕ). freeShare isw (marks isw) y (tableOf s) ps) (plan .order)
+  module _ {k : ℕ} (e : k ≡ freeShare (gadgetOf A) (marks (gadgetOf A)) (p .order) (tableOf s) ps) where
+    free-is : k ≡ freeShare (gadgetOf A) (marks (gadgetOf A)) o (tableOf s) ps
+    free-is = e ∙ ap (λ (y : ℕ). freeShare (gadgetOf A) (marks (gadgetOf A)) y (tableOf s) ps) (plan .order)
 
     free-few : k ≤ p .shares
     free-few = omega (arith, free-is, free .to-n, plan .ready .shares, plan .order)
@@ -109,9 +110,9 @@ module _ (s : List ℕ) (o : ℕ) (xs ys ts ps : List ℕ) (a b c : ℕ) {r : DN
         }
 
     pub map-done :
-        {x x′ y y′ z z′ : List ℕ} → WorkSays s (p .order) k xs ys ts x x′ y y′ z z′
-        → MapDone (mapFault isw s o xs ys ts ps a b c) isw (marks isw) (tableOf s) o xs ys
-        (tapeOf (tapeLong isw o (tableOf s)) ts) ps x x′ y y′ z z′
+        {x x′ y y′ z z′ : List ℕ} → WorkSays (gadgetOf A) s (p .order) k xs ys ts x x′ y y′ z z′
+        → MapDone (mapFault (gadgetOf A) s o xs ys ts ps a b c) (gadgetOf A) (marks (gadgetOf A)) (tableOf s) o xs ys
+        (tapeOf (tapeLong (gadgetOf A) o (tableOf s)) ts) ps x x′ y y′ z z′
         (record { number = 0; place = 0; value = k })
     map-done W =
         let U = rw (plan .order, free-is) at W in

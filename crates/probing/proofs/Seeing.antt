@@ -11,16 +11,15 @@ use lib.Seq.{getD-set-same, getD-set-other, drop-cons}
 use borrow.Author.Tests.{eqb-true, eqb-false}
 use Rattle.tables.specs.Tables.{tableOf}
 use Rattle.tables.proofs.Lists.{all-getD}
-use Rattle.masks.specs.Gadgets.{isIn, isw}
+use Rattle.masks.specs.Gadgets.{isIn, Gadget}
 use Rattle.masks.specs.Wires.{Origin, marks, origins}
 use Rattle.masks.specs.Says.{originAt}
 use Rattle.sizing.specs.declared.Plan as DP
 use Rattle.sizing.specs.Plans.{PlanReady}
-use Rattle.masks.proofs.Lawful.{isw-lawful}
 use Rattle.maps.specs.Maps.{ofEach, carried, freeFrom, freeShare}
 use Rattle.maps.specs.Claims.{allBelow}
 use Rattle.maps.proofs.Bits.{all-below}
-use Rattle.maps.proofs.Free.{free-past, free-here, isIn-join, marks-two}
+use Rattle.maps.proofs.Free.{free-past, free-here, isIn-join}
 use Rattle.probing.specs.Seeing.{Seen, MarkReady}
 
 -- what a byte of the numbers seen says
@@ -105,40 +104,40 @@ mark-both seen (a ∷ b ∷ []) i few h l =
 mark-both seen (a ∷ b ∷ c ∷ ms) i few h l = absurd (omega arith)
 
 -- before probe j: the numbers of the probes from j on are left to mark
-pub record Marking (os : List Origin) (ps seen : List ℕ) (j : ℕ) : Type 0 where
+pub record Marking (mk : Origin → List ℕ) (os : List Origin) (ps seen : List ℕ) (j : ℕ) : Type 0 where
   pub within : j ≤ length ps
   pub long : length seen ≡ 256
   pub rest :
       (i : ℕ) → 1 ≤ i → i < 256
-      → cond (isIn i (carried (marks isw) os (drop j ps))) 1 (getD seen i 0)
-      ≡ cond (isIn i (carried (marks isw) os ps)) 1 0
+      → cond (isIn i (carried mk os (drop j ps))) 1 (getD seen i 0)
+      ≡ cond (isIn i (carried mk os ps)) 1 0
 
 pub marking-start :
-    (os : List Origin) (ps seen : List ℕ) → length seen ≡ 256 → ((i : ℕ) → i < 256 → getD seen i 0 ≡ 0)
-    → Marking os ps seen 0
-marking-start os ps seen l z =
+    (mk : Origin → List ℕ) (os : List Origin) (ps seen : List ℕ) → length seen ≡ 256 → ((i : ℕ) → i < 256 → getD seen i 0 ≡ 0)
+    → Marking mk os ps seen 0
+marking-start mk os ps seen l z =
     record { within = omega arith; long = l; rest = λ i h k. rw (z i k) }
 
-module _ {os : List Origin} {ps seen : List ℕ} {j : ℕ} (M : Marking os ps seen j) where
+module _ {mk : Origin → List ℕ} {os : List Origin} {ps seen : List ℕ} {j : ℕ} (M : Marking mk os ps seen j) where
   pub marking-turn :
-      {f s : ℕ} → j < length ps → f ≡ getD (marks isw (originAt os (getD ps j 0))) 0 0
-      → s ≡ getD (marks isw (originAt os (getD ps j 0))) 1 0 → Marking os ps (set (set seen f 1) s 1) (suc j)
+      {f s : ℕ} → ((o : Origin) → length (mk o) ≤ 2) → j < length ps → f ≡ getD (mk (originAt os (getD ps j 0))) 0 0
+      → s ≡ getD (mk (originAt os (getD ps j 0))) 1 0 → Marking mk os ps (set (set seen f 1) s 1) (suc j)
   unfolding ofEach
-  marking-turn {f} {s} h ef es =
-      let ms = marks isw (originAt os (getD ps j 0)) in
-      let rest = carried (marks isw) os (drop (suc j) ps) in
-      let next : carried (marks isw) os (drop j ps) ≡ ms ++ rest = rw (drop-cons ps j 0 h) in
+  marking-turn {f} {s} two h ef es =
+      let ms = mk (originAt os (getD ps j 0)) in
+      let rest = carried mk os (drop (suc j) ps) in
+      let next : carried mk os (drop j ps) ≡ ms ++ rest = rw (drop-cons ps j 0 h) in
       record {
         within = omega arith;
         long = simp length-set (M .long);
         rest = λ i l k.
-            let all : ℕ = cond (isIn i (carried (marks isw) os ps)) 1 0 in
+            let all : ℕ = cond (isIn i (carried mk os ps)) 1 0 in
             let before : cond (isIn i (ms ++ rest)) 1 (getD seen i 0) ≡ all = rw next at (M .rest i l k) in
-            let both = mark-both seen ms i (marks-two isw-lawful (originAt os (getD ps j 0))) l (omega (arith, M .long)) in
+            let both = mark-both seen ms i (two (originAt os (getD ps j 0))) l (omega (arith, M .long)) in
             rw (ef, es, both, ← cond-or (isIn i ms) (isIn i rest) (getD seen i 0), ← isIn-join i ms rest) before;
       }
 
-  pub marking-end : length ps ≤ j → Seen (carried (marks isw) os ps) seen
+  pub marking-end : length ps ≤ j → Seen (carried mk os ps) seen
   unfolding ofEach
   marking-end h =
       record {
@@ -159,9 +158,9 @@ mark-ready ps w h =
 
 -- what is found in the numbers that the probes carry is the free share
 pub free-share-is :
-    {s : List ℕ} {p : DP.Plan} (ps : List ℕ) {seen : List ℕ} {r : ℕ} → PlanReady s p
-    → Seen (carried (marks isw) (origins isw (p .order) (tableOf s)) ps) seen
+    (G : Gadget) {s : List ℕ} {p : DP.Plan} (ps : List ℕ) {seen : List ℕ} {r : ℕ} → PlanReady s p
+    → Seen (carried (marks G) (origins G (p .order) (tableOf s)) ps) seen
     → ((cs : List ℕ) → Seen cs seen → r ≡ freeFrom (p .shares) 1 cs)
-    → r ≡ freeShare isw (marks isw) (p .order) (tableOf s) ps
+    → r ≡ freeShare G (marks G) (p .order) (tableOf s) ps
 unfolding freeShare
-free-share-is ps R S f = rw (R .shares) at (f _ S)
+free-share-is G ps R S f = rw (R .shares) at (f _ S)

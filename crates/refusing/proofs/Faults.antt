@@ -15,7 +15,8 @@ use Rattle.tables.specs.Says.{Refused}
 use Rattle.tables.proofs.Tests.{first-passed, first-refused}
 use Rattle.tables.proofs.Answers.{refused-same, refused-passed, refused-fails}
 use Rattle.masks.specs.Shares.{sharesOf}
-use Rattle.masks.specs.Gadgets.{isw}
+use Rattle.masks.specs.declared.And as DAnd
+use Rattle.masks.specs.Gadgets.{gadgetOf}
 use Rattle.masks.specs.Wires.{maskedTable, tapeLong}
 use Rattle.masks.specs.Says.{plainFault}
 use Rattle.sizing.specs.declared.Plan as DP
@@ -111,9 +112,9 @@ plan-small {s} {p} R =
     (omega (arith, fits .inputs, fits .wires), omega (arith, fits .tape, fits .wires))
 
 -- the whole chain, by the plan
-module _ (s : List ℕ) (o : ℕ) (xs ys ts ps : List ℕ) (a b c : ℕ) where
+module _ (A : DAnd.And) (s : List ℕ) (o : ℕ) (xs ys ts ps : List ℕ) (a b c : ℕ) where
   abbrev all : Fault
-  all = mapFault isw s o xs ys ts ps a b c
+  all = mapFault (gadgetOf A) s o xs ys ts ps a b c
 
   abbrev rest : ℕ → ℕ → ℕ → Fault
   rest i l w = callFault o i l w xs ys ts ps a b c
@@ -121,30 +122,30 @@ module _ (s : List ℕ) (o : ℕ) (xs ys ts ps : List ℕ) (a b c : ℕ) where
   chain :
       all
       ≡ orElse
-      (plainFault isw s o)
-      (rest (tableOf s .inputs) (tapeLong isw o (tableOf s)) (wires (maskedTable isw o (tableOf s))))
+      (plainFault (gadgetOf A) s o)
+      (rest (tableOf s .inputs) (tapeLong (gadgetOf A) o (tableOf s)) (wires (maskedTable (gadgetOf A) o (tableOf s))))
   unfolding mapFault
   chain = refl
 
   pub map-plan-refused :
-      {r : DR.Refusal} → PlanSays (plainFault isw s o) s o (Planned.Refused r) → PlanSays all s o (Planned.Refused r)
+      {r : DR.Refusal} → PlanSays (plainFault (gadgetOf A) s o) s o (Planned.Refused r) → PlanSays all s o (Planned.Refused r)
   map-plan-refused P =
       let R = planned-refused P in
-      let e : all ≡ plainFault isw s o = chain ∙ first-refused (plainFault isw s o) _ (refused-fails (R .0) (R .1)) in
+      let e : all ≡ plainFault (gadgetOf A) s o = chain ∙ first-refused (plainFault (gadgetOf A) s o) _ (refused-fails (R .0) (R .1)) in
       rw e P
 
-  module _ {p : DP.Plan} (P : PlanSays (plainFault isw s o) s o (Planned.Ready p)) {r : DR.Refusal}
+  module _ {p : DP.Plan} (P : PlanSays (plainFault (gadgetOf A) s o) s o (Planned.Ready p)) {r : DR.Refusal}
       (R : Refused (callFault o (p .inputs) (p .tape) (p .wires) xs ys ts ps a b c) r) where
     all-refused : Refused all r
     all-refused =
         let Q = planned-ready P in
         let M = Q .ready in
         let same : rest (p .inputs) (p .tape) (p .wires)
-        ≡ rest (tableOf s .inputs) (tapeLong isw o (tableOf s)) (wires (maskedTable isw o (tableOf s))) =
-        ap₂ (λ (i l : ℕ). rest i l (p .wires)) (M .inputs) (M .tape)
-        ∙ ap₂ (λ (q q′ : ℕ). rest (tableOf s .inputs) (tapeLong isw q (tableOf s)) q′) (Q .order) (M .wires)
-        ∙ ap (λ (q : ℕ). rest (tableOf s .inputs) (tapeLong isw o (tableOf s)) (wires (maskedTable isw q (tableOf s)))) (Q .order) in
-        refused-same chain (refused-same (first-passed (plainFault isw s o) _ (rw (Q .none))) (rw same at R))
+        ≡ rest (tableOf s .inputs) (tapeLong (gadgetOf A) o (tableOf s)) (wires (maskedTable (gadgetOf A) o (tableOf s))) =
+        ap₂ (λ (i l : ℕ). rest i l (p .wires)) (M .inputs) (M .tape A)
+        ∙ ap₂ (λ (q q′ : ℕ). rest (tableOf s .inputs) (tapeLong (gadgetOf A) q (tableOf s)) q′) (Q .order) (M .wires A)
+        ∙ ap (λ (q : ℕ). rest (tableOf s .inputs) (tapeLong (gadgetOf A) o (tableOf s)) (wires (maskedTable (gadgetOf A) q (tableOf s)))) (Q .order) in
+        refused-same chain (refused-same (first-passed (plainFault (gadgetOf A) s o) _ (rw (Q .none))) (rw same at R))
 
     pub map-call-refused : (r .number ≡ 0 → ⊥) → PlanSays all s o (Planned.Refused r)
     map-call-refused = refuses all-refused
@@ -152,5 +153,5 @@ module _ (s : List ℕ) (o : ℕ) (xs ys ts ps : List ℕ) (a b c : ℕ) where
     pub map-call-ready : r .number ≡ 0 → PlanSays all s o (Planned.Ready p)
     map-call-ready k =
         let Q = planned-ready P in
-        let none : all ≡ none = map-good isw s o xs ys ts ps a b c (refused-passed all-refused k) .none in
+        let none : all ≡ none = map-good (gadgetOf A) s o xs ys ts ps a b c (refused-passed all-refused k) .none in
         record { fault = sym none; order = Q .order ∙ rw none; sizes = λ _. Q .ready }

@@ -1,5 +1,6 @@
 -- `forecasting::forecast_sizes` meets its contract: the plan's refusal, or its figures.
 -- Assumes nothing.
+use Rattle.masks.specs.declared.And.the-variants.{Isw}
 use Rattle.sizing.proofs.Planning.{planned-as, planned-ready, plan-fits}
 use Rattle.forecasting.proofs.Forecast.{forecast-refused, forecast-ready}
 use borrow.Author.Needs.{needs}
@@ -13,19 +14,19 @@ enum-known-planned : tie.Need-enum-known-planned
 enum-known-planned c = search needs
 
 returns : tie.Need-returns
-returns c = forecast-refused (planned-as (c .before .before .before .plan-table .ensures) (c .before .planned .given .1))
+returns c = forecast-refused (planned-as (c .before .before .before .plan-table .ensures Isw) (c .before .planned .given .1))
 
 enum-known-planned-2 : tie.Need-enum-known-planned-2
 enum-known-planned-2 c = search needs
 
 plan-figures-requires : tie.Need-plan-figures-requires
 plan-figures-requires c κs = plan-fits
-    (planned-ready (planned-as (c .before .before .before .plan-table .ensures) (c .before .planned2 .given .1)) .ready)
+    (planned-ready (planned-as (c .before .before .before .plan-table .ensures Isw) (c .before .planned2 .given .1)) .ready)
 
 returns-2 : tie.Need-returns-2
 returns-2 c =
     forecast-ready (planned-ready
-    (planned-as (c .before .before .before .before .plan-table .ensures) (c .before .before .planned2 .given .1))) (c .plan-figures .ensures)
+    (planned-as (c .before .before .before .before .plan-table .ensures Isw) (c .before .before .planned2 .given .1))) (c .plan-figures .ensures)
 
 pub forecast-sizes-spec : {M : Type 1} → statement M
 forecast-sizes-spec =

@@ -1,5 +1,6 @@
 -- `probing::free_share` meets its contract: the smallest number that is not among those that the probes carry.
 -- Assumes nothing.
+use Rattle.masks.specs.Gadgets.{gadgetOf}
 use Rattle.sizing.proofs.Planning.{plan-fits}
 use Rattle.probing.proofs.Seeing.{mark-ready, free-share-is}
 use Rattle.probing.proofs.free_share.Statement.{statement}
@@ -13,7 +14,8 @@ free-of-requires c κs = plan-fits (c .before .before .before .before .before .p
 
 returns : tie.Need-returns
 returns c =
-    free-share-is _ (c .before .before .before .before .before .before .pre .0) (c .before .before .mark-probes .ensures)
+    let s = c .before .before .before .before .before .before in
+    free-share-is (gadgetOf (s .args .and)) _ (s .pre .0) (c .before .before .mark-probes .ensures)
     (c .free-of .ensures)
 
 pub free-share-spec : {M : Type 1} → statement M

@@ -5,24 +5,26 @@ use native.Mathlib.Numerals.{add-one}
 use native.Mathlib.Omega.{arith}
 use lib.ListN.{length}
 use Rattle.tables.specs.Tables.{tableOf}
-use Rattle.masks.specs.Gadgets.{isw}
-use Rattle.masks.specs.Wires.{origins}
+use Rattle.masks.specs.Gadgets.{gadgetOf}
+use Rattle.masks.specs.Wires.{marks, origins}
+use Rattle.masks.proofs.Lawful.{lawful}
+use Rattle.maps.proofs.Free.{marks-two}
 use Rattle.probing.proofs.Seeing.{probe-below, Marking, marking-start, marking-turn, marking-end}
 use borrow.Author.Needs.{needs}
 use Rattle.probing.proofs.mark_probes.Statement.{statement}
 use Rattle.probing.proofs.mark_probes.Tie as tie
 
 abbrev Inv-loop : tie.InvT-loop
-Inv-loop table p probes seen₀ j₀ seen j =
-    Marking (origins isw (p .order) (tableOf table)) probes seen j
+Inv-loop and table p probes seen₀ j₀ seen j =
+    Marking (marks (gadgetOf and)) (origins (gadgetOf and) (p .order) (tableOf table)) probes seen j
 
 abbrev μ-loop : tie.MeasureT-loop
-μ-loop table p probes seen₀ j₀ seen j = length probes - j
+μ-loop and table p probes seen₀ j₀ seen j = length probes - j
 
 loop-holds : tie.Need-loop-holds Inv-loop μ-loop
 loop-holds c =
     let ready = c .before .before .pre .1 in
-    marking-start _ _ _ (ready .long) (ready .none)
+    marking-start _ _ _ _ (ready .long) (ready .none)
 
 mul-marks-at : tie.Need-mul-marks-at Inv-loop μ-loop
 mul-marks-at c = search needs
@@ -59,6 +61,7 @@ loop-less c = search needs
 loop-again : tie.Need-loop-again Inv-loop μ-loop
 loop-again c =
     rw add-one (marking-turn (c .before .before .before .before .before .loop .inv)
+    (marks-two (lawful (c .before .before .before .before .before .before .before .before .args .and)))
     (c .before .before .before .before .loop-test .taken) (c .before .before .marks-at .ensures .first)
     (c .before .before .marks-at .ensures .second))
 
