@@ -22,7 +22,8 @@ use Rattle.pairing.proofs.map_pairs.Tie as tie
 
 abbrev Inv-loop : tie.InvT-loop
 Inv-loop and k n w a b tape at mapped₀ one₀ other₀ v₀ next₀ i₀ mapped one other v next i =
-    PairsGoing (gadgetOf and) k (shareWires n a) (shareWires n b) (pairs n) (unpacked tape) at w (unpacked mapped₀) one₀ other₀ (pairsFrom (n - i) i) next v (unpacked mapped) one other
+    PairsGoing (gadgetOf and) k (shareWires n a) (shareWires n b) (pairs n) (unpacked tape) at w (unpacked mapped₀) one₀ other₀
+    (pairsFrom (n - i) i) next v (unpacked mapped) one other
     × (i ≤ n)
     × (w ≤ v)
     × (v + 5 * tri (n - i) ≡ w + 5 * tri n)
@@ -35,7 +36,8 @@ loop-holds c =
     let s = c .before .before .before .before in
     let n = s .args .n in
     let start = going-start (gadgetOf (s .args .and)) (s .args .k) (shareWires n (s .args .a)) (shareWires n (s .args .b)) (pairs n)
-    {ts = unpacked (s .args .tape .now)} {at = s .args .at} {w = s .args .w} {m = unpacked (s .args .mapped .now)} {x = s .args .one .now} {y = s .args .other .now}
+    {ts = unpacked (s .args .tape .now)} {at = s .args .at} {w = s .args .w} {m = unpacked (s .args .mapped .now)} {x = s .args .one .now}
+    {y = s .args .other .now}
     (rw (pairs-length n 0) (s .pre .2)) in
     rw sub-zero (start, omega arith, omega arith, refl)
 

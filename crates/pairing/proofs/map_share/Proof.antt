@@ -54,7 +54,8 @@ loop-holds c =
     let i = s .args .i in
     let long = up-length (n - suc i) (suc i) (λ j. pairOf i j) in
     let start = going-start (gadgetOf (s .args .and)) (s .args .k) (shareWires n (s .args .a)) (shareWires n (s .args .b)) (sharePairs n i)
-    {ts = unpacked (s .args .tape .now)} {at = s .args .at} {w = s .args .w} {m = unpacked (s .args .mapped .now)} {x = s .args .one .now} {y = s .args .other .now}
+    {ts = unpacked (s .args .tape .now)} {at = s .args .at} {w = s .args .w} {m = unpacked (s .args .mapped .now)} {x = s .args .one .now}
+    {y = s .args .other .now}
     (rw long (s .pre .2)) in
     (rw (add-zero, add-zero, add-zero, sub-zero) start, omega arith, omega arith)
 
@@ -131,7 +132,8 @@ loop-again c =
     let A = shareWires n (s .args .a) in
     let B = shareWires n (s .args .b) in
     let inv = head .loop .inv in
-    let pair = one-pair (gadgetOf (s .args .and)) (s .args .k) i j (s .args .w + 5 * k) A B (unpacked (s .args .tape .now)) (s .args .at + k) {p = i + 1} {q = j + 1}
+    let pair = one-pair (gadgetOf (s .args .and)) (s .args .k) i j (s .args .w + 5 * k) A B (unpacked (s .args .tape .now)) (s .args .at + k)
+    {p = i + 1} {q = j + 1}
     (head .before .before .share-wire .ensures .1 n h)
     (c .before .before .before .before .before .before .before .before .before .before .later-wire2 .ensures .1 n (below test))
     (c .before .before .before .before .before .before .before .before .before .before .before .later-wire .ensures .1 n (below test))
