@@ -1,2 +1,3 @@
--- Laws of a pair's five wires.
+-- Laws of a pair's five wires, and of what it flips.
 mod Five
+mod Flipped

@@ -12,7 +12,7 @@ use Rattle.tables.proofs.Lists.{bits-nil}
 use Rattle.tables.proofs.Run.{total-append}
 use Rattle.tables.proofs.Ran.{Ran, ran-start, ran-more, runs-less}
 use Rattle.masks.specs.Shares.{pairAt}
-use Rattle.masks.specs.Gadgets.{isw, Gadget}
+use Rattle.masks.specs.Gadgets.{first, Gadget}
 use Rattle.masks.specs.Wires.{share, pairWire}
 use Rattle.pieces.specs.Layout.{joined, sumGates, highGates, lowGates, rowGates}
 use Rattle.pieces.proofs.Bytes.{joined-long}
@@ -34,7 +34,7 @@ row-none G n w v a b i =
       sums-none (v + i) (n - suc i) 0 low,
     )
 
-module _ (w l r : ℕ) {n v i : ℕ} {b₀ : List ℕ} (R : RunsTo v n b₀) (h : i < n) where
+module _ (G : Gadget) (w l r : ℕ) {n v i : ℕ} {b₀ : List ℕ} (R : RunsTo v n b₀) (h : i < n) where
   module _ {b₁ : List ℕ} (e₁ : b₁ ≡ ranOn (gate AND l r ∷ []) [] v b₀) where
     ran-own : Ran (gate AND l r ∷ []) [] v b₀ (v + 1) (n - 1) b₁
     unfolding total
@@ -43,12 +43,12 @@ module _ (w l r : ℕ) {n v i : ℕ} {b₀ : List ℕ} (R : RunsTo v n b₀) (h 
     pub high-ready : RunsTo (v + 1) i b₁
     high-ready = runs-less i (ran-own .ready) (omega arith)
 
-    module _ {b₂ : List ℕ} (e₂ : b₂ ≡ ranOn (highGates isw n w v i) [] (v + 1) b₁) where
-      ran-high : Ran ((gate AND l r ∷ []) ++ highGates isw n w v i) [] v b₀ (v + i + 1) (n - 1 - i) b₂
+    module _ {b₂ : List ℕ} (e₂ : b₂ ≡ ranOn (highGates G n w v i) [] (v + 1) b₁) where
+      ran-high : Ran ((gate AND l r ∷ []) ++ highGates G n w v i) [] v b₀ (v + i + 1) (n - 1 - i) b₂
       ran-high =
-          let long = high-long isw n w v i in
-          ran-more ran-own (highGates isw n w v i) [] (n - 1 - i)
-          (sym (sums-none v i 0 (λ j. pairWire w (isw .high) (pairAt n j i))))
+          let long = high-long G n w v i in
+          ran-more ran-own (highGates G n w v i) [] (n - 1 - i)
+          (sym (sums-none v i 0 (λ j. pairWire w (G .high) (pairAt n j i))))
           bits-nil
           e₂
           (omega arith)
@@ -59,15 +59,15 @@ module _ (w l r : ℕ) {n v i : ℕ} {b₀ : List ℕ} (R : RunsTo v n b₀) (h 
 
       pub row-ran :
           {z : ℕ} {b₃ : List ℕ} (a b : List ℕ) → l ≡ share a i → r ≡ share b i
-          → (suc i < n → z ≡ pairWire w (isw .low) (pairAt n i (suc i)))
-          → b₃ ≡ ranOn (lowGates isw z (v + i) (n - 1 - i)) [] (v + i + 1) b₂
-          → b₃ ≡ ranOn (rowGates isw n w v a b i) [] v b₀
+          → (suc i < n → z ≡ pairWire w first (pairAt n i (suc i)))
+          → b₃ ≡ ranOn (lowGates G z (v + i) (n - 1 - i)) [] (v + i + 1) b₂
+          → b₃ ≡ ranOn (rowGates G n w v a b i) [] v b₀
       row-ran {z} a b el er low e₃ =
-          let long : length (lowGates isw z (v + i) (n - 1 - i)) ≡ 1 * (n - 1 - i) = joined-long 1 (n - 1 - i) 0 _ (λ _ _. refl) in
-          let all = ran-more ran-high (lowGates isw z (v + i) (n - 1 - i)) [] {v′ = v + n} 0
-          (sym (sums-none (v + i) (n - 1 - i) 0 (pairWire z (isw .low))))
+          let long : length (lowGates G z (v + i) (n - 1 - i)) ≡ 1 * (n - 1 - i) = joined-long 1 (n - 1 - i) 0 _ (λ _ _. refl) in
+          let all = ran-more ran-high (lowGates G z (v + i) (n - 1 - i)) [] {v′ = v + n} 0
+          (sym (sums-none (v + i) (n - 1 - i) 0 (pairWire z (G .low))))
           bits-nil
           e₃
           (omega arith)
           (omega arith) in
-          rw (low-same n w i z (v + i) (n - 1 - i) (omega arith) low, ← el, ← er) (all .is)
+          rw (low-same G n w i z (v + i) (n - 1 - i) (omega arith) low, ← el, ← er) (all .is)

@@ -19,11 +19,12 @@ use Rattle.tables.proofs.Ran.{ran-is}
 use Rattle.tables.proofs.Accept.{Plain}
 use Rattle.tables.proofs.Put.{over-length, over-over}
 use Rattle.masks.specs.Shares.{sharesOf}
-use Rattle.masks.specs.Gadgets.{isw}
+use Rattle.masks.specs.declared.And as DAnd
+use Rattle.masks.specs.Gadgets.{Gadget, gadgetOf}
 use Rattle.masks.specs.Wires.{driverOf, inputShares, cost, draws, masked, maskedTable, tapeLong}
 use Rattle.masks.specs.Codes.{encode, maskedRun}
 use Rattle.masks.proofs.Orders.{order-range}
-use Rattle.masks.proofs.Lawful.{isw-lawful}
+use Rattle.masks.proofs.Lawful.{lawful}
 use Rattle.masks.proofs.Costs.{masked-draws, masked-wires}
 use Rattle.masks.proofs.Codes.{encode-bits}
 use Rattle.sizing.specs.declared.Plan as DP
@@ -39,7 +40,10 @@ use Rattle.flipping.specs.Flipping.{BeginReady, BegunSays}
 use Rattle.steps.specs.Steps.{GatesRan}
 use Rattle.rerunning.specs.Working.{WorkReady, WorkSays}
 
-module _ {s : List ℕ} {p : DP.Plan} {k : ℕ} {xs ys ts m a b : List ℕ} (W : WorkReady s p k xs ys ts m a b) where
+module _ (and : DAnd.And) {s : List ℕ} {p : DP.Plan} {k : ℕ} {xs ys ts m a b : List ℕ} (W : WorkReady s p k xs ys ts m a b) where
+  abbrev G : Gadget
+  G = gadgetOf and
+
   abbrev o : ℕ
   o = p .order
 
@@ -50,7 +54,7 @@ module _ {s : List ℕ} {p : DP.Plan} {k : ℕ} {xs ys ts m a b : List ℕ} (W :
   n = sharesOf o
 
   abbrev M : Table
-  M = maskedTable isw o t
+  M = maskedTable G o t
 
   abbrev R : PlanReady s p
   R = W .plan
@@ -95,7 +99,7 @@ module _ {s : List ℕ} {p : DP.Plan} {k : ℕ} {xs ys ts m a b : List ℕ} (W :
 
   tape-parts : p .tape ≡ split + randoms (M .gates)
   unfolding tapeLong
-  tape-parts = R .tape ∙ ap (λ (y : ℕ). y + randoms (M .gates)) (sym split-is)
+  tape-parts = R .tape and ∙ ap (λ (y : ℕ). y + randoms (M .gates)) (sym split-is)
 
   first-long : length xs ≡ t .inputs
   first-long = W .first ∙ R .inputs
@@ -156,16 +160,16 @@ module _ {s : List ℕ} {p : DP.Plan} {k : ℕ} {xs ys ts m a b : List ℕ} (W :
         second-bits = W .second-bits;
       }
 
-  masked-gates : M .gates ≡ map driverOf (masked isw n 0 (n * t .inputs) (inputShares n (t .inputs)) (t .gates))
+  masked-gates : M .gates ≡ map driverOf (masked G n 0 (n * t .inputs) (inputShares n (t .inputs)) (t .gates))
   unfolding maskedTable
   masked-gates = refl
 
   -- the random bits of the gates, and the wires that these drive
   draws-are : total (λ kd. draws kd n) (t .gates) ≡ randoms (M .gates)
-  draws-are = sym (ap randoms masked-gates ∙ masked-draws isw-lawful n 0 (n * t .inputs) (inputShares n (t .inputs)) (t .gates))
+  draws-are = sym (ap randoms masked-gates ∙ masked-draws (lawful and) n 0 (n * t .inputs) (inputShares n (t .inputs)) (t .gates))
 
   wires-are : n * t .inputs + total (λ kd. cost kd n) (t .gates) ≡ p .wires
-  wires-are = sym (R .wires ∙ masked-wires isw o t)
+  wires-are = sym (R .wires and ∙ masked-wires G o t)
 
   -- a run that was begun with the shares e
   module _ {v : List ℕ} (e v₀ : List ℕ) (long : length e ≡ n * t .inputs) (ev : v ≡ over e v₀) where
@@ -187,25 +191,25 @@ module _ {s : List ℕ} {p : DP.Plan} {k : ℕ} {xs ys ts m a b : List ℕ} (W :
 
   -- the mapped tape's bits of the random gates
   abbrev rest : List ℕ
-  rest = mapGates isw n k 0 (n * t .inputs) (inputShares n (t .inputs)) (t .gates) rs E E′
+  rest = mapGates G n k 0 (n * t .inputs) (inputShares n (t .inputs)) (t .gates) rs E E′
 
-  mapped-parts : mappedAt isw o t k xs ys bits ≡ F ++ rest
+  mapped-parts : mappedAt G o t k xs ys bits ≡ F ++ rest
   unfolding mappedAt
   mapped-parts = rw (← split-is, front-is) refl
 
   -- these are bits, and as many as the tape has
-  mapped-due : length (mappedAt isw o t k xs ys bits) ≡ p .tape
+  mapped-due : length (mappedAt G o t k xs ys bits) ≡ p .tape
   mapped-due =
-      mapped-length isw-lawful t o k plain xs ys bits first-long second-long (bits-due ∙ R .tape) ∙ sym (R .tape)
+      mapped-length (lawful and) t o k plain xs ys bits first-long second-long (bits-due ∙ R .tape and) ∙ sym (R .tape and)
 
-  mapped-are-bits : Bits (mappedAt isw o t k xs ys bits)
+  mapped-are-bits : Bits (mappedAt G o t k xs ys bits)
   mapped-are-bits =
-      mapped-bits isw-lawful t o k plain xs ys bits first-long second-long (bits-due ∙ R .tape) (tape-bits (p .tape) ts)
+      mapped-bits (lawful and) t o k plain xs ys bits first-long second-long (bits-due ∙ R .tape and) (tape-bits (p .tape) ts)
 
   -- a run of the masked table on a tape
   run-parts :
       (zs us : List ℕ)
-      → maskedRun isw o t zs us ≡ runFrom (M .gates) (drop split us) (encode o zs (take split us))
+      → maskedRun G o t zs us ≡ runFrom (M .gates) (drop split us) (encode o zs (take split us))
   unfolding maskedRun run
   run-parts zs us = rw split-is
 
@@ -223,7 +227,7 @@ module _ {s : List ℕ} {p : DP.Plan} {k : ℕ} {xs ys ts m a b : List ℕ} (W :
   U-long = unpacked-length (over ts m) ∙ ap (λ (c : ℕ). 8 * c) (over-length ts m (omega (arith, W .tape, W .mapped)))
 
   abbrev mapped : List ℕ
-  mapped = mappedAt isw o t k xs ys bits
+  mapped = mappedAt G o t k xs ys bits
 
   -- where the two tapes differ
   abbrev flips : List ℕ
@@ -288,7 +292,7 @@ module _ {s : List ℕ} {p : DP.Plan} {k : ℕ} {xs ys ts m a b : List ℕ} (W :
           bits = unpacked-bits ts;
         })
 
-    module _ (m₂ : List ℕ) {a₂ b₂ : List ℕ} (gates : GatesRan (p .shares) k t (unpacked ts) split (unpacked m₁) (unpacked m₂) a₁ a₂ b₁ b₂)
+    module _ (m₂ : List ℕ) {a₂ b₂ : List ℕ} (gates : GatesRan G (p .shares) k t (unpacked ts) split (unpacked m₁) (unpacked m₂) a₁ a₂ b₁ b₂)
       where
         ran : BothRan (M .gates) rs rest split (n * t .inputs) (unpacked m₁) (unpacked m₂) a₁ a₂ b₁ b₂
         ran =
@@ -319,13 +323,13 @@ module _ {s : List ℕ} {p : DP.Plan} {k : ℕ} {xs ys ts m a b : List ℕ} (W :
               (bytes-all rest-bytes (λ i. rw (getD-drop (length (packed mapped)) m i 0) (hm _))) in
               bytes-same m₂ (over (packed mapped) m) (bytes-all m₂ hm₂) bytes (ours ∙ sym due)
 
-          pub work-done : WorkSays s o k xs ys ts m m₂ a a₂ b b₂
+          pub work-done : WorkSays G s o k xs ys ts m m₂ a a₂ b b₂
           work-done =
-              let second : maskedRun isw o t ys mapped ≡ runFrom (M .gates) rest E′ =
+              let second : maskedRun G o t ys mapped ≡ runFrom (M .gates) rest E′ =
               run-parts ys mapped ∙ rw (mapped-parts, drop-at F rest split F-long, take-at F rest split F-long) in
-              let first : maskedRun isw o t xs bits ≡ runFrom (M .gates) rs E = run-parts xs bits ∙ rw front-is in
+              let first : maskedRun G o t xs bits ≡ runFrom (M .gates) rs E = run-parts xs bits ∙ rw front-is in
               record {
-                mapped = rw (← R .tape) mapped-is;
-                one = rw (← R .tape, first) (run-left E a E-long one-is rs (ran .one));
-                other = rw (← R .tape, second) (run-left E′ b E′-long other-is rest (ran .other));
+                mapped = rw (← R .tape and) mapped-is;
+                one = rw (← R .tape and, first) (run-left E a E-long one-is rs (ran .one));
+                other = rw (← R .tape and, second) (run-left E′ b E′-long other-is rest (ran .other));
               }

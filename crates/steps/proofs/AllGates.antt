@@ -11,9 +11,9 @@ use Rattle.tables.specs.declared.GateFields as DG
 use Rattle.tables.specs.Tables.{kindOf, Gate, noGate, Table, gateOf, tableOf, operandsOf, total}
 use Rattle.tables.specs.Inside.{ranOn, GateIs}
 use Rattle.tables.proofs.Run.{read-left, read-right}
-use Rattle.masks.specs.Gadgets.{isw}
+use Rattle.masks.specs.Gadgets.{Gadget}
 use Rattle.masks.specs.Wires.{driverOf, share, newWires, newShares, cost, draws, masked, inputShares, sharesAfter}
-use Rattle.masks.proofs.Lawful.{isw-lawful}
+use Rattle.masks.proofs.Lawful.{Lawful}
 use Rattle.masks.proofs.Placed.{placed-at, placed-inputs, share-below, new-wires-read}
 use Rattle.sizing.specs.declared.Plan as DP
 use Rattle.sizing.specs.Plans.{PlanReady}
@@ -32,38 +32,38 @@ use Rattle.placing.proofs.Turns.{Turn, turn, turn-early, turn-value, plan-sized
 use Rattle.steps.specs.Steps.{StepReady, GateRan}
 
 -- the gates from g on are left, from wire w and from a place of the tape on; then the buffers are M, A and B
-pub record Stepping (t : Table) (n k : ℕ) (ts M A B : List ℕ) (g w at : ℕ) (m x y : List ℕ) : Type 0 where
+pub record Stepping (G : Gadget) (t : Table) (n k : ℕ) (ts M A B : List ℕ) (g w at : ℕ) (m x y : List ℕ) : Type 0 where
   pub within : g ≤ length (t .gates)
   pub wire : w ≡ gateWire n t g
-  pub left : GatesLeft isw n k g w (sharesTo n t g) (drop g (t .gates)) ts at M A B m x y
+  pub left : GatesLeft G n k g w (sharesTo n t g) (drop g (t .gates)) ts at M A B m x y
 
 -- the masked gates, and both runs' random bits, as `GatesRan` has them
-abbrev pub allGates : Table → ℕ → List Gate
-allGates t n = map driverOf (masked isw n 0 (n * t .inputs) (inputShares n (t .inputs)) (t .gates))
+abbrev pub allGates : Gadget → Table → ℕ → List Gate
+allGates G t n = map driverOf (masked G n 0 (n * t .inputs) (inputShares n (t .inputs)) (t .gates))
 
 abbrev pub firstBits : Table → ℕ → List ℕ → ℕ → List ℕ
 firstBits t n ts at = take (total (λ kd. draws kd n) (t .gates)) (drop at ts)
 
-abbrev pub secondBits : Table → ℕ → ℕ → List ℕ → ℕ → List ℕ → List ℕ → List ℕ
-secondBits t n k ts at x y =
+abbrev pub secondBits : Gadget → Table → ℕ → ℕ → List ℕ → ℕ → List ℕ → List ℕ → List ℕ
+secondBits G t n k ts at x y =
     let w = n * t .inputs in
-    mapGates isw n k 0 w (inputShares n (t .inputs)) (t .gates) (firstBits t n ts at) (take w x) (take w y)
+    mapGates G n k 0 w (inputShares n (t .inputs)) (t .gates) (firstBits t n ts at) (take w x) (take w y)
 
 -- the gates are left that began with the buffers m₀, x₀ and y₀
-abbrev pub Going : Table → ℕ → ℕ → List ℕ → ℕ → List ℕ → List ℕ → List ℕ → ℕ → ℕ → ℕ → List ℕ → List ℕ → List ℕ → Type 0
-Going t n k ts at₀ m₀ x₀ y₀ g w at m x y =
+abbrev pub Going : Gadget → Table → ℕ → ℕ → List ℕ → ℕ → List ℕ → List ℕ → List ℕ → ℕ → ℕ → ℕ → List ℕ → List ℕ → List ℕ → Type 0
+Going G t n k ts at₀ m₀ x₀ y₀ g w at m x y =
     let w₀ = n * t .inputs in
     let rs = firstBits t n ts at₀ in
-    let ss = secondBits t n k ts at₀ x₀ y₀ in
-    Stepping t n k ts (flipsAt at₀ (flipped rs ss) m₀) (ranOn (allGates t n) rs w₀ x₀) (ranOn (allGates t n) ss w₀ y₀) g w at m x y
+    let ss = secondBits G t n k ts at₀ x₀ y₀ in
+    Stepping G t n k ts (flipsAt at₀ (flipped rs ss) m₀) (ranOn (allGates G t n) rs w₀ x₀) (ranOn (allGates G t n) ss w₀ y₀) g w at m x y
 
 pub steps-start :
-    {s : List ℕ} {p : DP.Plan} (k : ℕ) {w at : ℕ} {ts m x y : List ℕ} → PlanReady s p → w ≡ p .shares * p .inputs
+    {G : Gadget} → Lawful G → {s : List ℕ} {p : DP.Plan} (k : ℕ) {w at : ℕ} {ts m x y : List ℕ} → PlanReady s p → w ≡ p .shares * p .inputs
     → BothReady (p .shares * tableOf s .inputs) (total (λ kd. cost kd (p .shares)) (tableOf s .gates)) at
     (total (λ kd. draws kd (p .shares)) (tableOf s .gates)) ts m x y
-    → Going (tableOf s) (p .shares) k ts at m x y 0 w at m x y
+    → Going G (tableOf s) (p .shares) k ts at m x y 0 w at m x y
 unfolding sharesAfter total
-steps-start {s} {p} k {w} R e both =
+steps-start L {s} {p} k {w} R e both =
     let t = tableOf s in
     let n = p .shares in
     let wire : w ≡ n * t .inputs = e ∙ ap (λ (i : ℕ). n * i) (R .inputs) in
@@ -72,17 +72,17 @@ steps-start {s} {p} k {w} R e both =
       within = omega arith;
       wire = omega arith;
       left =
-          gates-start isw-lawful n k 0 (n * t .inputs) (inputShares n (t .inputs)) (t .gates) both
+          gates-start L n k 0 (n * t .inputs) (inputShares n (t .inputs)) (t .gates) both
           (omega (arith, plan-sized R .some))
           (plain-inputs n t (plan-passed R .plain))
           (placed-inputs n (t .inputs));
     })
 
 -- at gate g, whose fields are r, where the arrays say where its operands' shares are
-module _ {s : List ℕ} {p : DP.Plan} {k : ℕ} {ts M A B : List ℕ} {g w at : ℕ} {m x y : List ℕ} {r : DG.GateFields}
+module _ {G : Gadget} (L : Lawful G) {s : List ℕ} {p : DP.Plan} {k : ℕ} {ts M A B : List ℕ} {g w at : ℕ} {m x y : List ℕ} {r : DG.GateFields}
     {H D T : List ℕ}
     (R : PlanReady s p)
-    (P : Stepping (tableOf s) (p .shares) k ts M A B g w at m x y)
+    (P : Stepping G (tableOf s) (p .shares) k ts M A B g w at m x y)
     (h : g < p .gates)
     (is : GateIs (gateOf (tableOf s) g) r)
     (Z : Located (tableOf s) (p .shares) H D T) where
@@ -117,8 +117,8 @@ module _ {s : List ℕ} {p : DP.Plan} {k : ℕ} {ts M A B : List ℕ} {g w at : 
   right-are h = rw (← is .right) (located-at Z g (r .right) (omega (arith, inside)) (omega (arith, h, R .inputs)))
 
   -- the gates that are left: this one, and those after it
-  here : GatesLeft isw n k g w S (this ∷ drop (suc g) (t .gates)) ts at M A B m x y
-  here = subst (λ (gs : List Gate). GatesLeft isw n k g w S gs ts at M A B m x y) (drop-cons (t .gates) g noGate inside) (P .left)
+  here : GatesLeft G n k g w S (this ∷ drop (suc g) (t .gates)) ts at M A B m x y
+  here = subst (λ (gs : List Gate). GatesLeft G n k g w S gs ts at M A B m x y) (drop-cons (t .gates) g noGate inside) (P .left)
 
   -- the shares of a plain wire so far come before wire w
   before : (q : ℕ) → q < p .inputs + g → (i : ℕ) → i < n → share (getD S q []) i < w
@@ -150,12 +150,12 @@ module _ {s : List ℕ} {p : DP.Plan} {k : ℕ} {ts M A B : List ℕ} {g w at : 
               subst (λ (ws : List ℕ). share ws i < w) (right-are (facts .right)) (before (this .right) (omega (arith, facts .right, is .right)) i l);
         };
         wires = facts .fits;
-        both = rw (is .kind) (gates-ready isw-lawful here);
+        both = rw (is .kind) (gates-ready L here);
       }
 
   pub step-turn :
-      {c d : ℕ} {m′ x′ y′ : List ℕ} → GateRan (r .kind) (r .left) n k g w a b ts at m m′ x x′ y y′ → c ≡ cost (kindOf (r .kind)) n
-      → d ≡ draws (kindOf (r .kind)) n → Stepping t n k ts M A B (g + 1) (w + c) (at + d) m′ x′ y′
+      {c d : ℕ} {m′ x′ y′ : List ℕ} → GateRan G (r .kind) (r .left) n k g w a b ts at m m′ x x′ y y′ → c ≡ cost (kindOf (r .kind)) n
+      → d ≡ draws (kindOf (r .kind)) n → Stepping G t n k ts M A B (g + 1) (w + c) (at + d) m′ x′ y′
   step-turn {c} {d} {m′} {x′} {y′} ran size bits =
       let kind = this .kind in
       let l = getD S (this .left) [] in
@@ -164,13 +164,13 @@ module _ {s : List ℕ} {p : DP.Plan} {k : ℕ} {ts M A B : List ℕ} {g w at : 
       let u : ℕ → ℕ = λ q. getD y q 0 in
       let read = read-left (operandsOf (kindOf (r .kind))) (p .inputs + g) (r .left) (r .right) (facts .reads) (λ h. sym (left-are h)) in
       let read′ = read-right (operandsOf (kindOf (r .kind))) (p .inputs + g) (r .left) (r .right) (facts .reads) (λ h. sym (right-are h)) in
-      let gates : map driverOf (newWires isw (kindOf (r .kind)) (r .left) n g w (shareWires n a) (shareWires n b))
-      ≡ map driverOf (newWires isw kind (this .left) n g w l e) =
-      ap (map driverOf) (new-wires-read isw (kindOf (r .kind)) (r .left) n g w _ l _ e read read′)
+      let gates : map driverOf (newWires G (kindOf (r .kind)) (r .left) n g w (shareWires n a) (shareWires n b))
+      ≡ map driverOf (newWires G kind (this .left) n g w l e) =
+      ap (map driverOf) (new-wires-read G (kindOf (r .kind)) (r .left) n g w _ l _ e read read′)
       ∙ rw (is .kind, is .left) in
-      let flips : gateFlips isw (kindOf (r .kind)) n k (shareWires n a) (shareWires n b) v u ≡ gateFlips isw kind n k l e v u =
-      gate-flips-read isw (kindOf (r .kind)) n k _ l _ e v u read read′ ∙ rw (is .kind) in
-      let of-shares : BothFlip (map driverOf (newWires isw kind (this .left) n g w l e)) (gateFlips isw kind n k l e v u) ts at w m m′ x x′ y y′ =
+      let flips : gateFlips G (kindOf (r .kind)) n k (shareWires n a) (shareWires n b) v u ≡ gateFlips G kind n k l e v u =
+      gate-flips-read G (kindOf (r .kind)) n k _ l _ e v u read read′ ∙ rw (is .kind) in
+      let of-shares : BothFlip (map driverOf (newWires G kind (this .left) n g w l e)) (gateFlips G kind n k l e v u) ts at w m m′ x x′ y y′ =
       subst₂ (λ (gs : List Gate) (fs : List ℕ). BothFlip gs fs ts at w m m′ x x′ y y′) gates flips ran in
       let next : S ++ (newShares kind n w (getD S (this .left) []) ∷ []) ≡ sharesTo n t (suc g) =
       rw (P .wire) (sym (shares-to-next n t g inside)) in
@@ -180,22 +180,22 @@ module _ {s : List ℕ} {p : DP.Plan} {k : ℕ} {ts M A B : List ℕ} {g w at : 
         wire = omega (arith, P .wire, gate-wire-next n t g inside);
         left =
             subst
-            (λ (Q : List (List ℕ)). GatesLeft isw n k (suc g) (w + cost kind n) Q (drop (suc g) (t .gates)) ts (at + draws kind n)
+            (λ (Q : List (List ℕ)). GatesLeft G n k (suc g) (w + cost kind n) Q (drop (suc g) (t .gates)) ts (at + draws kind n)
             M A B m′ x′ y′)
             next
-            (gates-more isw-lawful here of-shares);
+            (gates-more L here of-shares);
       })
 
 -- no gate is left
 pub steps-end :
-    {t : Table} {n k : ℕ} {ts M A B : List ℕ} {g w at : ℕ} {m x y : List ℕ} → Stepping t n k ts M A B g w at m x y
+    {G : Gadget} {t : Table} {n k : ℕ} {ts M A B : List ℕ} {g w at : ℕ} {m x y : List ℕ} → Stepping G t n k ts M A B g w at m x y
     → length (t .gates) ≤ g → (m ≡ M) × (x ≡ A) × (y ≡ B)
-steps-end {t} {n} {k} {ts} {M} {A} {B} {g} {w} {at} {m} {x} {y} P h =
+steps-end {G} {t} {n} {k} {ts} {M} {A} {B} {g} {w} {at} {m} {x} {y} P h =
     gates-end
-    (subst (λ (gs : List Gate). GatesLeft isw n k g w (sharesTo n t g) gs ts at M A B m x y) (drop-of-length-le (t .gates) h) (P .left))
+    (subst (λ (gs : List Gate). GatesLeft G n k g w (sharesTo n t g) gs ts at M A B m x y) (drop-of-length-le (t .gates) h) (P .left))
 
 -- the buffers keep their lengths
 pub steps-long :
-    {t : Table} {n k : ℕ} {ts M A B : List ℕ} {g w at : ℕ} {m x y : List ℕ} → Stepping t n k ts M A B g w at m x y
+    {G : Gadget} {t : Table} {n k : ℕ} {ts M A B : List ℕ} {g w at : ℕ} {m x y : List ℕ} → Stepping G t n k ts M A B g w at m x y
     → (length m ≡ length M) × (length x ≡ length A) × (length y ≡ length B)
 steps-long P = left-long (P .left .left)

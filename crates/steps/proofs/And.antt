@@ -9,10 +9,10 @@ use Rattle.tables.specs.Tables.{AND, Gate}
 use Rattle.tables.specs.Runs.{randoms}
 use Rattle.tables.specs.Inside.{ranOn, RunsTo}
 use Rattle.masks.specs.Shares.{inTurn, pairs, tri}
-use Rattle.masks.specs.Gadgets.{isw}
+use Rattle.masks.specs.Gadgets.{Gadget}
 use Rattle.masks.specs.Wires.{cost}
 use Rattle.masks.proofs.Rows.{pairs-length}
-use Rattle.masks.proofs.Lawful.{isw-lawful}
+use Rattle.masks.proofs.Lawful.{Lawful}
 use Rattle.maps.specs.Both.{wiresFlip, BothFlip, BothReady}
 use Rattle.maps.proofs.Both.{flips-after, flips-append, both-none, both-less}
 use Rattle.pieces.specs.declared.Places as DP
@@ -22,9 +22,9 @@ use Rattle.pieces.proofs.Pieces.{row-long}
 use Rattle.pairing.specs.Pairing.{PairsRan}
 use Rattle.pairing.proofs.Pairs.{pairs-long, pairs-draw}
 
-module _ (n k w : ℕ) (a b : DP.Places) {ts : List ℕ} {at : ℕ} {m x y m₁ x₁ y₁ : List ℕ}
+module _ {G : Gadget} (L : Lawful G) (n k w : ℕ) (a b : DP.Places) {ts : List ℕ} {at : ℕ} {m x y m₁ x₁ y₁ : List ℕ}
     (R : BothReady w (cost AND n) at (tri n) ts m x y)
-    (ran : PairsRan n k a b (pairs n) ts at w m m₁ x x₁ y y₁) where
+    (ran : PairsRan G n k a b (pairs n) ts at w m m₁ x x₁ y y₁) where
   abbrev A : List ℕ
   A = shareWires n a
 
@@ -32,27 +32,27 @@ module _ (n k w : ℕ) (a b : DP.Places) {ts : List ℕ} {at : ℕ} {m x y m₁ 
   B = shareWires n b
 
   abbrev cross : List Gate
-  cross = inTurn 5 w (pairs n) (pairGates isw A B)
+  cross = inTurn 5 w (pairs n) (pairGates G A B)
 
   abbrev rows : List Gate
-  rows = rowsGates isw n w (w + 5 * tri n) A B
+  rows = rowsGates G n w (w + 5 * tri n) A B
 
   abbrev flips : List ℕ
-  flips = map (wiresFlip isw k A B (λ p. getD x p 0) (λ p. getD y p 0)) (pairs n)
+  flips = map (wiresFlip G k A B (λ p. getD x p 0) (λ p. getD y p 0)) (pairs n)
 
   cross-long : length cross ≡ 5 * tri n
-  cross-long = pairs-long isw A B w (pairs n) ∙ ap (λ (c : ℕ). 5 * c) (pairs-length n 0)
+  cross-long = pairs-long G A B w (pairs n) ∙ ap (λ (c : ℕ). 5 * c) (pairs-length n 0)
 
   rows-long : length rows ≡ n * n
   rows-long =
-      joined-long n n 0 (λ i. rowGates isw n w (w + 5 * tri n + n * i) A B i)
-      (λ i h. row-long isw n w (w + 5 * tri n + n * i) A B i (omega arith))
+      joined-long n n 0 (λ i. rowGates G n w (w + 5 * tri n + n * i) A B i)
+      (λ i h. row-long G n w (w + 5 * tri n + n * i) A B i (omega arith))
 
   flips-long : length flips ≡ tri n
-  flips-long = length-map (pairs n) (wiresFlip isw k A B (λ p. getD x p 0) (λ p. getD y p 0)) ∙ pairs-length n 0
+  flips-long = length-map (pairs n) (wiresFlip G k A B (λ p. getD x p 0) (λ p. getD y p 0)) ∙ pairs-length n 0
 
   flips-exact : length flips ≡ randoms cross
-  flips-exact = flips-long ∙ sym (pairs-draw isw-lawful A B w (pairs n) ∙ pairs-length n 0)
+  flips-exact = flips-long ∙ sym (pairs-draw L A B w (pairs n) ∙ pairs-length n 0)
 
   all-ready : BothReady w (length cross + length rows) at (length flips + length {A = ℕ} []) ts m x y
   all-ready = both-less _ _ R (omega (arith, cross-long, rows-long)) (omega (arith, flips-long))

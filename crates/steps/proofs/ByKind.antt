@@ -8,7 +8,7 @@ use lib.Dec.{eqb}
 use lib.ListN.{getD}
 use Rattle.tables.specs.Tables.{Kind, NOT, AND, OR, kindOf, Gate, gate}
 use Rattle.tables.specs.Inside.{ranOn, RunsTo, PlainByte}
-use Rattle.masks.specs.Gadgets.{isw}
+use Rattle.masks.specs.Gadgets.{Gadget}
 use Rattle.masks.specs.Wires.{andPart, driverOf, newWires}
 use Rattle.maps.specs.Maps.{gateFlips}
 use Rattle.maps.specs.Both.{BothFlip}
@@ -39,39 +39,39 @@ module _ {kind left n w : ℕ} {a b : DP.Places} {ts : List ℕ} {at : ℕ} {m x
 
 -- gates that draw nothing
 none-drawn :
-    (kind left n k g w : ℕ) (a b : DP.Places) (ts : List ℕ) (at : ℕ) {m x x′ y y′ : List ℕ} (gs : List Gate)
-    → map driverOf (newWires isw (kindOf kind) left n g w (shareWires n a) (shareWires n b)) ≡ gs
-    → gateFlips isw (kindOf kind) n k (shareWires n a) (shareWires n b) (λ p. getD x p 0) (λ p. getD y p 0) ≡ []
-    → x′ ≡ ranOn gs [] w x → y′ ≡ ranOn gs [] w y → GateRan kind left n k g w a b ts at m m x x′ y y′
-none-drawn kind left n k g w a b ts at {m} {x} {x′} {y} {y′} gs are none one other =
+    (G : Gadget) (kind left n k g w : ℕ) (a b : DP.Places) (ts : List ℕ) (at : ℕ) {m x x′ y y′ : List ℕ} (gs : List Gate)
+    → map driverOf (newWires G (kindOf kind) left n g w (shareWires n a) (shareWires n b)) ≡ gs
+    → gateFlips G (kindOf kind) n k (shareWires n a) (shareWires n b) (λ p. getD x p 0) (λ p. getD y p 0) ≡ []
+    → x′ ≡ ranOn gs [] w x → y′ ≡ ranOn gs [] w y → GateRan G kind left n k g w a b ts at m m x x′ y y′
+none-drawn G kind left n k g w a b ts at {m} {x} {x′} {y} {y′} gs are none one other =
     subst₂ (λ (hs : List Gate) (fs : List ℕ). BothFlip hs fs ts at w m m x x′ y y′) (sym are) (sym none) (both-none gs at w ts m one other)
 
-module _ {kind : ℕ} (left n k g w : ℕ) (a b : DP.Places) (ts : List ℕ) (at : ℕ) {m x x′ y y′ : List ℕ} where
+module _ (G : Gadget) {kind : ℕ} (left n k g w : ℕ) (a b : DP.Places) (ts : List ℕ) (at : ℕ) {m x x′ y y′ : List ℕ} where
   pub xor-gate :
       kind ≡ 1 → x′ ≡ ranOn (joined n 0 (xorGates (shareWires n a) (shareWires n b))) [] w x
       → y′ ≡ ranOn (joined n 0 (xorGates (shareWires n a) (shareWires n b))) [] w y
-      → GateRan kind left n k g w a b ts at m m x x′ y y′
+      → GateRan G kind left n k g w a b ts at m m x x′ y y′
   xor-gate e one other =
-      none-drawn kind left n k g w a b ts at (joined n 0 (xorGates (shareWires n a) (shareWires n b)))
-      (rw e (xor-gates isw left n g w (shareWires n a) (shareWires n b)))
+      none-drawn G kind left n k g w a b ts at (joined n 0 (xorGates (shareWires n a) (shareWires n b)))
+      (rw e (xor-gates G left n g w (shareWires n a) (shareWires n b)))
       (rw e)
       one
       other
 
   pub constant-gate :
       {l : ℕ} → kind ≡ 4 → l ≡ left → x′ ≡ ranOn (joined n 0 (constantGates l)) [] w x → y′ ≡ ranOn (joined n 0 (constantGates l)) [] w y
-      → GateRan kind left n k g w a b ts at m m x x′ y y′
+      → GateRan G kind left n k g w a b ts at m m x x′ y y′
   constant-gate {l} e value one other =
-      none-drawn kind left n k g w a b ts at (joined n 0 (constantGates l))
-      (rw (e, value) (constant-gates isw left n g w (shareWires n a) (shareWires n b)))
+      none-drawn G kind left n k g w a b ts at (joined n 0 (constantGates l))
+      (rw (e, value) (constant-gates G left n g w (shareWires n a) (shareWires n b)))
       (rw e)
       one
       other
 
   pub not-gate :
       kind ≡ 0 → x′ ≡ ranOn (gate NOT (a .head) 0 ∷ []) [] w x → y′ ≡ ranOn (gate NOT (a .head) 0 ∷ []) [] w y
-      → GateRan kind left n k g w a b ts at m m x x′ y y′
-  not-gate e one other = none-drawn kind left n k g w a b ts at (gate NOT (a .head) 0 ∷ []) (rw e) (rw e) one other
+      → GateRan G kind left n k g w a b ts at m m x x′ y y′
+  not-gate e one other = none-drawn G kind left n k g w a b ts at (gate NOT (a .head) 0 ∷ []) (rw e) (rw e) one other
 
 -- a plain gate that is no NOT, no XOR and no constant is an AND or an OR
 product-cases :
@@ -99,18 +99,19 @@ product-ready {kind} {left} {n} {w} {a} {b} {ts} {at} {m} {x} {y} R h k l =
     R
 
 pub product-gate :
-    (kind left n k g w : ℕ) (a b : DP.Places) (ts : List ℕ) (at : ℕ) {m m′ x x′ y y′ : List ℕ} → PlainByte kind → (kind ≡ 4 → ⊥)
+    (G : Gadget) (kind left n k g w : ℕ) (a b : DP.Places) (ts : List ℕ) (at : ℕ) {m m′ x x′ y y′ : List ℕ} → PlainByte kind → (kind ≡ 4 → ⊥)
     → (kind ≡ 0 → ⊥) → (kind ≡ 1 → ⊥)
-    → BothFlip (productGates (eqb kind 5) n w (shareWires n a) (shareWires n b))
-    (gateFlips isw (productKind (eqb kind 5)) n k (shareWires n a) (shareWires n b) (λ p. getD x p 0) (λ p. getD y p 0)) ts at w m m′ x x′ y y′
-    → GateRan kind left n k g w a b ts at m m′ x x′ y y′
-product-gate kind left n k g w a b ts at {m} {m′} {x} {x′} {y} {y′} plain h i l =
-    let flips : Kind → List ℕ = λ kd. gateFlips isw kd n k (shareWires n a) (shareWires n b) (λ p. getD x p 0) (λ p. getD y p 0) in
+    → BothFlip (productGates G (eqb kind 5) n w (shareWires n a) (shareWires n b))
+    (gateFlips G (productKind (eqb kind 5)) n k (shareWires n a) (shareWires n b) (λ p. getD x p 0) (λ p. getD y p 0)) ts at w m m′ x x′ y y′
+    → GateRan G kind left n k g w a b ts at m m′ x x′ y y′
+product-gate G kind left n k g w a b ts at {m} {m′} {x} {x′} {y} {y′} plain h i l =
+    let flips : Kind → List ℕ = λ kd. gateFlips G kd n k (shareWires n a) (shareWires n b) (λ p. getD x p 0) (λ p. getD y p 0) in
     let Ran : Kind → List Gate → Type 0 = λ kd gs. BothFlip gs (flips kd) ts at w m m′ x x′ y y′ in
     product-cases
-    (λ z. Ran (productKind (eqb z 5)) (productGates (eqb z 5) n w (shareWires n a) (shareWires n b)) → GateRan z left n k g w a b ts at m m′ x x′ y y′)
-    (λ r. subst (Ran AND) (sym (and-gates isw n (andPart g) w (shareWires n a) (shareWires n b))) r)
-    (λ r. subst (Ran OR) (sym (or-gates isw left n g w (shareWires n a) (shareWires n b))) r)
+    (λ z. Ran (productKind (eqb z 5)) (productGates G (eqb z 5) n w (shareWires n a) (shareWires n b))
+    → GateRan G z left n k g w a b ts at m m′ x x′ y y′)
+    (λ r. subst (Ran AND) (sym (and-gates G n (andPart g) w (shareWires n a) (shareWires n b))) r)
+    (λ r. subst (Ran OR) (sym (or-gates G left n g w (shareWires n a) (shareWires n b))) r)
     kind
     plain
     h
@@ -125,7 +126,7 @@ ready-where {kind} {left} {n} {w} {ts = ts} {at} {m} {x} {y} R ea eb =
     subst₂ {A = DP.Places} {B = DP.Places} (λ a b. StepReady kind left n w a b ts at m x y) (sym ea) (sym eb) R
 
 pub ran-where :
-    (kind left n k g w : ℕ) {a a′ b b′ : DP.Places} (ts : List ℕ) (at : ℕ) (m m′ x x′ y y′ : List ℕ) → a ≡ a′ → b ≡ b′
-    → GateRan kind left n k g w a b ts at m m′ x x′ y y′ → GateRan kind left n k g w a′ b′ ts at m m′ x x′ y y′
-ran-where kind left n k g w ts at m m′ x x′ y y′ ea eb ran =
-    subst₂ {A = DP.Places} {B = DP.Places} (λ a b. GateRan kind left n k g w a b ts at m m′ x x′ y y′) ea eb ran
+    (G : Gadget) (kind left n k g w : ℕ) {a a′ b b′ : DP.Places} (ts : List ℕ) (at : ℕ) (m m′ x x′ y y′ : List ℕ) → a ≡ a′ → b ≡ b′
+    → GateRan G kind left n k g w a b ts at m m′ x x′ y y′ → GateRan G kind left n k g w a′ b′ ts at m m′ x x′ y y′
+ran-where G kind left n k g w ts at m m′ x x′ y y′ ea eb ran =
+    subst₂ {A = DP.Places} {B = DP.Places} (λ a b. GateRan G kind left n k g w a b ts at m m′ x x′ y y′) ea eb ran

@@ -15,10 +15,10 @@ use Rattle.tables.proofs.Run.{Solves, Earlier, run-solves}
 use Rattle.tables.proofs.Lists.{bits-nil}
 use Rattle.tables.proofs.Ran.{ran-taken, ran-keep, runs-less}
 use Rattle.masks.specs.Shares.{pairs, tri}
-use Rattle.masks.specs.Gadgets.{isw}
+use Rattle.masks.specs.Gadgets.{Gadget}
 use Rattle.masks.specs.Wires.{andPart, share, firstOn, andShares, andCost, cost}
 use Rattle.masks.proofs.Rows.{pairs-in}
-use Rattle.masks.proofs.Lawful.{isw-lawful}
+use Rattle.masks.proofs.Lawful.{Lawful}
 use Rattle.masks.proofs.Costs.{and-draws}
 use Rattle.maps.specs.Maps.{gateFlips}
 use Rattle.maps.specs.Both.{BothFlip, BothReady}
@@ -53,7 +53,7 @@ nots-ran w l r {x} {x₁} hl hr fits e =
       keep = λ p h. sym (ap (λ (l : List ℕ). getD l p 0) e ∙ ran-keep gs [] w x fits p h);
     }
 
-module _ (n k w : ℕ) (a b p q : DP.Places) {ts : List ℕ} {at : ℕ} {m x y x₁ y₁ : List ℕ}
+module _ (n w : ℕ) (a b p q : DP.Places) {ts : List ℕ} {at : ℕ} {m x y x₁ y₁ : List ℕ}
     (some : 1 ≤ n)
     (before : SharesBefore n w a b)
     (R : BothReady w (cost OR n) at (tri n) ts m x y)
@@ -69,28 +69,6 @@ module _ (n k w : ℕ) (a b p q : DP.Places) {ts : List ℕ} {at : ℕ} {m x y x
 
   abbrev nots : List Gate
   nots = notGates (a .head) (b .head)
-
-  abbrev product : List Gate
-  product = andGates isw n (w + 2) (shareWires n p) (shareWires n q)
-
-  abbrev last : List Gate
-  last = lastGates n (w + 2)
-
-  abbrev flips : List ℕ
-  flips = gateFlips isw AND n k (shareWires n p) (shareWires n q) (λ i. getD x₁ i 0) (λ i. getD y₁ i 0)
-
-  product-long : length product ≡ andCost n
-  product-long = and-gates-long isw n (w + 2) (shareWires n p) (shareWires n q)
-
-  flips-long : length flips ≡ tri n
-  flips-long = gate-flips-length isw AND n k (shareWires n p) (shareWires n q) (λ i. getD x₁ i 0) (λ i. getD y₁ i 0)
-
-  product-draws : length flips ≡ randoms product
-  product-draws =
-      flips-long
-      ∙ sym
-      (ap {A = List Gate} {B = ℕ} randoms (sym (and-gates isw n (andPart 0) (w + 2) (shareWires n p) (shareWires n q)))
-      ∙ and-draws isw-lawful n (andPart 0) (w + 2) (shareWires n p) (shareWires n q))
 
   nots-draw : length {A = ℕ} [] ≡ randoms nots
   unfolding total
@@ -119,54 +97,78 @@ module _ (n k w : ℕ) (a b p q : DP.Places) {ts : List ℕ} {at : ℕ} {m x y x
     both-less (andCost n) (tri n) product-ready (omega arith) (omega arith),
   )
 
-  -- the OR's flips, before the NOTs and after them
-  or-flips : flips ≡ gateFlips isw OR n k A B (λ i. getD x i 0) (λ i. getD y i 0)
-  or-flips =
-      let v = nots-ran w (a .head) (b .head) (before .left 0 some) (before .right 0 some) (omega (arith, R .one .room)) one in
-      let u = nots-ran w (a .head) (b .head) (before .left 0 some) (before .right 0 some) (omega (arith, R .other .room)) other in
-      let next : w + 1 ≡ suc w = omega arith in
-      let right′ : shareWires n q ≡ firstOn (suc w) B = rw next at right in
-      ap₂ (λ (l r : List ℕ). gateFlips isw AND n k l r (λ i. getD x₁ i 0) (λ i. getD y₁ i 0)) left right′
-      ∙ sym
-      (pairs-flips-same isw n k _ _ _ _ _ _ _ _ (pairs n) (pairs-in n)
-      (first-not-same (λ i h. v .keep _ (before .left i h)))
-      (first-not-same (λ i h. v .keep _ (before .right i h)))
-      (first-not-same (λ i h. u .keep _ (before .left i h)))
-      (first-not-same (λ i h. u .keep _ (before .right i h)))
-      ∙ first-not-flips isw n k w A B (λ i. getD x₁ i 0) (λ i. getD y₁ i 0) (v .first) (v .second) (u .first) (u .second))
+  -- with the AND of a lawful gadget, where k is the free share
+  module _ {G : Gadget} (L : Lawful G) (k : ℕ) where
+    abbrev product : List Gate
+    product = andGates G n (w + 2) (shareWires n p) (shareWires n q)
 
-  or-gates-are : nots ++ (product ++ last) ≡ orGates isw n w A B
-  or-gates-are =
-      let next : w + 1 ≡ suc w = omega arith in
-      let after : w + 2 ≡ suc (suc w) = omega arith in
-      let all : ℕ → List ℕ → List ℕ → List Gate =
-      λ v l r. nots ++ (andGates isw n v l r ++ (gate NOT (share (andShares n v) 0) 0 ∷ [])) in
-      ap {A = ℕ} {B = List Gate} (λ v. all v (shareWires n p) (shareWires n q)) after
-      ∙ ap₂ {A = List ℕ} {B = List ℕ} {C = List Gate} (all (suc (suc w))) left (rw next at right)
+    abbrev last : List Gate
+    last = lastGates n (w + 2)
 
-  -- the AND has run on
-  module _ {m₂ x₂ y₂ : List ℕ} (ran : BothFlip product flips ts at (w + 2) m m₂ x₁ x₂ y₁ y₂) where
-    all-ready : BothReady (w + 2) (length product + length last) at (length flips + length {A = ℕ} []) ts m x₁ y₁
-    all-ready = both-less _ _ product-ready (omega (arith, product-long)) (omega (arith, flips-long))
+    abbrev flips : List ℕ
+    flips = gateFlips G AND n k (shareWires n p) (shareWires n q) (λ i. getD x₁ i 0) (λ i. getD y₁ i 0)
 
-    pub last-ready : RunsTo (w + 2 + andCost n) 1 x₂ × RunsTo (w + 2 + andCost n) 1 y₂
-    last-ready =
-        let after = flips-after product last flips [] all-ready product-draws ran .left .ready in
-        (rw product-long at (after .one), rw product-long at (after .other))
+    product-long : length product ≡ andCost n
+    product-long = and-gates-long G n (w + 2) (shareWires n p) (shareWires n q)
 
-    or-ran :
-        {x₃ y₃ : List ℕ} → x₃ ≡ ranOn last [] (w + 2 + andCost n) x₂ → y₃ ≡ ranOn last [] (w + 2 + andCost n) y₂
-        → BothFlip (orGates isw n w A B) (gateFlips isw OR n k A B (λ i. getD x i 0) (λ i. getD y i 0)) ts at w m m₂ x x₃ y y₃
-    or-ran {x₃} {y₃} e₃ e₄ =
-        let finish : BothFlip last [] ts (at + length flips) (w + 2 + length product) m₂ m₂ x₂ x₃ y₂ y₃ =
-        rw product-long (both-none last (at + length flips) (w + 2 + andCost n) ts m₂ e₃ e₄) in
-        let second = flips-append product last flips [] all-ready product-draws ran finish in
-        let same : flips ++ [] ≡ flips = append-nil flips in
-        let rest : BothFlip (product ++ last) flips ts (at + 0) (w + 2) m m₂ x₁ x₃ y₁ y₃ = rw (add-zero, ← same) second in
-        let ready : BothReady w (2 + length (product ++ last)) at (0 + length flips) ts m x y =
-        both-less _ _ R (omega (arith, length-append product last, product-long)) (omega (arith, flips-long)) in
-        let whole = flips-append nots (product ++ last) [] flips ready nots-draw (both-none nots at w ts m one other) rest in
-        subst₂ (λ (gs : List Gate) (fs : List ℕ). BothFlip gs fs ts at w m m₂ x x₃ y y₃) or-gates-are or-flips whole
+    flips-long : length flips ≡ tri n
+    flips-long = gate-flips-length G AND n k (shareWires n p) (shareWires n q) (λ i. getD x₁ i 0) (λ i. getD y₁ i 0)
+
+    product-draws : length flips ≡ randoms product
+    product-draws =
+        flips-long
+        ∙ sym
+        (ap {A = List Gate} {B = ℕ} randoms (sym (and-gates G n (andPart 0) (w + 2) (shareWires n p) (shareWires n q)))
+        ∙ and-draws L n (andPart 0) (w + 2) (shareWires n p) (shareWires n q))
+
+    -- the OR's flips, before the NOTs and after them
+    or-flips : flips ≡ gateFlips G OR n k A B (λ i. getD x i 0) (λ i. getD y i 0)
+    or-flips =
+        let v = nots-ran w (a .head) (b .head) (before .left 0 some) (before .right 0 some) (omega (arith, R .one .room)) one in
+        let u = nots-ran w (a .head) (b .head) (before .left 0 some) (before .right 0 some) (omega (arith, R .other .room)) other in
+        let next : w + 1 ≡ suc w = omega arith in
+        let right′ : shareWires n q ≡ firstOn (suc w) B = rw next at right in
+        ap₂ (λ (l r : List ℕ). gateFlips G AND n k l r (λ i. getD x₁ i 0) (λ i. getD y₁ i 0)) left right′
+        ∙ sym
+        (pairs-flips-same G n k _ _ _ _ _ _ _ _ (pairs n) (pairs-in n)
+        (first-not-same (λ i h. v .keep _ (before .left i h)))
+        (first-not-same (λ i h. v .keep _ (before .right i h)))
+        (first-not-same (λ i h. u .keep _ (before .left i h)))
+        (first-not-same (λ i h. u .keep _ (before .right i h)))
+        ∙ first-not-flips G n k w A B (λ i. getD x₁ i 0) (λ i. getD y₁ i 0) (v .first) (v .second) (u .first) (u .second))
+
+    or-gates-are : nots ++ (product ++ last) ≡ orGates G n w A B
+    or-gates-are =
+        let next : w + 1 ≡ suc w = omega arith in
+        let after : w + 2 ≡ suc (suc w) = omega arith in
+        let all : ℕ → List ℕ → List ℕ → List Gate =
+        λ v l r. nots ++ (andGates G n v l r ++ (gate NOT (share (andShares n v) 0) 0 ∷ [])) in
+        ap {A = ℕ} {B = List Gate} (λ v. all v (shareWires n p) (shareWires n q)) after
+        ∙ ap₂ {A = List ℕ} {B = List ℕ} {C = List Gate} (all (suc (suc w))) left (rw next at right)
+
+    -- the AND has run on
+    module _ {m₂ x₂ y₂ : List ℕ} (ran : BothFlip product flips ts at (w + 2) m m₂ x₁ x₂ y₁ y₂) where
+      all-ready : BothReady (w + 2) (length product + length last) at (length flips + length {A = ℕ} []) ts m x₁ y₁
+      all-ready = both-less _ _ product-ready (omega (arith, product-long)) (omega (arith, flips-long))
+
+      pub last-ready : RunsTo (w + 2 + andCost n) 1 x₂ × RunsTo (w + 2 + andCost n) 1 y₂
+      last-ready =
+          let after = flips-after product last flips [] all-ready product-draws ran .left .ready in
+          (rw product-long at (after .one), rw product-long at (after .other))
+
+      or-ran :
+          {x₃ y₃ : List ℕ} → x₃ ≡ ranOn last [] (w + 2 + andCost n) x₂ → y₃ ≡ ranOn last [] (w + 2 + andCost n) y₂
+          → BothFlip (orGates G n w A B) (gateFlips G OR n k A B (λ i. getD x i 0) (λ i. getD y i 0)) ts at w m m₂ x x₃ y y₃
+      or-ran {x₃} {y₃} e₃ e₄ =
+          let finish : BothFlip last [] ts (at + length flips) (w + 2 + length product) m₂ m₂ x₂ x₃ y₂ y₃ =
+          rw product-long (both-none last (at + length flips) (w + 2 + andCost n) ts m₂ e₃ e₄) in
+          let second = flips-append product last flips [] all-ready product-draws ran finish in
+          let same : flips ++ [] ≡ flips = append-nil flips in
+          let rest : BothFlip (product ++ last) flips ts (at + 0) (w + 2) m m₂ x₁ x₃ y₁ y₃ = rw (add-zero, ← same) second in
+          let ready : BothReady w (2 + length (product ++ last)) at (0 + length flips) ts m x y =
+          both-less _ _ R (omega (arith, length-append product last, product-long)) (omega (arith, flips-long)) in
+          let whole = flips-append nots (product ++ last) [] flips ready nots-draw (both-none nots at w ts m one other) rest in
+          subst₂ (λ (gs : List Gate) (fs : List ℕ). BothFlip gs fs ts at w m m₂ x x₃ y y₃) or-gates-are or-flips whole
 
 -- an AND or an OR that has begun: its AND is from wire v on, between shares at p and q; the values are x₁ and y₁, where they were
 -- x and y
@@ -193,7 +195,7 @@ pub product-and-ready :
     (or : Bool) {n w v : ℕ} {a b p q : DP.Places} {ts : List ℕ} {at : ℕ} {m x y x₁ y₁ : List ℕ} → ProductReady or n w a b ts at m x y
     → Begun or n w a b p q v x y x₁ y₁ → SharesBefore n v p q × (v + cost AND n ≤ 65535) × BothReady v (cost AND n) at (tri n) ts m x₁ y₁
 product-and-ready true {n} {w} {a = a} {b} {p} {q} P S =
-    let ready = or-and-ready n 0 w a b p q (P .0) (P .1) (P .3) (S .left) (S .right) (S .one) (S .other) (omega (arith, P .2)) in
+    let ready = or-and-ready n w a b p q (P .0) (P .1) (P .3) (S .left) (S .right) (S .one) (S .other) (omega (arith, P .2)) in
     rw (S .wire) (ready .0, omega (arith, P .2), ready .1)
 product-and-ready false {n} {w} P S =
     let Before : List ℕ → Type 0 = λ l. (i : ℕ) → i < n → share l i < w in
@@ -210,35 +212,35 @@ product-and-ready false {n} {w} P S =
 
 -- the AND has run on
 abbrev AndRan :
-    ℕ → ℕ → DP.Places → DP.Places → ℕ → List ℕ → ℕ → List ℕ → List ℕ → List ℕ → List ℕ → List ℕ → List ℕ → Type 0
-AndRan n k p q v ts at m m₂ x₁ x₂ y₁ y₂ =
-    BothFlip (andGates isw n v (shareWires n p) (shareWires n q))
-    (gateFlips isw AND n k (shareWires n p) (shareWires n q) (λ i. getD x₁ i 0) (λ i. getD y₁ i 0)) ts at v m m₂ x₁ x₂ y₁ y₂
+    Gadget → ℕ → ℕ → DP.Places → DP.Places → ℕ → List ℕ → ℕ → List ℕ → List ℕ → List ℕ → List ℕ → List ℕ → List ℕ → Type 0
+AndRan G n k p q v ts at m m₂ x₁ x₂ y₁ y₂ =
+    BothFlip (andGates G n v (shareWires n p) (shareWires n q))
+    (gateFlips G AND n k (shareWires n p) (shareWires n q) (λ i. getD x₁ i 0) (λ i. getD y₁ i 0)) ts at v m m₂ x₁ x₂ y₁ y₂
 
 pub product-last-ready :
-    (or : Bool) (k : ℕ) {n w v : ℕ} {a b p q : DP.Places} {ts : List ℕ} {at : ℕ} {m m₂ x y x₁ y₁ x₂ y₂ : List ℕ}
-    → ProductReady or n w a b ts at m x y → Begun or n w a b p q v x y x₁ y₁ → AndRan n k p q v ts at m m₂ x₁ x₂ y₁ y₂ → or ≡ true
+    {G : Gadget} → Lawful G → (or : Bool) (k : ℕ) {n w v : ℕ} {a b p q : DP.Places} {ts : List ℕ} {at : ℕ} {m m₂ x y x₁ y₁ x₂ y₂ : List ℕ}
+    → ProductReady or n w a b ts at m x y → Begun or n w a b p q v x y x₁ y₁ → AndRan G n k p q v ts at m m₂ x₁ x₂ y₁ y₂ → or ≡ true
     → (1 ≤ n) × (n ≤ 31) × (v + andCost n ≤ 65535) × RunsTo (v + andCost n) 1 x₂ × RunsTo (v + andCost n) 1 y₂
-product-last-ready true k {n} {w} {a = a} {b} {p} {q} P S ran e =
-    let ready = last-ready n k w a b p q (P .0) (P .1) (P .3) (S .left) (S .right) (S .one) (S .other) (rw (S .wire) at ran) in
+product-last-ready L true k {n} {w} {a = a} {b} {p} {q} P S ran e =
+    let ready = last-ready n w a b p q (P .0) (P .1) (P .3) (S .left) (S .right) (S .one) (S .other) L k (rw (S .wire) at ran) in
     rw (S .wire) (P .0, P .1 .few, omega (arith, P .2), ready .0, ready .1)
-product-last-ready false k P S ran e = absurd (false≢true e)
+product-last-ready L false k P S ran e = absurd (false≢true e)
 
 pub product-ran :
-    (or : Bool) (k : ℕ) {n w v : ℕ} {a b p q : DP.Places} {ts : List ℕ} {at : ℕ} {m m₂ x y x₁ y₁ x₂ y₂ x₃ y₃ : List ℕ}
-    → ProductReady or n w a b ts at m x y → Begun or n w a b p q v x y x₁ y₁ → AndRan n k p q v ts at m m₂ x₁ x₂ y₁ y₂
+    {G : Gadget} → Lawful G → (or : Bool) (k : ℕ) {n w v : ℕ} {a b p q : DP.Places} {ts : List ℕ} {at : ℕ} {m m₂ x y x₁ y₁ x₂ y₂ x₃ y₃ : List ℕ}
+    → ProductReady or n w a b ts at m x y → Begun or n w a b p q v x y x₁ y₁ → AndRan G n k p q v ts at m m₂ x₁ x₂ y₁ y₂
     → x₃ ≡ cond or (ranOn (lastGates n v) [] (v + andCost n) x₂) x₂ → y₃ ≡ cond or (ranOn (lastGates n v) [] (v + andCost n) y₂) y₂
-    → BothFlip (productGates or n w (shareWires n a) (shareWires n b))
-    (gateFlips isw (productKind or) n k (shareWires n a) (shareWires n b) (λ i. getD x i 0) (λ i. getD y i 0)) ts at w m m₂ x x₃ y y₃
-product-ran true k {n} {w} {a = a} {b} {p} {q} P S ran e f =
-    or-ran n k w a b p q (P .0) (P .1) (P .3) (S .left) (S .right) (S .one) (S .other) (rw (S .wire) at ran) (rw (S .wire) at e)
+    → BothFlip (productGates G or n w (shareWires n a) (shareWires n b))
+    (gateFlips G (productKind or) n k (shareWires n a) (shareWires n b) (λ i. getD x i 0) (λ i. getD y i 0)) ts at w m m₂ x x₃ y y₃
+product-ran L true k {n} {w} {a = a} {b} {p} {q} P S ran e f =
+    or-ran n w a b p q (P .0) (P .1) (P .3) (S .left) (S .right) (S .one) (S .other) L k (rw (S .wire) at ran) (rw (S .wire) at e)
     (rw (S .wire) at f)
-product-ran false k {n} {w} {v} {p = p} {q} {ts} {at} {m} {m₂} {x} {y} {x₂ = x₂} {y₂} P S ran e f =
-    let same : AndRan n k p q w ts at m m₂ x x₂ y y₂ = rw (S .wire, S .one, S .other) at ran in
+product-ran {G} L false k {n} {w} {v} {p = p} {q} {ts} {at} {m} {m₂} {x} {y} {x₂ = x₂} {y₂} P S ran e f =
+    let same : AndRan G n k p q w ts at m m₂ x x₂ y y₂ = rw (S .wire, S .one, S .other) at ran in
     rw (e, f)
     (subst₂
     (λ (l r : List ℕ).
-    BothFlip (andGates isw n w l r) (gateFlips isw AND n k l r (λ i. getD x i 0) (λ i. getD y i 0)) ts at w m m₂ x x₂ y y₂)
+    BothFlip (andGates G n w l r) (gateFlips G AND n k l r (λ i. getD x i 0) (λ i. getD y i 0)) ts at w m m₂ x x₂ y y₂)
     (S .left)
     (S .right)
     same)

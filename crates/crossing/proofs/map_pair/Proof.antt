@@ -7,7 +7,7 @@ use lib.Bits.{bitXor}
 use lib.ListN.{getD}
 use Rattle.tables.specs.Packing.{unpacked}
 use Rattle.tables.proofs.Run.{bit-xor}
-use Rattle.masks.specs.Gadgets.{allFive, differs, isw}
+use Rattle.masks.specs.Gadgets.{allFive, differs, gadgetOf}
 use Rattle.maps.proofs.Both.{both-one}
 use Rattle.crossing.proofs.Five.{pair-bits}
 use borrow.Author.Needs.{needs}
@@ -52,11 +52,12 @@ returns c =
     let bit = flip .before .before .before .before in
     let s = bit .before .before .before .before .before in
     let a = s .args in
+    let G = gadgetOf (a .and) in
     let R = s .pre .0 in
     let v : ℕ → ℕ = λ p. getD (a .one .now) p 0 in
     let u : ℕ → ℕ = λ p. getD (a .other .now) p 0 in
-    both-one (map (isw .gates (a .w) (a .ai) (a .bj) (a .aj) (a .bi)) allFive)
-    (isw .flip (a .k) (a .i) (a .j) (differs (v (a .ai)) (v (a .bj)) (u (a .ai)) (u (a .bj))) (differs (v (a .aj)) (v (a .bi)) (u (a .aj)) (u (a .bi))))
+    both-one (map (G .gates (a .w) (a .ai) (a .bj) (a .aj) (a .bi)) allFive)
+    (G .flip (a .k) (a .i) (a .j) (differs (v (a .ai)) (v (a .bj)) (u (a .ai)) (u (a .bj))) (differs (v (a .aj)) (v (a .bi)) (u (a .aj)) (u (a .bi))))
     (bit .tape-bit .result)
     (bitXor (bit .tape-bit .result) (flip .flip-pair .result))
     (a .at)

@@ -2,6 +2,7 @@
 -- Assumes nothing.
 use native.Mathlib.Omega.{arith}
 use Rattle.tables.proofs.Ran.{runs-less}
+use Rattle.masks.specs.Gadgets.{gadgetOf}
 use Rattle.pieces.specs.Layout.{shareWires}
 use Rattle.pieces.proofs.Pieces.{low-within}
 use Rattle.driving.proofs.Before.{left-low, right-low, left-before, right-before}
@@ -28,7 +29,13 @@ run-and-requires c κs =
 run-high-sums-requires : tie.Need-run-high-sums-requires
 run-high-sums-requires c κs =
     let s = c .before .before .before .before .before .before .before .before in
-    (high-ready (s .args .w) _ _ (s .pre .0) (s .pre .2) (c .before .before .before .run-and .ensures), s .pre .2, s .pre .1 .few, s .pre .3, omega (arith, s .pre .4))
+    let G = gadgetOf (s .args .and) in (
+      high-ready G (s .args .w) _ _ (s .pre .0) (s .pre .2) (c .before .before .before .run-and .ensures),
+      s .pre .2,
+      s .pre .1 .few,
+      s .pre .3,
+      omega (arith, s .pre .4),
+    )
 
 add-run-low-sums : tie.Need-add-run-low-sums
 add-run-low-sums c = let s = c .before .before .before .before .before .before .before .before .before .before .before .before in omega (arith, s .pre .2, s .pre .4)
@@ -44,12 +51,14 @@ run-low-sums-requires c κs =
     let s = c .before .before .before .before .before .before .before .before .before .before .before .before in
     let high = c .before .before .before in
     let low = high .run-high-sums .ensures .0 in
-    let inside = s .pre .2 in (
-      low-ready (s .args .w) _ _ (s .pre .0) inside (c .before .before .before .before .before .before .before .run-and .ensures) (high .run-high-sums .ensures .1),
+    let inside = s .pre .2 in
+    let G = gadgetOf (s .args .and) in (
+      low-ready G (s .args .w) _ _ (s .pre .0) inside (high .before .before .before .before .run-and .ensures)
+          (high .run-high-sums .ensures .1),
       λ m h.
           omega (
             arith,
-            low-within (s .args .n) (s .args .w) (s .args .i) _ m (low (omega (arith, h, inside))) (omega (arith, h, inside)),
+            low-within G (s .args .n) (s .args .w) (s .args .i) _ m (low (omega (arith, h, inside))) (omega (arith, h, inside)),
             s .pre .3,
           ),
     )
@@ -62,12 +71,13 @@ returns c =
     let s = c .before .before .before .before .before .before .before .before .before .before .before .before .before .before .before in
     let n = s .args .n in
     let h = s .pre .2 in
-    let high = c .before .before .before .before .before .before .run-high-sums .ensures in
-    row-ran (s .args .w) _ _ (s .pre .0) h (c .before .before .before .before .before .before .before .before .before .before .run-and .ensures)
-    (high .1) (shareWires n (s .args .a)) (shareWires n (s .args .b))
-    (c .before .before .before .before .before .before .before .before .before .before .before .before .before .share-wire .ensures .1 n h)
-    (c .before .before .before .before .before .before .before .before .before .before .before .before .share-wire2 .ensures .1 n h)
-    (high .0)
+    let high = c .before .before .before .before .before .before in
+    let own = high .before .before .before .before in
+    row-ran (gadgetOf (s .args .and)) (s .args .w) _ _ (s .pre .0) h (own .run-and .ensures)
+    (high .run-high-sums .ensures .1) (shareWires n (s .args .a)) (shareWires n (s .args .b))
+    (own .before .before .before .share-wire .ensures .1 n h)
+    (own .before .before .share-wire2 .ensures .1 n h)
+    (high .run-high-sums .ensures .0)
     (c .before .before .run-low-sums .ensures)
 
 pub run-row-spec : {M : Type 1} → statement M

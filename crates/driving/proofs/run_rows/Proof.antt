@@ -6,7 +6,7 @@ use Prim.Native.Nat.{ℕ, _+_, _-_, _*_}
 use native.Mathlib.Nat.{mul-le-mul-left}
 use native.Mathlib.Omega.{arith}
 use Rattle.tables.specs.Tables.{Gate}
-use Rattle.masks.specs.Gadgets.{isw}
+use Rattle.masks.specs.Gadgets.{gadgetOf}
 use Rattle.pieces.specs.Layout.{shareWires, rowGates}
 use Rattle.pieces.proofs.Pieces.{row-long}
 use Rattle.driving.proofs.InPieces.{InPieces, pieces-start, pieces-room, pieces-turn, pieces-end}
@@ -15,11 +15,11 @@ use Rattle.driving.proofs.run_rows.Statement.{statement}
 use Rattle.driving.proofs.run_rows.Tie as tie
 
 abbrev Inv-loop : tie.InvT-loop
-Inv-loop run₀ v w n a b from₀ i₀ run from i =
-    InPieces n v n (λ i. rowGates isw n w (v + n * i) (shareWires n a) (shareWires n b) i) run₀ from i run
+Inv-loop and run₀ v w n a b from₀ i₀ run from i =
+    InPieces n v n (λ i. rowGates (gadgetOf and) n w (v + n * i) (shareWires n a) (shareWires n b) i) run₀ from i run
 
 abbrev μ-loop : tie.MeasureT-loop
-μ-loop run₀ v w n a b from₀ i₀ run from i = n - i
+μ-loop and run₀ v w n a b from₀ i₀ run from i = n - i
 
 loop-holds : tie.Need-loop-holds Inv-loop μ-loop
 loop-holds c = let s = c .before in pieces-start (s .args .n) (s .args .v) (s .args .n) _ _ refl (s .pre .0)
@@ -51,6 +51,7 @@ loop-again : tie.Need-loop-again Inv-loop μ-loop
 loop-again c =
     let test = c .before .before .before .before in
     let s = c .before .before .before .before .before .before .before in
+    let G = gadgetOf (s .args .and) in
     let n = s .args .n in
     let w = s .args .w in
     let i = test .before .loop .i in
@@ -58,8 +59,8 @@ loop-again c =
     let B = shareWires n (s .args .b) in
     let inv = test .before .loop .inv in
     let h = test .loop-test .taken in
-    pieces-turn inv _ h (row-long isw n w (s .args .v + n * i) A B i h) (row-none isw n w (s .args .v + n * i) A B i)
-    (ap {A = ℕ} {B = List Gate} (λ from. rowGates isw n w from A B i) (inv .place))
+    pieces-turn inv _ h (row-long G n w (s .args .v + n * i) A B i h) (row-none G n w (s .args .v + n * i) A B i)
+    (ap {A = ℕ} {B = List Gate} (λ from. rowGates G n w from A B i) (inv .place))
     (c .before .before .run-row .ensures)
     refl
 

@@ -7,10 +7,10 @@ use native.Mathlib.Omega.{arith}
 use Rattle.tables.specs.Packing.{unpacked}
 use Rattle.tables.proofs.Packing.{bytes-long}
 use Rattle.masks.specs.Shares.{pairOf, pairsFrom, pairs, tri}
-use Rattle.masks.specs.Gadgets.{isw}
+use Rattle.masks.specs.Gadgets.{gadgetOf}
 use Rattle.masks.proofs.Sum.{up-length}
 use Rattle.masks.proofs.Rows.{pairs-length}
-use Rattle.masks.proofs.Lawful.{isw-lawful}
+use Rattle.masks.proofs.Lawful.{lawful}
 use Rattle.pieces.specs.Layout.{shareWires}
 use Rattle.driving.proofs.Before.{before-later}
 use Rattle.maps.proofs.Both.{both-less}
@@ -21,21 +21,23 @@ use Rattle.pairing.proofs.map_pairs.Statement.{statement}
 use Rattle.pairing.proofs.map_pairs.Tie as tie
 
 abbrev Inv-loop : tie.InvT-loop
-Inv-loop k n w a b tape at mapped₀ one₀ other₀ v₀ next₀ i₀ mapped one other v next i =
-    PairsGoing isw k (shareWires n a) (shareWires n b) (pairs n) (unpacked tape) at w (unpacked mapped₀) one₀ other₀ (pairsFrom (n - i) i) next v (unpacked mapped) one other
+Inv-loop and k n w a b tape at mapped₀ one₀ other₀ v₀ next₀ i₀ mapped one other v next i =
+    PairsGoing (gadgetOf and) k (shareWires n a) (shareWires n b) (pairs n) (unpacked tape) at w (unpacked mapped₀) one₀ other₀
+    (pairsFrom (n - i) i) next v (unpacked mapped) one other
     × (i ≤ n)
     × (w ≤ v)
     × (v + 5 * tri (n - i) ≡ w + 5 * tri n)
 
 abbrev μ-loop : tie.MeasureT-loop
-μ-loop k n w a b tape at mapped₀ one₀ other₀ v₀ next₀ i₀ mapped one other v next i = n - i
+μ-loop and k n w a b tape at mapped₀ one₀ other₀ v₀ next₀ i₀ mapped one other v next i = n - i
 
 loop-holds : tie.Need-loop-holds Inv-loop μ-loop
 loop-holds c =
     let s = c .before .before .before .before in
     let n = s .args .n in
-    let start = going-start isw (s .args .k) (shareWires n (s .args .a)) (shareWires n (s .args .b)) (pairs n)
-    {ts = unpacked (s .args .tape .now)} {at = s .args .at} {w = s .args .w} {m = unpacked (s .args .mapped .now)} {x = s .args .one .now} {y = s .args .other .now}
+    let start = going-start (gadgetOf (s .args .and)) (s .args .k) (shareWires n (s .args .a)) (shareWires n (s .args .b)) (pairs n)
+    {ts = unpacked (s .args .tape .now)} {at = s .args .at} {w = s .args .w} {m = unpacked (s .args .mapped .now)} {x = s .args .one .now}
+    {y = s .args .other .now}
     (rw (pairs-length n 0) (s .pre .2)) in
     rw sub-zero (start, omega arith, omega arith, refl)
 
@@ -101,7 +103,7 @@ loop-again c =
     let inv = test .before .loop .inv in
     let count = pairs-count n i h in
     let long = up-length (n - suc i) (suc i) (λ j. pairOf i j) in (
-      going-more (inv .0) isw-lawful n (sharePairs n i) _ (pairs-next n i h) (share-inside n i) (s .pre .0 .left) (s .pre .0 .right)
+      going-more (inv .0) (lawful (s .args .and)) n (sharePairs n i) _ (pairs-next n i h) (share-inside n i) (s .pre .0 .left) (s .pre .0 .right)
           (c .before .before .before .before .before .before .map-share .ensures)
           (omega (arith, long))
           (omega (arith, long)),

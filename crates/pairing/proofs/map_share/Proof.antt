@@ -8,9 +8,9 @@ use native.Mathlib.Omega.{arith}
 use Rattle.tables.specs.Packing.{unpacked}
 use Rattle.tables.proofs.Packing.{bytes-long}
 use Rattle.masks.specs.Shares.{upFrom, pairOf}
-use Rattle.masks.specs.Gadgets.{isw}
+use Rattle.masks.specs.Gadgets.{gadgetOf}
 use Rattle.masks.proofs.Sum.{up-length}
-use Rattle.masks.proofs.Lawful.{isw-lawful}
+use Rattle.masks.proofs.Lawful.{lawful}
 use Rattle.pieces.specs.Layout.{shareWires}
 use Rattle.driving.proofs.Before.{left-low, right-low, left-before, right-before}
 use Rattle.maps.proofs.Both.{both-less}
@@ -21,8 +21,8 @@ use Rattle.pairing.proofs.map_share.Statement.{statement}
 use Rattle.pairing.proofs.map_share.Tie as tie
 
 abbrev Inv-loop : tie.InvT-loop
-Inv-loop k n i w a b tape at mapped₀ one₀ other₀ ai bi later c₀ mapped one other c =
-    PairsGoing isw k (shareWires n a) (shareWires n b) (sharePairs n i) (unpacked tape) at w (unpacked mapped₀) one₀ other₀
+Inv-loop and k n i w a b tape at mapped₀ one₀ other₀ ai bi later c₀ mapped one other c =
+    PairsGoing (gadgetOf and) k (shareWires n a) (shareWires n b) (sharePairs n i) (unpacked tape) at w (unpacked mapped₀) one₀ other₀
     (upFrom (n - suc i - c) (suc i + c) (λ j. pairOf i j))
     (at + c)
     (w + 5 * c)
@@ -33,7 +33,7 @@ Inv-loop k n i w a b tape at mapped₀ one₀ other₀ ai bi later c₀ mapped o
     × (later ≡ n - suc i)
 
 abbrev μ-loop : tie.MeasureT-loop
-μ-loop k n i w a b tape at mapped₀ one₀ other₀ ai bi later c₀ mapped one other c = later - c
+μ-loop and k n i w a b tape at mapped₀ one₀ other₀ ai bi later c₀ mapped one other c = later - c
 
 share-wire-requires : tie.Need-share-wire-requires Inv-loop μ-loop
 share-wire-requires c κs = left-low (c .before .before .before .before .pre .1) (c .before .before .before .before .pre .0)
@@ -53,8 +53,9 @@ loop-holds c =
     let n = s .args .n in
     let i = s .args .i in
     let long = up-length (n - suc i) (suc i) (λ j. pairOf i j) in
-    let start = going-start isw (s .args .k) (shareWires n (s .args .a)) (shareWires n (s .args .b)) (sharePairs n i)
-    {ts = unpacked (s .args .tape .now)} {at = s .args .at} {w = s .args .w} {m = unpacked (s .args .mapped .now)} {x = s .args .one .now} {y = s .args .other .now}
+    let start = going-start (gadgetOf (s .args .and)) (s .args .k) (shareWires n (s .args .a)) (shareWires n (s .args .b)) (sharePairs n i)
+    {ts = unpacked (s .args .tape .now)} {at = s .args .at} {w = s .args .w} {m = unpacked (s .args .mapped .now)} {x = s .args .one .now}
+    {y = s .args .other .now}
     (rw long (s .pre .2)) in
     (rw (add-zero, add-zero, add-zero, sub-zero) start, omega arith, omega arith)
 
@@ -131,7 +132,8 @@ loop-again c =
     let A = shareWires n (s .args .a) in
     let B = shareWires n (s .args .b) in
     let inv = head .loop .inv in
-    let pair = one-pair isw (s .args .k) i j (s .args .w + 5 * k) A B (unpacked (s .args .tape .now)) (s .args .at + k) {p = i + 1} {q = j + 1}
+    let pair = one-pair (gadgetOf (s .args .and)) (s .args .k) i j (s .args .w + 5 * k) A B (unpacked (s .args .tape .now)) (s .args .at + k)
+    {p = i + 1} {q = j + 1}
     (head .before .before .share-wire .ensures .1 n h)
     (c .before .before .before .before .before .before .before .before .before .before .later-wire2 .ensures .1 n (below test))
     (c .before .before .before .before .before .before .before .before .before .before .before .later-wire .ensures .1 n (below test))
@@ -139,7 +141,7 @@ loop-again c =
     (omega arith)
     (omega arith)
     (c .before .before .before .before .before .before .map-pair .ensures) in (
-      going-more (inv .0) isw-lawful n (pairOf i j ∷ []) _ (share-next i (n - suc i) k (omega (arith, below test)))
+      going-more (inv .0) (lawful (s .args .and)) n (pairOf i j ∷ []) _ (share-next i (n - suc i) k (omega (arith, below test)))
           (pair-inside n i j (omega arith) (below test))
           (before .left)
           (before .right)

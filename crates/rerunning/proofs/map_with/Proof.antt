@@ -15,8 +15,9 @@ mul-split c =
 
 mul-split-2 : tie.Need-mul-split-2
 mul-split-2 c =
-    let W = c .before .before .before .before .before .before .before .before .before .before .before .before .pre .0 in
-    omega (arith, split-fits W, W .tape, plan-fits (W .plan) .tape, plan-fits (W .plan) .wires)
+    let s = c .before .before .before .before .before .before .before .before .before .before .before .before in
+    let W = s .pre .0 in
+    omega (arith, split-fits (s .args .and) W, W .tape, plan-fits (W .plan) .tape, plan-fits (W .plan) .wires)
 
 locate-requires : tie.Need-locate-requires
 locate-requires c κs =
@@ -27,17 +28,18 @@ begin-runs-requires : tie.Need-begin-runs-requires
 begin-runs-requires c κs =
     let q = c .before .before .before .before .before .before .before .before .before .before .before .before in
     let r = q .before .before .before .before .before .before .before .before .before .before .before .before in
-    begin-ready (r .before .pre .0)
+    begin-ready (r .before .args .and) (r .before .pre .0)
 
 map-gates-requires : tie.Need-map-gates-requires
 map-gates-requires c κs =
     let q = c .before .before .before .before .before .before .before .before .before .before .before .before in
     let l = q .before .before .before .before .before .before .before .before .before .before in
     let r = l .before .before .before .before .before .before .before .before .before .before .before .before in
-    let pre = r .before .before .before .before .pre in (
+    let s = r .before .before .before .before in
+    let pre = s .pre in (
       pre .0 .plan,
       plan-located (pre .0 .plan) (pre .1) (l .locate .ensures),
-      gates-ready (pre .0) (q .begin-runs .ensures),
+      gates-ready (s .args .and) (pre .0) (q .begin-runs .ensures),
     )
 
 same-length : tie.Need-same-length
@@ -64,7 +66,8 @@ returns c =
     let q = g .before .before .before .before .before .before .before .before .before .before .before .before .before in
     let l = q .before .before .before .before .before .before .before .before .before .before in
     let r = l .before .before .before .before .before .before .before .before .before .before .before .before in
-    work-done (r .before .before .before .before .pre .0) (q .begin-runs .ensures) _ (g .map-gates .ensures)
+    let s = r .before .before .before .before in
+    work-done (s .args .and) (s .pre .0) (q .begin-runs .ensures) _ (g .map-gates .ensures)
     (λ i. omega (arith, r .shared-slice-known4 .given i))
     (λ i. omega (arith, l .before .before .before .before .before .before .before .before .slice-known4 .given i))
     (λ i. omega (arith, c .before .before .before .before .slice-known13 .given i))

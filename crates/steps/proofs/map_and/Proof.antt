@@ -1,6 +1,7 @@
 -- `steps::map_and` meets its contract: the pairs, then the rows of each run.
 -- Assumes nothing.
 use native.Mathlib.Omega.{arith}
+use Rattle.masks.proofs.Lawful.{lawful}
 use Rattle.maps.proofs.Both.{both-less}
 use Rattle.steps.proofs.And.{rows-ready, and-ran}
 use borrow.Author.Needs.{needs}
@@ -23,24 +24,21 @@ map-pairs-requires c κs =
 
 run-rows-requires : tie.Need-run-rows-requires
 run-rows-requires c κs =
-    let s = c .before .before .before .before .before .before .before .before .before .before .before .before .before .before .before .before in
-    let ready = rows-ready (s .args .n) (s .args .k) (s .args .w) (s .args .a) (s .args .b) (s .pre .2) (c .before .before .before .before
-    .before .before .before .map-pairs .ensures) in
-    rw (c .before .before .before .before .before .before .before .before .before .before .before .pair-count .ensures) (
-      ready .0,
-      s .pre .0,
-      omega arith,
-      omega (arith, s .pre .1),
-    )
+    let ran = c .before .before .before .before .before .before .before in
+    let count = ran .before .before .before .before in
+    let s = count .before .before .before .before .before in
+    let a = s .args in
+    let ready = rows-ready (lawful (a .and)) (a .n) (a .k) (a .w) (a .a) (a .b) (s .pre .2) (ran .map-pairs .ensures) in
+    rw (count .pair-count .ensures) (ready .0, s .pre .0, omega arith, omega (arith, s .pre .1))
 
 run-rows-requires-2 : tie.Need-run-rows-requires-2
 run-rows-requires-2 c κs =
-    let s = c .before .before .before .before .before .before .before .before .before .before .before .before .before .before .before .before
-    .before .before .before .before in
-    let ready = rows-ready (s .args .n) (s .args .k) (s .args .w) (s .args .a) (s .args .b) (s .pre .2) (c .before .before .before .before
-    .before .before .before .before .before .before .before .map-pairs .ensures) in
-    rw (c .before .before .before .before .before .before .before .before .before .before .before .before .before .before .before .pair-count
-    .ensures) (ready .1, s .pre .0, omega arith, omega (arith, s .pre .1))
+    let ran = c .before .before .before .before .before .before .before .before .before .before .before in
+    let count = ran .before .before .before .before in
+    let s = count .before .before .before .before .before in
+    let a = s .args in
+    let ready = rows-ready (lawful (a .and)) (a .n) (a .k) (a .w) (a .a) (a .b) (s .pre .2) (ran .map-pairs .ensures) in
+    rw (count .pair-count .ensures) (ready .1, s .pre .0, omega arith, omega (arith, s .pre .1))
 
 same-length : tie.Need-same-length
 same-length c = search needs
@@ -53,14 +51,15 @@ same-length-3 c = search needs
 
 returns : tie.Need-returns
 returns c =
-    let s = c .before .before .before .before .before .before .before .before .before .before .before .before .before .before .before .before
-    .before .before .before .before .before .before .before in
-    let count = c .before .before .before .before .before .before .before .before .before .before .before .before .before .before .before .before
-    .before .before .pair-count .ensures in
-    and-ran (s .args .n) (s .args .k) (s .args .w) (s .args .a) (s .args .b) (s .pre .2) (c .before .before .before .before .before .before
-    .before .before .before .before .before .before .before .before .map-pairs .ensures)
-    (rw count at (c .before .before .before .before .before .before .run-rows .ensures))
-    (rw count at (c .before .before .run-rows2 .ensures))
+    let first = c .before .before .before .before .before .before in
+    let ran = first .before .before .before .before .before .before .before .before in
+    let count = ran .before .before .before .before in
+    let s = count .before .before .before .before .before in
+    let a = s .args in
+    let is = count .pair-count .ensures in
+    and-ran (lawful (a .and)) (a .n) (a .k) (a .w) (a .a) (a .b) (s .pre .2) (ran .map-pairs .ensures)
+    (rw is at (first .run-rows .ensures))
+    (rw is at (c .before .before .run-rows2 .ensures))
 
 pub map-and-spec : {M : Type 1} → statement M
 map-and-spec =

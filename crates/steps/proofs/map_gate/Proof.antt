@@ -4,6 +4,7 @@ use mathlib.Core.Path.{refl}
 use native.Mathlib.Omega.{arith}
 use borrow.Author.Needs.{needs}
 use Rattle.tables.specs.Packing.{unpacked}
+use Rattle.masks.specs.Gadgets.{gadgetOf}
 use Rattle.steps.proofs.ByKind.{constant-ready, not-ready, xor-ready, product-ready, ready-where, ran-where}
 use Rattle.steps.proofs.ByKind.{constant-gate, not-gate, xor-gate, product-gate}
 use Rattle.steps.proofs.map_gate.Statement.{statement}
@@ -46,7 +47,7 @@ returns c g =
     let first = c .before .before .before .before .before .before in
     let is = first .before .before in
     let s = start (is .before) .args in
-    constant-gate (s .left) (s .n) (s .k) g (s .w) _ _ (unpacked (s .tape .now)) (s .at) (is .if1 .taken) refl
+    constant-gate (gadgetOf (s .and)) (s .left) (s .n) (s .k) g (s .w) _ _ (unpacked (s .tape .now)) (s .at) (is .if1 .taken) refl
     (first .run-constants .ensures)
     (c .before .before .run-constants2 .ensures)
 
@@ -79,10 +80,10 @@ returns-2 c g =
     let is = first .before .before in
     let left = is .before in
     let s = start (left .before .before) .args in
-    ran-where (s .kind) (s .left) (s .n) (s .k) g (s .w) (unpacked (s .tape .now)) (s .at) _ _ _ _ _ _
+    ran-where (gadgetOf (s .and)) (s .kind) (s .left) (s .n) (s .k) g (s .w) (unpacked (s .tape .now)) (s .at) _ _ _ _ _ _
     (left .places-at .ensures .0)
     refl
-    (not-gate (s .left) (s .n) (s .k) g (s .w) _ _ (unpacked (s .tape .now)) (s .at) (is .if2 .taken)
+    (not-gate (gadgetOf (s .and)) (s .left) (s .n) (s .k) g (s .w) _ _ (unpacked (s .tape .now)) (s .at) (is .if2 .taken)
     (first .run-not .ensures)
     (c .before .before .run-not2 .ensures))
 
@@ -120,10 +121,10 @@ returns-3 c g =
     let right = is .before in
     let left = right .before .before in
     let s = start (left .before .before) .args in
-    ran-where (s .kind) (s .left) (s .n) (s .k) g (s .w) (unpacked (s .tape .now)) (s .at) _ _ _ _ _ _
+    ran-where (gadgetOf (s .and)) (s .kind) (s .left) (s .n) (s .k) g (s .w) (unpacked (s .tape .now)) (s .at) _ _ _ _ _ _
     (left .places-at .ensures .0)
     (right .places-at2 .ensures .0)
-    (xor-gate (s .left) (s .n) (s .k) g (s .w) _ _ (unpacked (s .tape .now)) (s .at) (is .if3 .taken)
+    (xor-gate (gadgetOf (s .and)) (s .left) (s .n) (s .k) g (s .w) _ _ (unpacked (s .tape .now)) (s .at) (is .if3 .taken)
     (first .run-xors .ensures)
     (c .before .before .run-xors2 .ensures))
 
@@ -152,10 +153,10 @@ returns-4 c g =
     let left = right .before .before in
     let begin = start (left .before .before) in
     let s = begin .args in
-    ran-where (s .kind) (s .left) (s .n) (s .k) g (s .w) (unpacked (s .tape .now)) (s .at) _ _ _ _ _ _
+    ran-where (gadgetOf (s .and)) (s .kind) (s .left) (s .n) (s .k) g (s .w) (unpacked (s .tape .now)) (s .at) _ _ _ _ _ _
     (left .places-at .ensures .0)
     (right .places-at2 .ensures .0)
-    (product-gate (s .kind) (s .left) (s .n) (s .k) g (s .w) _ _ (unpacked (s .tape .now)) (s .at) (begin .pre .2 .plain)
+    (product-gate (gadgetOf (s .and)) (s .kind) (s .left) (s .n) (s .k) g (s .w) _ _ (unpacked (s .tape .now)) (s .at) (begin .pre .2 .plain)
     (left .before .if1 .left)
     (right .before .if2 .left)
     (is .if3 .left)

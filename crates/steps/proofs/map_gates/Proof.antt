@@ -8,7 +8,9 @@ use borrow.Author.Needs.{needs}
 use Rattle.tables.specs.Packing.{unpacked}
 use Rattle.tables.proofs.Packing.{bytes-long}
 use Rattle.tables.specs.Tables.{kindOf, tableOf}
+use Rattle.masks.specs.Gadgets.{gadgetOf}
 use Rattle.masks.specs.Wires.{cost}
+use Rattle.masks.proofs.Lawful.{lawful}
 use Rattle.placing.specs.Located.{placesAt}
 use Rattle.placing.proofs.Turns.{plan-sized}
 use Rattle.steps.specs.Steps.{StepReady}
@@ -17,11 +19,11 @@ use Rattle.steps.proofs.map_gates.Statement.{statement}
 use Rattle.steps.proofs.map_gates.Tie as tie
 
 abbrev Inv-loop : tie.InvT-loop
-Inv-loop table k head base step tape at mapped₀ one₀ other₀ n gates costs w₀ next₀ g₀ mapped one other w next g =
-    Going (tableOf table) n k (unpacked tape) at (unpacked mapped₀) one₀ other₀ g w next (unpacked mapped) one other
+Inv-loop and table k head base step tape at mapped₀ one₀ other₀ n gates costs w₀ next₀ g₀ mapped one other w next g =
+    Going (gadgetOf and) (tableOf table) n k (unpacked tape) at (unpacked mapped₀) one₀ other₀ g w next (unpacked mapped) one other
 
 abbrev μ-loop : tie.MeasureT-loop
-μ-loop table k head base step tape at mapped₀ one₀ other₀ n gates costs w₀ next₀ g₀ mapped one other w next g =
+μ-loop and table k head base step tape at mapped₀ one₀ other₀ n gates costs w₀ next₀ g₀ mapped one other w next g =
     gates - g
 
 slice-aggregate-note-costs : tie.Need-slice-aggregate-note-costs Inv-loop μ-loop
@@ -36,7 +38,7 @@ mul-w c = omega (arith, plan-sized (c .before .before .before .before .before .b
 loop-holds : tie.Need-loop-holds Inv-loop μ-loop
 loop-holds c =
     let s = c .before .before .before .before .before .before .before .before .before .before .before .before in
-    steps-start (s .args .k) (s .pre .0) refl (s .pre .2)
+    steps-start (lawful (s .args .and)) (s .args .k) (s .pre .0) refl (s .pre .2)
 
 gate-at-requires : tie.Need-gate-at-requires Inv-loop μ-loop
 gate-at-requires c κs =
@@ -61,13 +63,14 @@ ready :
     (unpacked (s .tape .now)) (l .next) (unpacked (l .mapped)) (l .one) (l .other)
 ready g =
     let s = start g in
-    step-ready (s .pre .0) (g .before .before .loop .inv) (g .before .loop-test .taken) (g .gate-at .ensures) (s .pre .1)
+    step-ready (lawful (s .args .and)) (s .pre .0) (g .before .before .loop .inv) (g .before .loop-test .taken) (g .gate-at .ensures) (s .pre .1)
 
 map-gate-requires : tie.Need-map-gate-requires Inv-loop μ-loop
 map-gate-requires c κs =
     let g = c .before .before .before in
     let s = start g in
-    let room = step-room (s .pre .0) (g .before .before .loop .inv) (g .before .loop-test .taken) (g .gate-at .ensures) (s .pre .1) in
+    let head = g .before .before in
+    let room = step-room (lawful (s .args .and)) (s .pre .0) (head .loop .inv) (g .before .loop-test .taken) (g .gate-at .ensures) (s .pre .1) in
     (room .0, room .1, ready g)
 
 slice-aggregate-noted-cost : tie.Need-slice-aggregate-noted-cost Inv-loop μ-loop
@@ -109,7 +112,7 @@ loop-again c =
     let g = gate (c .before) in
     let head = g .before .before in
     let s = start g in
-    step-turn (s .pre .0) (head .loop .inv) (g .before .loop-test .taken) (g .gate-at .ensures) (s .pre .1)
+    step-turn (lawful (s .args .and)) (s .pre .0) (head .loop .inv) (g .before .loop-test .taken) (g .gate-at .ensures) (s .pre .1)
     (c .before .before .before .before .before .before .before .before .before .map-gate .ensures (head .loop .g))
     (costs (c .before))
     (c .gate-draws .ensures)
@@ -125,7 +128,7 @@ long :
 long c =
     let s = c .before .before .before .before .before .before .before .before .before .before .before .before .before .before in
     let now = steps-long (c .before .loop .inv) in
-    let first = steps-long (steps-start (s .args .k) {at = s .args .at} (s .pre .0) refl (s .pre .2)) in
+    let first = steps-long (steps-start (lawful (s .args .and)) (s .args .k) {at = s .args .at} (s .pre .0) refl (s .pre .2)) in
     (bytes-long (c .before .loop .mapped) (s .args .mapped .now) (now .0 ∙ sym (first .0)), now .1 ∙ sym (first .1), now .2 ∙ sym (first .2))
 
 same-length : tie.Need-same-length Inv-loop μ-loop

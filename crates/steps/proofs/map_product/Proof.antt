@@ -6,6 +6,7 @@ use Prim.Native.Nat.{ℕ}
 use native.Mathlib.Omega.{arith}
 use borrow.Author.Needs.{needs}
 use Rattle.masks.specs.Wires.{firstOn}
+use Rattle.masks.proofs.Lawful.{lawful}
 use Rattle.pieces.specs.declared.Places as DP
 use Rattle.pieces.specs.Layout.{shareWires}
 use Rattle.steps.proofs.Or.{Begun, product-nots-ready, product-and-ready, product-last-ready, product-ran}
@@ -85,7 +86,7 @@ run-last-not-requires : tie.Need-run-last-not-requires
 run-last-not-requires c κs =
     let ran = c .before .before .before .before .before .before .before .before in
     let s = given (nots ran) in
-    product-last-ready (s .args .or) _ (s .pre) (begun (nots ran)) (ran .map-and .ensures)
+    product-last-ready (lawful (s .args .and)) (s .args .or) _ (s .pre) (begun (nots ran)) (ran .map-and .ensures)
 
 same-length : tie.Need-same-length
 same-length c = search needs
@@ -101,7 +102,7 @@ returns c =
     let last = c .before .before .before .before in
     let ran = last .before .before .before .before .before .before .before .before .before in
     let s = given (nots ran) in
-    product-ran (s .args .or) (s .args .k) (s .pre) (begun (nots ran)) (ran .map-and .ensures)
+    product-ran (lawful (s .args .and)) (s .args .or) (s .args .k) (s .pre) (begun (nots ran)) (ran .map-and .ensures)
     (last .run-last-not .ensures .0)
     (last .run-last-not .ensures .1)
 
