@@ -16,30 +16,42 @@ enum-known-planned c = search needs
 refused-requires : tie.Need-refused-requires
 refused-requires c κs = search needs
 
+-- what the function was given
+abbrev start : tie.After-map-fault → tie.Start
+start c = c .before .before .before .before .before .before .before .before .before
+
 returns : tie.Need-returns
 returns c =
-    map-refused _ _ _ _ _ _ _ _ _ (c .before .before .before .before .map-fault .ensures) (c .before .before .planned .given .1) (c .refused .ensures)
+    let planned = c .before .before .before .before in
+    let and = start planned .args .and in
+    map-refused and _ _ _ _ _ _ _ _ _ (planned .map-fault .ensures and) (c .before .before .planned .given .1) (c .refused .ensures)
 
 enum-known-planned-2 : tie.Need-enum-known-planned-2
 enum-known-planned-2 c = search needs
 
 free-share-requires : tie.Need-free-share-requires
 free-share-requires c κs =
-    free-ready _ _ _ _ _ _ _ _ _ (c .before .before .before .map-fault .ensures) (c .before .planned2 .given .1)
+    let planned = c .before .before .before in
+    let and = start planned .args .and in
+    free-ready and _ _ _ _ _ _ _ _ _ (planned .map-fault .ensures and) (c .before .planned2 .given .1)
 
 map-work-requires : tie.Need-map-work-requires
 map-work-requires c κs =
     let q = c .before .before .before in
-    work-ready _ _ _ _ _ _ _ _ _ (q .before .before .before .before .map-fault .ensures) (q .before .before .planned2 .given .1)
+    let planned = q .before .before .before .before in
+    let and = start planned .args .and in
+    work-ready and _ _ _ _ _ _ _ _ _ (planned .map-fault .ensures and) (q .before .before .planned2 .given .1)
     (q .free-share .ensures)
     refl refl refl
 
-cast-t24 : tie.Need-cast-t24
-cast-t24 c =
+cast-t25 : tie.Need-cast-t25
+cast-t25 c =
     let q = c .before .before .before .before .before .before .before .before .before .before in
+    let planned = q .before .before .before .before in
+    let and = start planned .args .and in
     omega (
       arith,
-      free-small _ _ _ _ _ _ _ _ _ (q .before .before .before .before .map-fault .ensures) (q .before .before .planned2 .given .1)
+      free-small and _ _ _ _ _ _ _ _ _ (planned .map-fault .ensures and) (q .before .before .planned2 .given .1)
           (q .free-share .ensures),
     )
 
@@ -55,7 +67,9 @@ same-length-3 c = search needs
 returns-2 : tie.Need-returns-2
 returns-2 c =
     let q = c .before .before .before .before .before .before .before .before .before .before in
-    map-done _ _ _ _ _ _ _ _ _ (q .before .before .before .before .map-fault .ensures) (q .before .before .planned2 .given .1)
+    let planned = q .before .before .before .before in
+    let and = start planned .args .and in
+    map-done and _ _ _ _ _ _ _ _ _ (planned .map-fault .ensures and) (q .before .before .planned2 .given .1)
     (q .free-share .ensures)
     (c .before .before .before .before .before .before .map-work .ensures)
 
@@ -70,7 +84,7 @@ map-tape-spec =
     enum-known-planned-2
     free-share-requires
     map-work-requires
-    cast-t24
+    cast-t25
     same-length
     same-length-2
     same-length-3
