@@ -176,6 +176,15 @@ impl Drop for Folder {
     }
 }
 
+/// A command's words with --dom after the first, for the DOM AND.
+pub fn with_and<'a>(and: And, arguments: &[&'a str]) -> Vec<&'a str> {
+    let mut all = arguments.to_vec();
+    if and == And::Dom {
+        all.insert(1, "--dom");
+    }
+    all
+}
+
 /// The masked table that the separate implementation gives, with document 01's AND.
 pub fn masked(order: u8, table: &[u8]) -> Result<Vec<u8>, String> {
     masked_with(And::Isw, order, table)
