@@ -35,6 +35,16 @@ too_large() {
     if [ "$fits" -eq 0 ]; then why="$why; no order fits"; else why="$why; the largest order that fits is $fits"; fi
 }
 
+# Sets the AND of a command whose first word may be --dom: its name, its source, the text from which printf makes its byte. Sets skip,
+# the number of words that this takes.
+take_and() {
+    case ${2-} in
+    --dom) and=DOM and_of="VERISICC Deliverable L2.3" and_byte='\001' skip=1 ;;
+    --*) die "$1 has no option '$2', only --dom" ;;
+    *) and=ISW and_of="Ishai, Sahai and Wagner" and_byte='\000' skip=0 ;;
+    esac
+}
+
 # The order as a number without leading zeros, and as the text from which printf makes its byte; above 255 it is as wrong as 255.
 take_order() {
     case $1 in
@@ -57,11 +67,11 @@ take_table() {
         die "'$1' cannot be read, or there is no room for a copy in $scratch"
 }
 
-# What is given to a program that takes an order and a table.
+# What is given to a program: the order and the table, after the bytes given, as text from which printf makes them.
 order_and_table() {
-    # The format is the byte itself.
+    # The format is the bytes themselves.
     # shellcheck disable=SC2059
-    printf "$order_byte" && cat "$scratch/table"
+    printf "${1-}$order_byte" && cat "$scratch/table"
 }
 
 # The file to write, and the one beside it that is renamed to it.
@@ -121,7 +131,7 @@ find_forecast() {
 
 # Masks scratch/table into a file, and compares the sizes of what was written with the forecast.
 write_masked() {
-    order_and_table | "$kept/mask" >"$1" 2>"$scratch/told"
+    order_and_table "$and_byte" | "$kept/mask" >"$1" 2>"$scratch/told"
     status=$?
     if read -r told number place <"$scratch/told" && [ "$told" = refused ]; then
         refused "$number" "$place"
@@ -139,7 +149,9 @@ write_masked() {
 proved_in="'demands' in crates/maps/proofs/Whole.antt"
 
 mask() {
-    [ $# -eq 3 ] || die "mask takes an order, a table and a file to write: fantzori mask ORDER TABLE OUT"
+    take_and mask "$@"
+    shift "$skip"
+    [ $# -eq 3 ] || die "mask takes an order, a table and a file to write: fantzori mask [--dom] ORDER TABLE OUT"
     start
     take_order "$1"
     take_out "$3"
@@ -152,14 +164,16 @@ mask() {
     mv -f -- "$beside" "$out" 2>/dev/null || die "'$3' cannot be written"
     beside=''
     print "'$3' is written, but standard output is not" <<TXT
-$shares shares, $masked_wires wires, $tape_bits tape bits
+$shares shares, $masked_wires wires, $tape_bits tape bits, AND: $and
 Whoever reads at most $order of the wires, whichever, learns nothing of the secrets: $proved_in
 SHA-256 $plain_sum of the table, $masked_sum of the masked one
 TXT
 }
 
 certify() {
-    [ $# -eq 3 ] || die "certify takes an order, a table and a masked table: fantzori certify ORDER TABLE MASKED"
+    take_and certify "$@"
+    shift "$skip"
+    [ $# -eq 3 ] || die "certify takes an order, a table and a masked table: fantzori certify [--dom] ORDER TABLE MASKED"
     start
     take_order "$1"
     take_table "$2" "$most" table
@@ -170,6 +184,7 @@ certify() {
     print <<TXT
 Certificate of masking
   order         $order: at most $order of the wires are read together
+  AND           $and, of $and_of
   shares        $shares for each bit
   wires         $masked_wires in the masked table
   tape          $tape_bits random bits for each run
@@ -179,7 +194,7 @@ Certificate of masking
   sources       SHA-256 key $key
   toolchain     $toolchain
   date          $(date -u +%Y-%m-%d)
-The masked table is, byte for byte, the one that masking the plain table at order $order gives.
+The masked table is, byte for byte, the one that masking the plain table at order $order with the $and AND gives.
 Whoever reads at most $order of its wires, whichever, learns nothing of the secrets; docs/ASSURANCE.md says what this rests on.
 TXT
 }
@@ -188,7 +203,7 @@ TXT
 tell_difference() {
     long=$(wc -c <"$scratch/given") due=$(wc -c <"$scratch/masked")
     # shellcheck disable=SC2046
-    set -- "'$1' is not '$2' masked at order $order:" $(cmp -l "$scratch/given" "$scratch/masked" 2>/dev/null | head -n 1)
+    set -- "'$1' is not '$2' masked at order $order with the $and AND:" $(cmp -l "$scratch/given" "$scratch/masked" 2>/dev/null | head -n 1)
     if [ $# -eq 4 ]; then
         printf '%s byte %d is %02x, and should be %02x\n' "$1" "$(($2 - 1))" "0$3" "0$4" >&2
     elif [ "$long" -lt "$due" ]; then

@@ -19,6 +19,10 @@
  * Each of these is packed for itself: eight bits to a byte, lowest bit first, the number of bytes rounded up, the unused high bits
  * of the last byte 0. The tape 1 0 0 1 1 0 1 is the byte 0x59; where its first four bits are for encoding, masks_encode takes 0x09
  * and masks_run 0x05.
+ *
+ * There are two ANDs. masks_mask, masks_marks_of and masks_map have that of Ishai, Sahai and Wagner; the same names with _dom at the
+ * end have the DOM AND, also inside an OR, with the same parameters, answers, sizes and tapes. A masked table, its marks and its map
+ * belong together: they are of one AND.
  */
 #ifndef MASKS_H
 #define MASKS_H
@@ -27,7 +31,7 @@
 #include <stdint.h>
 
 /* Before version 1.0.0 a call may still change. */
-#define MASKS_VERSION "0.3.0"
+#define MASKS_VERSION "0.4.0"
 
 #ifdef __cplusplus
 extern "C" {
@@ -97,6 +101,9 @@ struct masks_sizes masks_forecast(const uint8_t *table, size_t table_len, uint8_
 /* Masks a plain table at an order. Value: the bytes written to out. Refusals 1 to 9. Stack: under 400 KiB. */
 struct masks_answer masks_mask(const uint8_t *table, size_t table_len, uint8_t order, uint8_t *out, size_t out_len);
 
+/* The same with the DOM AND. Refusals 1 to 9. Stack: under 400 KiB. */
+struct masks_answer masks_mask_dom(const uint8_t *table, size_t table_len, uint8_t order, uint8_t *out, size_t out_len);
+
 /* Encodes secret bits into 2t + 1 share bits each, with 2t tape bits each, packed. Value: the bits written to out. Refusals 6, 8,
  * 10, 11, 9. Stack: under 1 KiB. */
 struct masks_answer masks_encode(uint8_t order, const uint8_t *secrets, size_t secrets_len, const uint8_t *tape,
@@ -114,6 +121,9 @@ struct masks_answer masks_run(const uint8_t *table, size_t table_len, const uint
 /* The share numbers that a wire of the masked table carries. Refusals 1 to 8, 13. Stack: under 1 KiB. */
 struct masks_marks masks_marks_of(const uint8_t *table, size_t table_len, uint8_t order, uint32_t wire);
 
+/* The same of the table that masks_mask_dom writes. Refusals 1 to 8, 13. Stack: under 1 KiB. */
+struct masks_marks masks_marks_of_dom(const uint8_t *table, size_t table_len, uint8_t order, uint32_t wire);
+
 /* Maps a packed tape from the first secret to the second, so that each probe, a wire of the masked table, keeps its value. Writes
  * the mapped tape, packed too, to mapped, the masked table's wire values with the first secret and the tape to one, and those with
  * the second secret and the mapped tape to other. Value: the free share, the smallest share number that no probe carries.
@@ -122,6 +132,12 @@ struct masks_answer masks_map(const uint8_t *table, size_t table_len, uint8_t or
                               const uint8_t *second, size_t second_len, const uint8_t *tape, size_t tape_len,
                               const uint32_t *probes, size_t probes_len, uint8_t *mapped, size_t mapped_len, uint8_t *one,
                               size_t one_len, uint8_t *other, size_t other_len);
+
+/* The same of the table that masks_mask_dom writes. Refusals 1 to 8, 10 to 13, 9. Stack: under 400 KiB. */
+struct masks_answer masks_map_dom(const uint8_t *table, size_t table_len, uint8_t order, const uint8_t *first, size_t first_len,
+                                  const uint8_t *second, size_t second_len, const uint8_t *tape, size_t tape_len,
+                                  const uint32_t *probes, size_t probes_len, uint8_t *mapped, size_t mapped_len, uint8_t *one,
+                                  size_t one_len, uint8_t *other, size_t other_len);
 
 #ifdef __cplusplus
 }

@@ -4,7 +4,7 @@ use std::cell::RefCell;
 use std::hint::black_box;
 
 use compare::masks::{Masks, Outcome};
-use compare::model::MOST;
+use compare::model::{And, MOST};
 
 /// The bytes of the longest table.
 const LONGEST: usize = 6 + (5 + 2) * MOST;
@@ -47,7 +47,7 @@ impl Masks for Copying {
         self.copy(&[table], &mut [])
     }
 
-    fn mask(&self, table: &[u8], _: u8, out: &mut [u8]) -> Outcome {
+    fn mask(&self, _: And, table: &[u8], _: u8, out: &mut [u8]) -> Outcome {
         self.copy(&[table], &mut [out])
     }
 
@@ -70,12 +70,13 @@ impl Masks for Copying {
         self.copy(&[table, inputs, random], &mut [values, outputs])
     }
 
-    fn marks(&self, table: &[u8], _: u8, _: u32) -> Outcome {
+    fn marks(&self, _: And, table: &[u8], _: u8, _: u32) -> Outcome {
         self.copy(&[table], &mut [])
     }
 
     fn map(
         &self,
+        _: And,
         table: &[u8],
         _: u8,
         first: &[u8],

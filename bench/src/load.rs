@@ -2,7 +2,7 @@
 //! seed.
 
 use compare::circuit::{Circuit, Gate, constant, random};
-use compare::model::{self, CONSTANT, NOT, OR, RANDOM, XOR};
+use compare::model::{self, And, CONSTANT, NOT, OR, RANDOM, XOR};
 use compare::rng::Rng;
 
 /// The inputs and outputs of every generated table.
@@ -75,13 +75,21 @@ impl Running {
     }
 }
 
-/// A plain table at an order, its masked table with what it takes to run it, and a map.
+/// A plain table at an order, its masked table with what it takes to run it, and a map. The AND is
+/// document 01's, or the DOM AND.
 pub struct Masking {
+    pub and: And,
     pub plain: Vec<u8>,
     pub order: u8,
     pub sizes: model::Sizes,
     pub masked: Running,
     pub mapping: Mapping,
+}
+
+fn masked_table(and: And, plain: &[u8], order: u8, sizes: &model::Sizes) -> Vec<u8> {
+    let mut table = vec![0; sizes.bytes as usize];
+    model::mask(and, plain, order, &mut table).expect("the buffer is as long as forecast");
+    table
 }
 
 /// What a map takes beside the table and the order: the first secrets, the second ones, a tape,
@@ -96,9 +104,7 @@ pub struct Mapping {
 impl Masking {
     pub fn new(rng: &mut Rng, plain: Vec<u8>, order: u8) -> Self {
         let sizes = model::forecast(&plain, order).expect("the table can be masked");
-        let mut table = vec![0; sizes.bytes as usize];
-        model::mask(&plain, order, &mut table).expect("the buffer is as long as forecast");
-        let masked = Running::new(rng, table);
+        let masked = Running::new(rng, masked_table(And::Isw, &plain, order, &sizes));
         let inputs = masked.inputs.len() / sizes.shares as usize;
         let mapping = Mapping {
             first: rng.bits(inputs),
@@ -106,7 +112,14 @@ impl Masking {
             tape: rng.tape(sizes.tape as usize),
             probes: (0..order).map(|_| rng.below(masked.wires) as u32).collect(),
         };
-        Masking { plain, order, sizes, masked, mapping }
+        Masking { and: And::Isw, plain, order, sizes, masked, mapping }
+    }
+
+    /// The same with the DOM AND.
+    pub fn with_dom(mut self) -> Self {
+        self.and = And::Dom;
+        self.masked.table = masked_table(self.and, &self.plain, self.order, &self.sizes);
+        self
     }
 
     /// The number of masked wires.

@@ -7,7 +7,8 @@
 //!     bench stack            prints how much stack each call of the archive takes
 //!
 //! Where BENCH_OLD_KINDS is set, the tables with constants and ORs, which come last, are left out: so an
-//! archive that has not these kinds can be measured.
+//! archive that has not these kinds can be measured. One that has no DOM AND can be measured without
+//! the feature `dom`.
 //!
 //! All are called through the same trait on slices, with buffers that are lent once and used
 //! again; none is inlined into the loop that measures it. A size is measured on as many different
@@ -91,7 +92,20 @@ fn report(files: &[String]) -> Result<(), String> {
 fn print_stack() {
     println!("call              ours      Rust  bytes of stack");
     let rows = all_rows(stack::taken);
-    for call in ["check", "forecast", "mask", "run", "marks", "encode", "decode", "map"] {
+    const CALLS: [&str; 11] = [
+        "check",
+        "forecast",
+        "mask",
+        "run",
+        "marks",
+        "encode",
+        "decode",
+        "map",
+        "mask DOM",
+        "marks DOM",
+        "map DOM",
+    ];
+    for call in CALLS {
         let of_call = rows.iter().filter(|row| row.call.split(',').next() == Some(call));
         let most = |stack: fn(&Row) -> f64| of_call.clone().map(stack).fold(0.0, f64::max);
         if of_call.clone().next().is_some() {
@@ -133,10 +147,8 @@ fn sized(gauge: Gauge, rng: &mut Rng) -> Vec<Row> {
     on_maskings("mask", mask);
     on_maskings("run", |gauge, maskings| run(gauge, &masked(maskings)));
     on_maskings("marks", marks);
-    if cfg!(feature = "map") {
-        on_maskings("map", map);
-        on_maskings(MAP_AGAINST_RUNS, map_and_two_runs);
-    }
+    on_maskings("map", map);
+    on_maskings(MAP_AGAINST_RUNS, map_and_two_runs);
     for call in [encode, decode] {
         for order in ORDERS {
             rows.extend(SIZES.map(|size| call(gauge, rng, order, size)));
@@ -185,9 +197,7 @@ fn largest(gauge: Gauge, rng: &mut Rng) -> Vec<Row> {
     {
         let maskings = [Masking::new(rng, plain, 1)];
         rows.push(masking_row(&format!("mask, {name}"), &maskings, mask(gauge, &maskings)));
-        if cfg!(feature = "map") {
-            rows.push(masking_row(&format!("map, {name}"), &maskings, map(gauge, &maskings)));
-        }
+        rows.push(masking_row(&format!("map, {name}"), &maskings, map(gauge, &maskings)));
     }
     rows
 }
@@ -213,6 +223,7 @@ fn plain(gauge: Gauge, rng: &mut Rng) -> Vec<Row> {
 
 /// Tables with gates of all kinds, in a random order: of all six, and of the five of plain tables; those
 /// plain ones at each order whose masked tables have the largest size, and a plain one of that size.
+/// At last the calls with the DOM AND.
 fn all_kinds(gauge: Gauge, rng: &mut Rng) -> Vec<Row> {
     let mut rows = Vec::new();
     let table = any_table(rng, MOST_WIRES, &KINDS);
@@ -231,9 +242,26 @@ fn all_kinds(gauge: Gauge, rng: &mut Rng) -> Vec<Row> {
     on_maskings("mask, 5 kinds", mask);
     on_maskings("run, 5 kinds", |gauge, maskings| run(gauge, &masked(maskings)));
     on_maskings("marks, 5 kinds", marks);
-    if cfg!(feature = "map") {
-        on_maskings("map, 5 kinds", map);
+    on_maskings("map, 5 kinds", map);
+    if cfg!(feature = "dom") {
+        rows.extend(dom(gauge, rng, maskings.into_iter().flatten().collect()));
     }
+    rows
+}
+
+/// The calls with the DOM AND, on the largest table of ANDs and on the plain tables of all kinds.
+fn dom(gauge: Gauge, rng: &mut Rng, all_kinds: Vec<Masking>) -> Vec<Row> {
+    let ands = [Masking::new(rng, and_chain(2_730), 1).with_dom()];
+    let all_kinds: Vec<Masking> = all_kinds.into_iter().map(Masking::with_dom).collect();
+    let mut rows = Vec::new();
+    let mut on = |call, maskings: &[Masking], measured: fn(Gauge, &[Masking]) -> Times| {
+        rows.extend(maskings.chunks(1).map(|one| masking_row(call, one, measured(gauge, one))));
+    };
+    on("mask DOM, ANDs", &ands, mask);
+    on("map DOM, ANDs", &ands, map);
+    on("mask DOM, 5", &all_kinds, mask);
+    on("marks DOM, 5", &all_kinds, marks);
+    on("map DOM, 5", &all_kinds, map);
     rows
 }
 
@@ -335,7 +363,7 @@ fn mask(gauge: Gauge, maskings: &[Masking]) -> Times {
         gauge,
         maskings,
         |masking| [masking.sizes.bytes as usize],
-        |masks, masking, [out]| masks.mask(&masking.plain, masking.order, out),
+        |masks, masking, [out]| masks.mask(masking.and, &masking.plain, masking.order, out),
     )
 }
 
@@ -363,7 +391,10 @@ fn marks(gauge: Gauge, maskings: &[Masking]) -> Times {
         gauge,
         maskings,
         |_| [],
-        |masks, masking, []| masks.marks(&masking.plain, masking.order, masking.sizes.wires - 1),
+        |masks, masking, []| {
+            let Masking { and, plain, order, sizes, .. } = masking;
+            masks.marks(*and, plain, *order, sizes.wires - 1)
+        },
     )
 }
 
@@ -408,9 +439,9 @@ fn map_once(
     masking: &Masking,
     [mapped, one, other]: &mut [Vec<u8>; 3],
 ) -> Outcome {
-    let Masking { plain, order, mapping, .. } = masking;
+    let Masking { and, plain, order, mapping, .. } = masking;
     let Mapping { first, second, tape, probes } = mapping;
-    masks.map(plain, *order, first, second, tape, probes, mapped, one, other)
+    masks.map(*and, plain, *order, first, second, tape, probes, mapped, one, other)
 }
 
 /// The archive's map, against two of its runs of the masked table, and the map's copying.

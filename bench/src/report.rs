@@ -13,7 +13,8 @@ share bits, in plain check, plain forecast and forecast / check those of the pla
 the time for each wire at the largest size against the smallest. An AND takes 24, 75, 750 and 3,286
 wires at order 1, 2, 7 and 15: at 15 the smallest tables have none. Rows with 5 or 6 kinds, the last
 ones, are of tables with gates of all plain kinds, or of all kinds; the others have no constants and
-no ORs.";
+no ORs. Rows with DOM are of the calls with the DOM AND, on tables that other rows have: the 2,730
+ANDs, and those with 5 kinds.";
 
 /// The calls of rows that compare two of the library's own calls.
 pub const MAP_AGAINST_RUNS: &str = "map / 2 runs";

@@ -4,42 +4,56 @@ use std::fmt;
 
 use crate::generate::{KINDS, PLAIN_KINDS};
 use crate::masks::{Masks, Outcome};
+use crate::model::And;
 
-/// The eight calls.
+/// The calls.
 #[derive(Clone, Copy, Debug, PartialEq, Eq)]
 pub enum Call {
     Check,
     Forecast,
-    Mask,
+    Mask(And),
     Encode,
     Decode,
     Run,
-    Marks,
-    Map,
+    Marks(And),
+    Map(And),
 }
 
 impl Call {
-    pub const ALL: [Call; 8] = [
+    /// All of them; those with the DOM AND come last.
+    pub const ALL: [Call; 11] = [
         Call::Check,
         Call::Forecast,
-        Call::Mask,
+        Call::Mask(And::Isw),
         Call::Encode,
         Call::Decode,
         Call::Run,
-        Call::Marks,
-        Call::Map,
+        Call::Marks(And::Isw),
+        Call::Map(And::Isw),
+        Call::Mask(And::Dom),
+        Call::Marks(And::Dom),
+        Call::Map(And::Dom),
     ];
+
+    /// The call's place among all.
+    pub fn index(self) -> usize {
+        let at = Call::ALL.iter().position(|&call| call == self);
+        at.expect("all calls are listed")
+    }
 
     pub fn name(self) -> &'static str {
         match self {
             Call::Check => "check",
             Call::Forecast => "forecast",
-            Call::Mask => "mask",
+            Call::Mask(And::Isw) => "mask",
+            Call::Mask(And::Dom) => "mask_dom",
             Call::Encode => "encode",
             Call::Decode => "decode",
             Call::Run => "run",
-            Call::Marks => "marks",
-            Call::Map => "map",
+            Call::Marks(And::Isw) => "marks",
+            Call::Marks(And::Dom) => "marks_dom",
+            Call::Map(And::Isw) => "map",
+            Call::Map(And::Dom) => "map_dom",
         }
     }
 
@@ -62,18 +76,18 @@ impl Call {
         match self {
             Call::Check => &[1, 2, 3, 4, 5],
             Call::Forecast => &[1, 2, 3, 4, 5, 6, 7, 8],
-            Call::Mask => &[1, 2, 3, 4, 5, 6, 7, 8, 9],
+            Call::Mask(_) => &[1, 2, 3, 4, 5, 6, 7, 8, 9],
             Call::Encode | Call::Decode => &[6, 8, 9, 10, 11],
             Call::Run => &[1, 2, 3, 4, 5, 9, 10, 11],
-            Call::Marks => &[1, 2, 3, 4, 5, 6, 7, 8, 13],
-            Call::Map => &[1, 2, 3, 4, 5, 6, 7, 8, 9, 10, 11, 12, 13],
+            Call::Marks(_) => &[1, 2, 3, 4, 5, 6, 7, 8, 13],
+            Call::Map(_) => &[1, 2, 3, 4, 5, 6, 7, 8, 9, 10, 11, 12, 13],
         }
     }
 
     /// Whether the call can give a place other than 0 with one of its refusals.
     pub fn has_place(self, number: u8) -> bool {
         match number {
-            13 => self == Call::Map,
+            13 => matches!(self, Call::Map(_)),
             _ => [3, 4, 5, 7, 11].contains(&number),
         }
     }
@@ -84,17 +98,18 @@ impl Call {
 pub enum Case {
     Check { table: Vec<u8> },
     Forecast { table: Vec<u8>, order: u8 },
-    Mask { table: Vec<u8>, order: u8, out: usize },
+    Mask { and: And, table: Vec<u8>, order: u8, out: usize },
     Encode { order: u8, secrets: Vec<u8>, tape: Vec<u8>, out: usize },
     Decode { order: u8, shares: Vec<u8>, out: usize },
     Run { table: Vec<u8>, inputs: Vec<u8>, random: Vec<u8>, values: usize, outputs: usize },
-    Marks { table: Vec<u8>, order: u8, wire: u32 },
+    Marks { and: And, table: Vec<u8>, order: u8, wire: u32 },
     Map(MapCase),
 }
 
 /// What is given to the map.
 #[derive(Clone, Debug, PartialEq, Eq)]
 pub struct MapCase {
+    pub and: And,
     pub table: Vec<u8>,
     pub order: u8,
     pub first: Vec<u8>,
@@ -108,15 +123,15 @@ pub struct MapCase {
 
 impl Case {
     pub fn call(&self) -> Call {
-        match self {
+        match *self {
             Case::Check { .. } => Call::Check,
             Case::Forecast { .. } => Call::Forecast,
-            Case::Mask { .. } => Call::Mask,
+            Case::Mask { and, .. } => Call::Mask(and),
             Case::Encode { .. } => Call::Encode,
             Case::Decode { .. } => Call::Decode,
             Case::Run { .. } => Call::Run,
-            Case::Marks { .. } => Call::Marks,
-            Case::Map(_) => Call::Map,
+            Case::Marks { and, .. } => Call::Marks(and),
+            Case::Map(MapCase { and, .. }) => Call::Map(and),
         }
     }
 
@@ -165,7 +180,9 @@ impl Case {
         match (self, buffers) {
             (Case::Check { table }, []) => masks.check(table),
             (Case::Forecast { table, order }, []) => masks.forecast(table, *order),
-            (Case::Mask { table, order, .. }, [out]) => masks.mask(table, *order, out.room()),
+            (Case::Mask { and, table, order, .. }, [out]) => {
+                masks.mask(*and, table, *order, out.room())
+            }
             (Case::Encode { order, secrets, tape, .. }, [out]) => {
                 masks.encode(*order, secrets, tape, out.room())
             }
@@ -173,7 +190,9 @@ impl Case {
             (Case::Run { table, inputs, random, .. }, [values, outputs]) => {
                 masks.run(table, inputs, random, values.room(), outputs.room())
             }
-            (Case::Marks { table, order, wire }, []) => masks.marks(table, *order, *wire),
+            (Case::Marks { and, table, order, wire }, []) => {
+                masks.marks(*and, table, *order, *wire)
+            }
             (Case::Map(case), [mapped, one, other]) => {
                 case.put_to(masks, mapped.room(), one.room(), other.room())
             }
@@ -191,8 +210,8 @@ impl MapCase {
         one: &mut [u8],
         other: &mut [u8],
     ) -> Outcome {
-        let MapCase { table, order, first, second, tape, probes, .. } = self;
-        masks.map(table, *order, first, second, tape, probes, mapped, one, other)
+        let MapCase { and, table, order, first, second, tape, probes, .. } = self;
+        masks.map(*and, table, *order, first, second, tape, probes, mapped, one, other)
     }
 }
 
@@ -271,7 +290,7 @@ impl fmt::Display for Case {
                 part(f, "table", table)?;
                 write!(f, "\n  order {order}")
             }
-            Case::Mask { table, order, out } => {
+            Case::Mask { table, order, out, .. } => {
                 part(f, "table", table)?;
                 write!(f, "\n  order {order}\n  out of {out} bytes")
             }
@@ -292,7 +311,7 @@ impl fmt::Display for Case {
                 part(f, "random", random)?;
                 write!(f, "\n  values of {values} bytes, outputs of {outputs}")
             }
-            Case::Marks { table, order, wire } => {
+            Case::Marks { table, order, wire, .. } => {
                 part(f, "table", table)?;
                 write!(f, "\n  order {order}\n  wire {wire}")
             }
@@ -306,6 +325,7 @@ impl fmt::Display for Case {
                 mapped,
                 one,
                 other,
+                ..
             }) => {
                 part(f, "table", table)?;
                 write!(f, "\n  order {order}")?;

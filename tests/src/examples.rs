@@ -1,10 +1,10 @@
 //! The examples of document 01, with the answers and bytes that the paper gives; tapes are packed. Those
-//! of ORs and constants were worked out by hand.
+//! of ORs and constants, and those with the DOM AND, were worked out by hand.
 
 use crate::case::{Case, Lent, MapCase};
 use crate::circuit::{Circuit, and, constant, not, or, random, xor};
 use crate::masks::{Masks, Outcome};
-use crate::model::pack;
+use crate::model::{And, pack};
 
 /// A case with what must come back.
 pub struct Example {
@@ -57,6 +57,22 @@ fn masked_and() -> Vec<u8> {
     Circuit::new(6, &gates, &[23, 26, 29]).bytes()
 }
 
+/// The same with the DOM AND.
+fn dom_masked_and() -> Vec<u8> {
+    let pairs = [
+        [random(), and(0, 4), xor(7, 6), and(1, 3), xor(9, 6)],
+        [random(), and(0, 5), xor(12, 11), and(2, 3), xor(14, 11)],
+        [random(), and(1, 5), xor(17, 16), and(2, 4), xor(19, 16)],
+    ];
+    let rows = [
+        [and(0, 3), xor(21, 8), xor(22, 13)],
+        [and(1, 4), xor(24, 10), xor(25, 18)],
+        [and(2, 5), xor(27, 15), xor(28, 20)],
+    ];
+    let gates = [pairs.concat(), rows.concat()].concat();
+    Circuit::new(6, &gates, &[23, 26, 29]).bytes()
+}
+
 /// The OR of two inputs.
 fn the_or() -> Vec<u8> {
     vec![2, 0, 1, 0, 1, 0, 5, 0, 0, 1, 0, 2, 0]
@@ -72,6 +88,22 @@ fn masked_or() -> Vec<u8> {
     let rows = [
         [and(6, 7), xor(23, 8), xor(24, 13)],
         [and(1, 4), xor(26, 12), xor(27, 18)],
+        [and(2, 5), xor(29, 17), xor(30, 22)],
+    ];
+    let gates = [vec![not(0), not(3)], pairs.concat(), rows.concat(), vec![not(25)]].concat();
+    Circuit::new(6, &gates, &[32, 28, 31]).bytes()
+}
+
+/// The same with the DOM AND.
+fn dom_masked_or() -> Vec<u8> {
+    let pairs = [
+        [random(), and(6, 4), xor(9, 8), and(1, 7), xor(11, 8)],
+        [random(), and(6, 5), xor(14, 13), and(2, 7), xor(16, 13)],
+        [random(), and(1, 5), xor(19, 18), and(2, 4), xor(21, 18)],
+    ];
+    let rows = [
+        [and(6, 7), xor(23, 10), xor(24, 15)],
+        [and(1, 4), xor(26, 12), xor(27, 20)],
         [and(2, 5), xor(29, 17), xor(30, 22)],
     ];
     let gates = [vec![not(0), not(3)], pairs.concat(), rows.concat(), vec![not(25)]].concat();
@@ -162,6 +194,82 @@ const OR_VALUES_MAPPED_TAPE: [u8; 33] = [
     1, // NOT
 ];
 
+/// The wire values of the AND masked with the DOM AND, with that tape, for secrets 1 1.
+const DOM_VALUES: [u8; 30] = [
+    1, 0, 0, 0, 1, 0, // shares
+    1, 1, 0, 0, 1, // pair 1, 2
+    0, 0, 0, 0, 0, // pair 1, 3
+    1, 0, 1, 0, 1, // pair 2, 3
+    0, 0, 0, 0, 1, 0, 0, 0, 1, // rows
+];
+
+/// The same for secrets 0 1.
+const DOM_VALUES_SAME_TAPE: [u8; 30] = [
+    1, 0, 1, 0, 1, 0, // shares
+    1, 1, 0, 0, 1, // pair 1, 2
+    0, 0, 0, 0, 0, // pair 1, 3
+    1, 0, 1, 1, 0, // pair 2, 3
+    0, 0, 0, 0, 1, 0, 0, 0, 0, // rows
+];
+
+/// Those for secrets 0 1 with the tape that probe 29 leads to.
+const DOM_VALUES_FREE_1: [u8; 30] = [
+    0, 0, 0, 0, 1, 0, // shares
+    1, 0, 1, 0, 1, // pair 1, 2
+    0, 0, 0, 0, 0, // pair 1, 3
+    1, 0, 1, 0, 1, // pair 2, 3
+    0, 1, 1, 0, 1, 0, 0, 0, 1, // rows
+];
+
+/// Those for secrets 1 0 with the tape that probe 23 leads to.
+const DOM_VALUES_FREE_2: [u8; 30] = [
+    1, 0, 0, 0, 0, 0, // shares
+    0, 0, 0, 0, 0, // pair 1, 2
+    0, 0, 0, 0, 0, // pair 1, 3
+    1, 0, 1, 0, 1, // pair 2, 3
+    0, 0, 0, 0, 0, 1, 0, 0, 1, // rows
+];
+
+/// Those for secrets 1 1 with the tape 1 1 0 1 1 0 1.
+const DOM_VALUES_OTHER_TAPE: [u8; 30] = [
+    1, 1, 1, 0, 1, 0, // shares
+    1, 1, 0, 0, 1, // pair 1, 2
+    0, 0, 0, 0, 0, // pair 1, 3
+    1, 0, 1, 1, 0, // pair 2, 3
+    0, 0, 0, 1, 0, 1, 0, 0, 0, // rows
+];
+
+/// Those for secrets 1 0 with the tape that this one and probe 29 lead to.
+const DOM_VALUES_TWO_FLIPS: [u8; 30] = [
+    1, 1, 1, 1, 1, 0, // shares
+    0, 1, 1, 1, 1, // pair 1, 2
+    1, 0, 1, 1, 0, // pair 1, 3
+    1, 0, 1, 1, 0, // pair 2, 3
+    1, 0, 1, 1, 0, 1, 0, 0, 0, // rows
+];
+
+/// The wire values of the OR masked with the DOM AND, with the first tape, for secrets 1 0.
+const DOM_OR_VALUES: [u8; 33] = [
+    1, 0, 0, 0, 1, 1, // shares
+    0, 1, // NOTs
+    1, 0, 1, 0, 1, // pair 1, 2
+    0, 0, 0, 0, 0, // pair 1, 3
+    1, 0, 1, 0, 1, // pair 2, 3
+    0, 1, 1, 0, 1, 0, 0, 0, 1, // rows
+    0, // NOT
+];
+
+/// Those for secrets 0 0 with the tape that probe 31 leads to.
+const DOM_OR_VALUES_MAPPED_TAPE: [u8; 33] = [
+    0, 0, 0, 0, 1, 1, // shares
+    1, 1, // NOTs
+    1, 1, 0, 0, 1, // pair 1, 2
+    0, 1, 1, 0, 0, // pair 1, 3
+    1, 0, 1, 0, 1, // pair 2, 3
+    1, 1, 0, 0, 1, 0, 0, 0, 1, // rows
+    1, // NOT
+];
+
 fn example(name: &'static str, case: Case, outcome: Outcome) -> Example {
     Example { name, case, outcome, written: None }
 }
@@ -171,20 +279,22 @@ fn writing(name: &'static str, case: Case, value: u32, written: &[&[u8]]) -> Exa
     Example { name, case, outcome: Outcome::value(value), written: Some(written) }
 }
 
-/// The examples of the seven calls other than the map.
+fn marked(first: u32, second: u32) -> Outcome {
+    Outcome::accepted([first, second, 0, 0])
+}
+
+/// The examples of all calls.
 pub fn examples() -> Vec<Example> {
-    let mut all = small();
-    all.extend(ors());
-    all.extend(one_constants());
-    all.extend(large());
-    all
+    [small(), ors(), one_constants(), large(), maps(), dom(), dom_maps()]
+        .into_iter()
+        .flatten()
+        .collect()
 }
 
 /// The OR.
 fn ors() -> Vec<Example> {
     let forecast = |order| Case::Forecast { table: the_or(), order };
-    let marks = |wire| Case::Marks { table: the_or(), order: 1, wire };
-    let marked = |first, second| Outcome::accepted([first, second, 0, 0]);
+    let marks = |wire| Case::Marks { and: And::Isw, table: the_or(), order: 1, wire };
     let run = Case::Run {
         table: masked_or(),
         inputs: OR_VALUES[..6].to_vec(),
@@ -210,7 +320,7 @@ fn ors() -> Vec<Example> {
         example("the OR at 15", forecast(15), Outcome::accepted([31, 3_351, 525, 16_513])),
         writing(
             "the OR masked at 1",
-            Case::Mask { table: the_or(), order: 1, out: 147 },
+            Case::Mask { and: And::Isw, table: the_or(), order: 1, out: 147 },
             147,
             &[&masked_or()],
         ),
@@ -232,8 +342,9 @@ fn ors() -> Vec<Example> {
 fn one_constants() -> Vec<Example> {
     let check = |left, right| Case::Check { table: one_constant(left, right) };
     let bad = Outcome::refused(4, 0);
-    let mask = |value| Case::Mask { table: one_constant(value, 0), order: 1, out: 27 };
-    let marks = |wire| Case::Marks { table: one_constant(1, 0), order: 1, wire };
+    let and = And::Isw;
+    let mask = |value| Case::Mask { and, table: one_constant(value, 0), order: 1, out: 27 };
+    let marks = |wire| Case::Marks { and, table: one_constant(1, 0), order: 1, wire };
     let masked =
         |value| Circuit::new(3, &[constant(value), constant(0), constant(0)], &[3, 4, 5]).bytes();
     let run = |value| Case::Run {
@@ -273,8 +384,7 @@ fn one_constants() -> Vec<Example> {
 fn small() -> Vec<Example> {
     let check = |table: &[u8]| Case::Check { table: table.to_vec() };
     let forecast = |order| Case::Forecast { table: the_and(), order };
-    let marks = |wire| Case::Marks { table: the_and(), order: 1, wire };
-    let marked = |first, second| Outcome::accepted([first, second, 0, 0]);
+    let marks = |wire| Case::Marks { and: And::Isw, table: the_and(), order: 1, wire };
     let run = |inputs: [u8; 6]| Case::Run {
         table: masked_and(),
         inputs: inputs.to_vec(),
@@ -296,13 +406,13 @@ fn small() -> Vec<Example> {
         example("order 16", forecast(16), Outcome::refused(6, 0)),
         writing(
             "the AND masked at 1",
-            Case::Mask { table: the_and(), order: 1, out: 132 },
+            Case::Mask { and: And::Isw, table: the_and(), order: 1, out: 132 },
             132,
             &[&masked_and()],
         ),
         writing(
             "no gate",
-            Case::Mask { table: repeated_output(1), order: 1, out: 20 },
+            Case::Mask { and: And::Isw, table: repeated_output(1), order: 1, out: 20 },
             12,
             &[&masked_input],
         ),
@@ -349,10 +459,11 @@ fn small() -> Vec<Example> {
 
 fn large() -> Vec<Example> {
     let forecast = |table: Vec<u8>| Case::Forecast { table, order: 1 };
-    let mask = |table: Vec<u8>, out| Case::Mask { table, order: 1, out };
+    let and = And::Isw;
+    let mask = |table: Vec<u8>, out| Case::Mask { and, table, order: 1, out };
     let too_large = Outcome::refused(8, 0);
     let sizes = Outcome::accepted([3, 65_526, 8_194, 327_612]);
-    let marks = |wire| Case::Marks { table: and_chain(2_730), order: 1, wire };
+    let marks = |wire| Case::Marks { and, table: and_chain(2_730), order: 1, wire };
     let masked: Vec<u8> = Circuit::new(3, &[], &[0, 1, 2].repeat(21_845)).bytes();
     vec![
         example("2,730 ANDs", forecast(and_chain(2_730)), sizes),
@@ -379,47 +490,59 @@ fn large() -> Vec<Example> {
     ]
 }
 
-/// The examples of the map.
-pub fn map_examples() -> Vec<Example> {
-    let map = |second: [u8; 2], probes: &[u32]| {
-        Case::Map(MapCase {
-            table: the_and(),
-            order: 1,
-            first: vec![1, 1],
-            second: second.to_vec(),
-            tape: TAPE.to_vec(),
-            probes: probes.to_vec(),
-            mapped: 1,
-            one: 30,
-            other: 30,
-        })
-    };
-    let map_or = |second: [u8; 2], probe: u32| {
-        Case::Map(MapCase {
-            table: the_or(),
-            order: 1,
-            first: vec![1, 0],
-            second: second.to_vec(),
-            tape: TAPE.to_vec(),
-            probes: vec![probe],
-            mapped: 1,
-            one: 33,
-            other: 33,
-        })
-    };
-    let long = |ands: u16, probes: &[u32]| {
-        Case::Map(MapCase {
-            table: and_chain(ands),
-            order: 1,
-            first: vec![1, 1],
-            second: vec![0, 1],
-            tape: pack(&[1, 0, 0, 1, 1, 0, 1].repeat(1_171)[..4 + 3 * usize::from(ands)]),
-            probes: probes.to_vec(),
-            mapped: 1_025,
-            one: 65_526,
-            other: 65_526,
-        })
-    };
+/// A map of the AND at order 1 from secrets 1 1.
+fn map_and(and: And, second: [u8; 2], tape: [u8; 1], probes: &[u32]) -> Case {
+    Case::Map(MapCase {
+        and,
+        table: the_and(),
+        order: 1,
+        first: vec![1, 1],
+        second: second.to_vec(),
+        tape: tape.to_vec(),
+        probes: probes.to_vec(),
+        mapped: 1,
+        one: 30,
+        other: 30,
+    })
+}
+
+/// A map of the OR at order 1 from secrets 1 0.
+fn map_or(and: And, second: [u8; 2], probe: u32) -> Case {
+    Case::Map(MapCase {
+        and,
+        table: the_or(),
+        order: 1,
+        first: vec![1, 0],
+        second: second.to_vec(),
+        tape: TAPE.to_vec(),
+        probes: vec![probe],
+        mapped: 1,
+        one: 33,
+        other: 33,
+    })
+}
+
+/// A map of a long chain of ANDs at order 1.
+fn map_chain(and: And, ands: u16, probes: &[u32]) -> Case {
+    Case::Map(MapCase {
+        and,
+        table: and_chain(ands),
+        order: 1,
+        first: vec![1, 1],
+        second: vec![0, 1],
+        tape: pack(&[1, 0, 0, 1, 1, 0, 1].repeat(1_171)[..4 + 3 * usize::from(ands)]),
+        probes: probes.to_vec(),
+        mapped: 1_025,
+        one: 65_526,
+        other: 65_526,
+    })
+}
+
+/// The map.
+fn maps() -> Vec<Example> {
+    let map = |second, probes: &[u32]| map_and(And::Isw, second, TAPE, probes);
+    let map_or = |second, probe| map_or(And::Isw, second, probe);
+    let long = |ands, probes: &[u32]| map_chain(And::Isw, ands, probes);
     // 0 0 0 1 0 0 1, and for the OR 0 0 0 1 0 1 1
     let (mapped, or_mapped) = ([0x48], [0x68]);
     vec![
@@ -440,5 +563,107 @@ pub fn map_examples() -> Vec<Example> {
         example("2,730 ANDs mapped", long(2_730, &[65_525]), Outcome::value(1)),
         example("2,730 ANDs, no such wire", long(2_730, &[65_526]), Outcome::refused(13, 0)),
         example("2,731 ANDs mapped", long(2_731, &[]), Outcome::refused(8, 0)),
+    ]
+}
+
+/// Masking and marks with the DOM AND: of the AND, of the OR, and of tables at a limit.
+fn dom() -> Vec<Example> {
+    let and = And::Dom;
+    let mask = |table: Vec<u8>, order, out| Case::Mask { and, table, order, out };
+    let marks = |wire| Case::Marks { and, table: the_and(), order: 1, wire };
+    let marks_or = |wire| Case::Marks { and, table: the_or(), order: 1, wire };
+    let marks_long = |wire| Case::Marks { and, table: and_chain(2_730), order: 1, wire };
+    let run = |table: Vec<u8>, values: &[u8]| Case::Run {
+        table,
+        inputs: values[..6].to_vec(),
+        random: RUNNING.to_vec(),
+        values: values.len(),
+        outputs: 3,
+    };
+    let (masked_and, masked_or) = (dom_masked_and(), dom_masked_or());
+    vec![
+        writing("DOM: the AND masked", mask(the_and(), 1, 132), 132, &[&masked_and]),
+        writing("DOM: the OR masked", mask(the_or(), 1, 147), 147, &[&masked_or]),
+        writing(
+            "DOM: the AND run",
+            run(masked_and.clone(), &DOM_VALUES),
+            30,
+            &[&DOM_VALUES, &[0, 0, 1]],
+        ),
+        writing(
+            "DOM: the OR run",
+            run(masked_or.clone(), &DOM_OR_VALUES),
+            33,
+            &[&DOM_OR_VALUES, &[0, 0, 1]],
+        ),
+        example("DOM: at 15", mask(the_and(), 15, 16_498), Outcome::value(16_498)),
+        example("DOM: order 16", mask(the_and(), 16, 16_498), Outcome::refused(6, 0)),
+        example("DOM: a short buffer", mask(the_and(), 1, 131), Outcome::refused(9, 0)),
+        example("DOM: 2,730 ANDs", mask(and_chain(2_730), 1, 327_612), Outcome::value(327_612)),
+        example("DOM: 2,731 ANDs", mask(and_chain(2_731), 1, 400_000), Outcome::refused(8, 0)),
+        example("DOM: marks of an input share", marks(5), marked(3, 0)),
+        example("DOM: marks of r", marks(6), marked(1, 2)),
+        example("DOM: marks of a_1 b_2", marks(7), marked(1, 2)),
+        example("DOM: marks of a_1 b_2 and r", marks(8), marked(1, 0)),
+        example("DOM: marks of a_2 b_1", marks(9), marked(1, 2)),
+        example("DOM: marks of a_2 b_1 and r", marks(10), marked(2, 0)),
+        example("DOM: marks of the last r", marks(16), marked(2, 3)),
+        example("DOM: marks of a_2 b_3 and r", marks(18), marked(2, 0)),
+        example("DOM: marks of a_3 b_2 and r", marks(20), marked(3, 0)),
+        example("DOM: marks of a_1 b_1", marks(21), marked(1, 0)),
+        example("DOM: marks of the last sum", marks(29), marked(3, 0)),
+        example("DOM: marks of no wire", marks(30), Outcome::refused(13, 0)),
+        example("DOM: marks of the left NOT", marks_or(6), marked(1, 0)),
+        example("DOM: marks of r in the OR", marks_or(8), marked(1, 2)),
+        example("DOM: marks of a_1 b_2 and r in the OR", marks_or(10), marked(1, 0)),
+        example("DOM: marks of the last NOT", marks_or(32), marked(1, 0)),
+        example("DOM: 2,730 ANDs, last wire", marks_long(65_525), marked(3, 0)),
+        example("DOM: 2,730 ANDs, no wire", marks_long(65_526), Outcome::refused(13, 0)),
+    ]
+}
+
+/// The map with the DOM AND; where r of a pair is flipped, k is its upper share, or its lower one.
+fn dom_maps() -> Vec<Example> {
+    let map = |second, probes: &[u32]| map_and(And::Dom, second, TAPE, probes);
+    let map_or = |second, probe| map_or(And::Dom, second, probe);
+    let long = |ands, probes: &[u32]| map_chain(And::Dom, ands, probes);
+    // 0 0 0 1 1 0 1, then 1 0 0 0 0 0 1
+    let (free_1, free_2) = ([0x58], [0x41]);
+    // 1 1 0 1 1 0 1 leads to 1 1 1 1 0 1 1
+    let (other_tape, two_flips) = ([0x5b], [0x6f]);
+    vec![
+        writing("DOM: probe 7", map([0, 1], &[7]), 3, &[&TAPE, &DOM_VALUES, &DOM_VALUES_SAME_TAPE]),
+        writing("DOM: probe 6", map([0, 1], &[6]), 3, &[&TAPE, &DOM_VALUES, &DOM_VALUES_SAME_TAPE]),
+        writing(
+            "DOM: probe 29",
+            map([0, 1], &[29]),
+            1,
+            &[&free_1, &DOM_VALUES, &DOM_VALUES_FREE_1],
+        ),
+        writing(
+            "DOM: probe 23",
+            map([1, 0], &[23]),
+            2,
+            &[&free_2, &DOM_VALUES, &DOM_VALUES_FREE_2],
+        ),
+        writing("DOM: probe 8", map([1, 0], &[8]), 2, &[&free_2, &DOM_VALUES, &DOM_VALUES_FREE_2]),
+        writing(
+            "DOM: another tape, probe 29",
+            map_and(And::Dom, [1, 0], other_tape, &[29]),
+            1,
+            &[&two_flips, &DOM_VALUES_OTHER_TAPE, &DOM_VALUES_TWO_FLIPS],
+        ),
+        writing("DOM: equal secrets", map([1, 1], &[29]), 1, &[&TAPE, &DOM_VALUES, &DOM_VALUES]),
+        example("DOM: probes 6, 6", map([0, 1], &[6, 6]), Outcome::refused(12, 0)),
+        example("DOM: probe 30", map([0, 1], &[30]), Outcome::refused(13, 0)),
+        writing(
+            "DOM: the OR, probe 31",
+            map_or([0, 0], 31),
+            1,
+            &[&free_1, &DOM_OR_VALUES, &DOM_OR_VALUES_MAPPED_TAPE],
+        ),
+        example("DOM: the OR, probe 33", map_or([0, 0], 33), Outcome::refused(13, 0)),
+        example("DOM: 2,730 ANDs mapped", long(2_730, &[65_525]), Outcome::value(1)),
+        example("DOM: 2,731 ANDs mapped", long(2_731, &[]), Outcome::refused(8, 0)),
     ]
 }

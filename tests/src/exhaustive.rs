@@ -3,7 +3,7 @@
 use crate::case::{Case, MapCase};
 use crate::circuit::{Circuit, Gate, and, constant, not, or, xor};
 use crate::masks::{Masks, Outcome};
-use crate::model::bytes_for;
+use crate::model::{And, bytes_for};
 
 /// Every circuit of one input with at most two gates and of two inputs with at most one gate,
 /// and some of two inputs with several.
@@ -95,14 +95,14 @@ struct Masked<'a, M> {
 }
 
 impl<'a, M: Masks> Masked<'a, M> {
-    fn new(masks: &'a M, circuit: &Circuit, order: u8) -> Result<Self, String> {
+    fn new(masks: &'a M, and: And, circuit: &Circuit, order: u8) -> Result<Self, String> {
         let plain = circuit.bytes();
         let Outcome { number: 0, values, .. } = masks.forecast(&plain, order) else {
             return Err("the forecast refuses".into());
         };
         let [shares, wires, tape, bytes] = values.map(|value| value as usize);
         let mut table = vec![0; bytes];
-        if masks.mask(&plain, order, &mut table).number != 0 {
+        if masks.mask(and, &plain, order, &mut table).number != 0 {
             return Err("masking refuses".into());
         }
         let (inputs, outputs) = (usize::from(circuit.inputs), circuit.outputs.len());
@@ -160,8 +160,13 @@ impl<'a, M: Masks> Masked<'a, M> {
 /// Runs the masked circuit on every secret and every tape, and checks for all lists of one probe
 /// and, from order 2 on, of two, that each pattern is read as often for any secret as for any
 /// other. Answers the number of runs.
-pub fn check_patterns(masks: &impl Masks, circuit: &Circuit, order: u8) -> Result<u64, String> {
-    let masked = Masked::new(masks, circuit, order)?;
+pub fn check_patterns(
+    masks: &impl Masks,
+    and: And,
+    circuit: &Circuit,
+    order: u8,
+) -> Result<u64, String> {
+    let masked = Masked::new(masks, and, circuit, order)?;
     let plain = masked.plain_outputs()?;
     let (secrets, tapes): (usize, usize) = (1 << masked.inputs, 1 << masked.tape);
 
@@ -196,13 +201,14 @@ pub fn check_patterns(masks: &impl Masks, circuit: &Circuit, order: u8) -> Resul
 /// Puts every map at order 1 to both implementations: all tapes, all pairs of secrets, no probe
 /// and each single one. Checks that the probe reads the same in both runs, that the runs are
 /// those of the masked table, that mapping back gives the tape, and that as many tapes let the
-/// probe read 1 with either secret. Answers the number of maps.
+/// probe read 1 with either secret; and compares the marks. Answers the number of maps.
 pub fn check_maps(
     ours: &impl Masks,
     theirs: &impl Masks,
+    and: And,
     circuit: &Circuit,
 ) -> Result<u64, String> {
-    let masked = Masked::new(theirs, circuit, 1)?;
+    let masked = Masked::new(theirs, and, circuit, 1)?;
     let plain = masked.plain_outputs()?;
     let (secrets, tapes, wires) = (1 << masked.inputs, 1 << masked.tape, masked.wires);
     let mut runs = vec![vec![vec![2; wires]; tapes]; secrets];
@@ -214,6 +220,7 @@ pub fn check_maps(
     }
 
     let mut case = MapCase {
+        and,
         table: masked.plain.clone(),
         order: 1,
         first: Vec::new(),
@@ -229,6 +236,10 @@ pub fn check_maps(
     let lists = std::iter::once(None).chain((0..wires as u32).map(Some));
     for probe in lists {
         case.probes = probe.into_iter().collect();
+        let marks = |masks: &dyn Masks| probe.map(|wire| masks.marks(and, &case.table, 1, wire));
+        if marks(ours) != marks(theirs) {
+            return Err(format!("the marks of wire {probe:?} differ"));
+        }
         let mut leads_to = vec![vec![vec![0; tapes]; secrets]; secrets];
         // For each pair of secrets, how many tapes let the probe read 1 in the first run.
         let mut ones = vec![vec![0; secrets]; secrets];

@@ -1,6 +1,7 @@
 //! The archive's calls, as include/masks.h declares them, behind safe functions on slices.
 
 use compare::masks::{Masks, Outcome};
+use compare::model::And;
 
 #[repr(C)]
 struct Answer {
@@ -73,7 +74,6 @@ unsafe extern "C" {
 
     fn masks_marks_of(table: *const u8, table_len: usize, order: u8, wire: u32) -> Marks;
 
-    #[cfg(feature = "map")]
     fn masks_map(
         table: *const u8,
         table_len: usize,
@@ -93,6 +93,53 @@ unsafe extern "C" {
         other: *mut u8,
         other_len: usize,
     ) -> Answer;
+}
+
+// The entries with the DOM AND.
+#[cfg(feature = "dom")]
+unsafe extern "C" {
+    fn masks_mask_dom(
+        table: *const u8,
+        table_len: usize,
+        order: u8,
+        out: *mut u8,
+        out_len: usize,
+    ) -> Answer;
+
+    fn masks_marks_of_dom(table: *const u8, table_len: usize, order: u8, wire: u32) -> Marks;
+
+    fn masks_map_dom(
+        table: *const u8,
+        table_len: usize,
+        order: u8,
+        first: *const u8,
+        first_len: usize,
+        second: *const u8,
+        second_len: usize,
+        tape: *const u8,
+        tape_len: usize,
+        probes: *const u32,
+        probes_len: usize,
+        mapped: *mut u8,
+        mapped_len: usize,
+        one: *mut u8,
+        one_len: usize,
+        other: *mut u8,
+        other_len: usize,
+    ) -> Answer;
+}
+
+/// The entry for an AND.
+macro_rules! entry {
+    ($and:expr, $isw:ident, $dom:ident) => {
+        match $and {
+            And::Isw => $isw,
+            #[cfg(feature = "dom")]
+            And::Dom => $dom,
+            #[cfg(not(feature = "dom"))]
+            And::Dom => unreachable!("without the feature `dom` no case is put to the DOM AND"),
+        }
+    };
 }
 
 impl From<Answer> for Outcome {
@@ -126,9 +173,9 @@ impl Masks for Archive {
         unsafe { masks_forecast(table.as_ptr(), table.len(), order) }.into()
     }
 
-    fn mask(&self, table: &[u8], order: u8, out: &mut [u8]) -> Outcome {
-        unsafe { masks_mask(table.as_ptr(), table.len(), order, out.as_mut_ptr(), out.len()) }
-            .into()
+    fn mask(&self, and: And, table: &[u8], order: u8, out: &mut [u8]) -> Outcome {
+        let mask = entry!(and, masks_mask, masks_mask_dom);
+        unsafe { mask(table.as_ptr(), table.len(), order, out.as_mut_ptr(), out.len()) }.into()
     }
 
     fn encode(&self, order: u8, secrets: &[u8], tape: &[u8], out: &mut [u8]) -> Outcome {
@@ -176,13 +223,14 @@ impl Masks for Archive {
         .into()
     }
 
-    fn marks(&self, table: &[u8], order: u8, wire: u32) -> Outcome {
-        unsafe { masks_marks_of(table.as_ptr(), table.len(), order, wire) }.into()
+    fn marks(&self, and: And, table: &[u8], order: u8, wire: u32) -> Outcome {
+        let marks_of = entry!(and, masks_marks_of, masks_marks_of_dom);
+        unsafe { marks_of(table.as_ptr(), table.len(), order, wire) }.into()
     }
 
-    #[cfg(feature = "map")]
     fn map(
         &self,
+        and: And,
         table: &[u8],
         order: u8,
         first: &[u8],
@@ -193,8 +241,9 @@ impl Masks for Archive {
         one: &mut [u8],
         other: &mut [u8],
     ) -> Outcome {
+        let map = entry!(and, masks_map, masks_map_dom);
         unsafe {
-            masks_map(
+            map(
                 table.as_ptr(),
                 table.len(),
                 order,
@@ -215,21 +264,5 @@ impl Masks for Archive {
             )
         }
         .into()
-    }
-
-    #[cfg(not(feature = "map"))]
-    fn map(
-        &self,
-        _: &[u8],
-        _: u8,
-        _: &[u8],
-        _: &[u8],
-        _: &[u8],
-        _: &[u32],
-        _: &mut [u8],
-        _: &mut [u8],
-        _: &mut [u8],
-    ) -> Outcome {
-        unreachable!("without the feature `map` no case is put to the map")
     }
 }

@@ -2,7 +2,7 @@
 
 use crate::case::{Call, Case, MapCase};
 use crate::circuit::{Circuit, Gate, constant, random};
-use crate::model::{self, AND, CONSTANT, MOST, NOT, OR, RANDOM, XOR};
+use crate::model::{self, AND, And, CONSTANT, MOST, NOT, OR, RANDOM, XOR};
 use crate::rng::Rng;
 
 /// The kinds of a table to be masked.
@@ -47,12 +47,12 @@ pub fn generate(call: Call, rng: &mut Rng) -> Case {
     match call {
         Call::Check => check(rng),
         Call::Forecast => forecast(rng),
-        Call::Mask => mask(rng),
+        Call::Mask(and) => mask(rng, and),
         Call::Encode => encode(rng),
         Call::Decode => decode(rng),
         Call::Run => run(rng),
-        Call::Marks => marks(rng),
-        Call::Map => Case::Map(map(rng)),
+        Call::Marks(and) => marks(rng, and),
+        Call::Map(and) => Case::Map(map(rng, and)),
     }
 }
 
@@ -68,11 +68,11 @@ fn forecast(rng: &mut Rng) -> Case {
     Case::Forecast { table, order }
 }
 
-fn mask(rng: &mut Rng) -> Case {
+fn mask(rng: &mut Rng, and: And) -> Case {
     let flaws = Flaws::new(rng, &[Flaw::Table, Flaw::Order, Flaw::Buffer]);
     let Plain { table, order, sizes, .. } = plain(rng, &flaws, 200);
     let [out] = buffers(rng, [sizes.bytes as usize], &flaws);
-    Case::Mask { table, order, out }
+    Case::Mask { and, table, order, out }
 }
 
 fn encode(rng: &mut Rng) -> Case {
@@ -121,13 +121,13 @@ fn run(rng: &mut Rng) -> Case {
     Case::Run { table, inputs, random, values, outputs }
 }
 
-fn marks(rng: &mut Rng) -> Case {
+fn marks(rng: &mut Rng, and: And) -> Case {
     let flaws = Flaws::new(rng, &[Flaw::Table, Flaw::Order, Flaw::Probe]);
     let Plain { table, order, sizes, .. } = plain(rng, &flaws, 100);
-    Case::Marks { table, order, wire: probe(rng, sizes.wires, flaws.has(Flaw::Probe)) }
+    Case::Marks { and, table, order, wire: probe(rng, sizes.wires, flaws.has(Flaw::Probe)) }
 }
 
-fn map(rng: &mut Rng) -> MapCase {
+fn map(rng: &mut Rng, and: And) -> MapCase {
     const POSSIBLE: [Flaw; 8] = [
         Flaw::Table,
         Flaw::Order,
@@ -158,7 +158,7 @@ fn map(rng: &mut Rng) -> MapCase {
         probes[rng.below(count)] = probe(rng, sizes.wires, true);
     }
     let [mapped, one, other] = buffers(rng, [model::bytes_for(bits), wires, wires], &flaws);
-    MapCase { table, order, first, second, tape, probes, mapped, one, other }
+    MapCase { and, table, order, first, second, tape, probes, mapped, one, other }
 }
 
 /// A plain table and an order, flawed or not, with the sizes that the rest of a case should have.

@@ -6,12 +6,21 @@ use std::fmt;
 use crate::case::{Call, Case, MapCase};
 use crate::circuit::{Circuit, Gate, and, constant, not, or, random, xor};
 use crate::masks::Outcome;
-use crate::model::{self, CONSTANT, OR, RANDOM, Sizes, bytes_for};
+use crate::model::{self, And, CONSTANT, OR, RANDOM, Sizes, bytes_for};
 use crate::rng::Rng;
 
 /// The calls that take a table.
-pub const CALLS: [Call; 6] =
-    [Call::Check, Call::Forecast, Call::Mask, Call::Run, Call::Marks, Call::Map];
+pub const CALLS: [Call; 9] = [
+    Call::Check,
+    Call::Forecast,
+    Call::Run,
+    Call::Mask(And::Isw),
+    Call::Marks(And::Isw),
+    Call::Map(And::Isw),
+    Call::Mask(And::Dom),
+    Call::Marks(And::Dom),
+    Call::Map(And::Dom),
+];
 
 const ORDER: u8 = 1;
 /// The operands of constants; only a left one of 0 or 1 with a right one of 0 is good.
@@ -111,15 +120,18 @@ fn case(rng: &mut Rng, call: Call, circuit: &Circuit) -> Case {
     match call {
         Call::Check => Case::Check { table },
         Call::Forecast => Case::Forecast { table, order },
-        Call::Mask => Case::Mask { table, order, out: bytes as usize },
+        Call::Mask(and) => Case::Mask { and, table, order, out: bytes as usize },
         Call::Run => {
             let randoms = circuit.gates.iter().filter(|gate| gate.0 == RANDOM).count();
             let (inputs, random) = (rng.bits(inputs), rng.tape(randoms));
             let values = inputs.len() + circuit.gates.len();
             Case::Run { table, inputs, random, values, outputs: circuit.outputs.len() }
         }
-        Call::Marks => Case::Marks { table, order, wire: rng.below(wires as usize) as u32 },
-        _ => Case::Map(MapCase {
+        Call::Marks(and) => {
+            Case::Marks { and, table, order, wire: rng.below(wires as usize) as u32 }
+        }
+        Call::Map(and) => Case::Map(MapCase {
+            and,
             table,
             order,
             first: rng.bits(inputs),
@@ -130,6 +142,7 @@ fn case(rng: &mut Rng, call: Call, circuit: &Circuit) -> Case {
             one: wires as usize,
             other: wires as usize,
         }),
+        Call::Encode | Call::Decode => unreachable!("the call takes a table"),
     }
 }
 

@@ -22,6 +22,7 @@ use std::{env, fs};
 use compare::case::{Call, Case};
 use compare::compare::{Tally, compare};
 use compare::masks::{Model, Outcome};
+use compare::model::And;
 use compare::properties::{check_counts, check_mapping};
 use compare::rng::Rng;
 use compare::{examples, exhaustive, generate, kinds, model, sampled, tapes};
@@ -42,7 +43,12 @@ usage: compare [--seed N]
 
 /// The calls that the archive has.
 fn calls() -> &'static [Call] {
-    if cfg!(feature = "map") { &Call::ALL } else { &Call::ALL[..7] }
+    if cfg!(feature = "dom") { &Call::ALL } else { &Call::ALL[..8] }
+}
+
+/// The ANDs that it has.
+fn ands() -> &'static [And] {
+    if cfg!(feature = "dom") { &And::BOTH } else { &[And::Isw] }
 }
 
 fn main() -> ExitCode {
@@ -90,46 +96,41 @@ fn clock_seed() -> u64 {
 
 /// The seeds of a call's cases.
 fn seeds(call: Call, seed: u64) -> Rng {
-    Rng::new(seed.wrapping_mul(8).wrapping_add(call as u64))
+    Rng::new(seed.wrapping_mul(16).wrapping_add(call.index() as u64))
 }
 
 /// The whole comparison, with a line for each call.
 fn compare_all(seed: u64) -> Result<(), String> {
-    let mut tallies = [Tally::default(); 8];
+    let mut tallies = [Tally::default(); Call::ALL.len()];
     compare_examples(&mut tallies)?;
     for &call in calls() {
-        compare_generated(
-            call,
-            &mut seeds(call, seed),
-            CASES_PER_CALL,
-            &mut tallies[call as usize],
-        )?;
-        println!("{}: {}", call.name(), tallies[call as usize]);
+        let tally = &mut tallies[call.index()];
+        compare_generated(call, &mut seeds(call, seed), CASES_PER_CALL, tally)?;
+        println!("{}: {tally}", call.name());
     }
     compare_kinds(seed)?;
     compare_tapes(seed)?;
-    compare_all_tapes()?;
-    if cfg!(feature = "map") {
-        compare_sampled_maps(seed)?;
+    for &and in ands() {
+        compare_all_tapes(and)?;
+        compare_sampled_maps(and, seed)?;
     }
-    match calls().iter().find_map(|&call| tallies[call as usize].missing(call)) {
+    match calls().iter().find_map(|&call| tallies[call.index()].missing(call)) {
         Some(missing) => Err(format!("FAILED: {missing}")),
         None => Ok(()),
     }
 }
 
-fn compare_examples(tallies: &mut [Tally; 8]) -> Result<(), String> {
-    let mut all = examples::examples();
-    if cfg!(feature = "map") {
-        all.extend(examples::map_examples());
-    }
-    for example in all {
+fn compare_examples(tallies: &mut [Tally]) -> Result<(), String> {
+    for example in examples::examples() {
+        if !calls().contains(&example.case.call()) {
+            continue;
+        }
         let told = |text: String| {
             format!("FAILED: example \"{}\"\n{}\n{text}", example.name, example.case)
         };
         example.put_to(&Archive).map_err(told)?;
         let outcome = compare_case(&example.case).map_err(told)?;
-        tallies[example.case.call() as usize].add(&example.case, outcome);
+        tallies[example.case.call().index()].add(&example.case, outcome);
     }
     Ok(())
 }
@@ -185,32 +186,31 @@ fn compare_tapes(seed: u64) -> Result<(), String> {
 }
 
 /// Small circuits with all tapes and all secrets.
-fn compare_all_tapes() -> Result<(), String> {
-    let circuits = exhaustive::circuits();
+fn compare_all_tapes(and: And) -> Result<(), String> {
+    let (name, circuits) = (and.name(), exhaustive::circuits());
     let (mut runs, mut maps) = (0, 0);
     for circuit in &circuits {
-        let told = |text| format!("FAILED: all tapes at order 1 of {circuit:?}\n{text}");
-        runs += exhaustive::check_patterns(&Archive, circuit, 1).map_err(told)?;
-        if cfg!(feature = "map") {
-            maps += exhaustive::check_maps(&Model, &Archive, circuit).map_err(told)?;
-        }
+        let told = |text| format!("FAILED: {name}, all tapes at order 1 of {circuit:?}\n{text}");
+        runs += exhaustive::check_patterns(&Archive, and, circuit, 1).map_err(told)?;
+        maps += exhaustive::check_maps(&Model, &Archive, and, circuit).map_err(told)?;
     }
     for circuit in exhaustive::circuits_for_order_2() {
-        let told = |text| format!("FAILED: all tapes at order 2 of {circuit:?}\n{text}");
-        runs += exhaustive::check_patterns(&Archive, &circuit, 2).map_err(told)?;
+        let told = |text| format!("FAILED: {name}, all tapes at order 2 of {circuit:?}\n{text}");
+        runs += exhaustive::check_patterns(&Archive, and, &circuit, 2).map_err(told)?;
     }
-    println!("all tapes of {} small circuits: {runs} runs, {maps} maps", circuits.len());
+    let count = circuits.len();
+    println!("{name}, all tapes of {count} small circuits: {runs} runs, {maps} maps");
     Ok(())
 }
 
 /// Drawn maps of the same circuits and of the examples at higher orders.
-fn compare_sampled_maps(seed: u64) -> Result<(), String> {
+fn compare_sampled_maps(and: And, seed: u64) -> Result<(), String> {
     let mut rng = Rng::new(seed);
     for (order, count) in sampled::ORDERS {
         let circuits = sampled::circuits(order);
         for circuit in &circuits {
             for _ in 0..count {
-                let case = Case::Map(sampled::draw(&mut rng, circuit, order));
+                let case = Case::Map(sampled::draw(&mut rng, and, circuit, order));
                 let outcome =
                     compare_case(&case).map_err(|text| format!("FAILED: {case}\n{text}"))?;
                 if outcome.number != 0 {
@@ -218,7 +218,8 @@ fn compare_sampled_maps(seed: u64) -> Result<(), String> {
                 }
             }
         }
-        println!("maps of {} circuits at order {order}: {count} each", circuits.len());
+        let name = and.name();
+        println!("{name}, maps of {} circuits at order {order}: {count} each", circuits.len());
     }
     Ok(())
 }
@@ -227,14 +228,14 @@ fn fuzz(seconds: u64, seed: u64) -> Result<(), String> {
     println!("seed {seed}");
     let end = Instant::now() + Duration::from_secs(seconds);
     let mut all_seeds: Vec<Rng> = calls().iter().map(|&call| seeds(call, seed)).collect();
-    let mut tallies = [Tally::default(); 8];
+    let mut tallies = [Tally::default(); Call::ALL.len()];
     while Instant::now() < end {
         for (&call, seeds) in calls().iter().zip(&mut all_seeds) {
-            compare_generated(call, seeds, CASES_PER_FUZZ_ROUND, &mut tallies[call as usize])?;
+            compare_generated(call, seeds, CASES_PER_FUZZ_ROUND, &mut tallies[call.index()])?;
         }
     }
     for &call in calls() {
-        println!("{}: {}", call.name(), tallies[call as usize]);
+        println!("{}: {}", call.name(), tallies[call.index()]);
     }
     Ok(())
 }

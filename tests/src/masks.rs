@@ -2,7 +2,7 @@
 
 use std::fmt;
 
-use crate::model::{self, Marks, Refusal, Sizes};
+use crate::model::{self, And, Marks, Refusal, Sizes};
 
 /// What a call answers, beside the lent buffers: number, place and up to four values.
 #[derive(Clone, Copy, Debug, PartialEq, Eq)]
@@ -12,13 +12,14 @@ pub struct Outcome {
     pub values: [u32; 4],
 }
 
-/// An implementation of the eight calls. Every tape, the random bits of a run too, is packed.
+/// An implementation of the calls, of which three have an entry for each AND. Every tape, the random
+/// bits of a run too, is packed.
 pub trait Masks {
     fn check(&self, table: &[u8]) -> Outcome;
 
     fn forecast(&self, table: &[u8], order: u8) -> Outcome;
 
-    fn mask(&self, table: &[u8], order: u8, out: &mut [u8]) -> Outcome;
+    fn mask(&self, and: And, table: &[u8], order: u8, out: &mut [u8]) -> Outcome;
 
     fn encode(&self, order: u8, secrets: &[u8], tape: &[u8], out: &mut [u8]) -> Outcome;
 
@@ -33,11 +34,12 @@ pub trait Masks {
         outputs: &mut [u8],
     ) -> Outcome;
 
-    fn marks(&self, table: &[u8], order: u8, wire: u32) -> Outcome;
+    fn marks(&self, and: And, table: &[u8], order: u8, wire: u32) -> Outcome;
 
     #[allow(clippy::too_many_arguments)]
     fn map(
         &self,
+        and: And,
         table: &[u8],
         order: u8,
         first: &[u8],
@@ -62,8 +64,8 @@ impl Masks for Model {
         model::forecast(table, order).into()
     }
 
-    fn mask(&self, table: &[u8], order: u8, out: &mut [u8]) -> Outcome {
-        model::mask(table, order, out).into()
+    fn mask(&self, and: And, table: &[u8], order: u8, out: &mut [u8]) -> Outcome {
+        model::mask(and, table, order, out).into()
     }
 
     fn encode(&self, order: u8, secrets: &[u8], tape: &[u8], out: &mut [u8]) -> Outcome {
@@ -85,12 +87,13 @@ impl Masks for Model {
         model::run(table, inputs, random, values, outputs).into()
     }
 
-    fn marks(&self, table: &[u8], order: u8, wire: u32) -> Outcome {
-        model::marks(table, order, wire).into()
+    fn marks(&self, and: And, table: &[u8], order: u8, wire: u32) -> Outcome {
+        model::marks(and, table, order, wire).into()
     }
 
     fn map(
         &self,
+        and: And,
         table: &[u8],
         order: u8,
         first: &[u8],
@@ -101,7 +104,7 @@ impl Masks for Model {
         one: &mut [u8],
         other: &mut [u8],
     ) -> Outcome {
-        model::map(table, order, first, second, tape, probes, mapped, one, other).into()
+        model::map(and, table, order, first, second, tape, probes, mapped, one, other).into()
     }
 }
 

@@ -1,5 +1,5 @@
 //! Tests of the pages: the commands that they show print what is shown, the files that they link are
-//! there, and the table of sizes is that of docs/sizes.
+//! there, the table of sizes is that of docs/sizes, and the theorem stands in the file as it is quoted.
 
 use std::fs;
 use std::os::unix::fs::symlink;
@@ -31,7 +31,8 @@ pub fn test() -> Result<(), String> {
         links += check_links(name, &page)?;
     }
     check_sizes()?;
-    println!("pages: {shown} commands, {links} links, the table of sizes");
+    let quotes = check_quotes()?;
+    println!("pages: {shown} commands, {links} links, the table of sizes, {quotes} quotes");
     Ok(())
 }
 
@@ -125,4 +126,42 @@ fn check_table(name: &str, words: &[&str]) -> Result<(), String> {
         return Ok(());
     }
     Err(format!("FAILED: a table in {name} is not what docs/sizes prints: {words:?}"))
+}
+
+/// The statements that docs/ASSURANCE.md quotes in "The theorem" stand in the file that it names; two
+/// dots stand for what is left out before the rest. Answers how many there are.
+fn check_quotes() -> Result<usize, String> {
+    let (name, source) = ("docs/ASSURANCE.md", "crates/maps/specs/Claims.antt");
+    let read = |name| fs::read_to_string(root().join(name)).map_err(|error| told(name, error));
+    let (page, claims) = (read(name)?, words(&read(source)?));
+    let section = page.split("\n## ").find(|section| section.starts_with("The theorem\n"));
+    let lines = section.unwrap_or_default().lines().filter_map(|line| line.strip_prefix("    "));
+    let mut quotes: Vec<String> = Vec::new();
+    for line in lines {
+        match (line.starts_with(' '), quotes.last_mut()) {
+            (true, Some(quote)) => quote.push_str(line),
+            _ => quotes.push(line.into()),
+        }
+    }
+    if quotes.is_empty() {
+        return Err(format!("FAILED: {name} quotes no statement"));
+    }
+    for quote in &quotes {
+        let quote = words(quote);
+        let Some((field, rest)) = quote.split_once(" : ") else {
+            return Err(format!("FAILED: {name} quotes what is no statement: {quote}"));
+        };
+        // Up to the next field.
+        let stated =
+            claims.split(" pub ").find_map(|part| part.strip_prefix(field)?.strip_prefix(" : "));
+        if !stated.is_some_and(|stated| stated.contains(rest.trim_start_matches(".. "))) {
+            return Err(format!("FAILED: {name} quotes '{quote}', which {source} has not"));
+        }
+    }
+    Ok(quotes.len())
+}
+
+/// A text with single spaces.
+fn words(text: &str) -> String {
+    text.split_whitespace().collect::<Vec<_>>().join(" ")
 }

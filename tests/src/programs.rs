@@ -12,7 +12,7 @@ use compare::circuit::{Circuit, Gate, and, constant, not, or, random, xor};
 use compare::examples::{and_chain, constants, or_chain, the_and};
 use compare::generate::generate;
 use compare::masks::{Masks, Outcome};
-use compare::model;
+use compare::model::{self, And};
 use compare::rng::Rng;
 use compare::samples::{Sample, bits, samples};
 
@@ -52,11 +52,16 @@ pub fn test() -> Result<(), String> {
     let (mask, forecast, show) = (mask?, forecast?, show?);
     let mut rng = Rng::new(SEED);
     let plain = plain_inputs(&mut rng);
-    for input in &plain {
-        mask.expect(input, &Written::of_mask(input))?;
+    let mut masks = vec![vec![]];
+    // Every byte that names an AND.
+    for (input, dom) in plain.iter().zip((1..=255).cycle()) {
+        masks.extend([0, dom].map(|and| [&[and], &input[..]].concat()));
         forecast.expect(input, &Written::out(model::forecast_line(input)))?;
     }
-    println!("mask, forecast: {} inputs each", plain.len());
+    for input in &masks {
+        mask.expect(input, &Written::of_mask(input))?;
+    }
+    println!("mask: {} inputs; forecast: {}", masks.len(), plain.len());
     let tables = tables(&mut rng);
     for table in &tables {
         show.expect(table, &Written::out(model::listing(table)))?;
@@ -71,7 +76,10 @@ pub fn test() -> Result<(), String> {
     for sample in samples() {
         test_example(&sample, &mask, &show)?;
     }
-    println!("examples: plain, and masked at orders {ORDERS:?}, over their whole truth tables");
+    println!(
+        "examples: plain, and masked at orders {ORDERS:?} with either AND, over their whole truth \
+         tables"
+    );
     Ok(())
 }
 
@@ -92,6 +100,7 @@ fn plain_inputs(rng: &mut Rng) -> Vec<Vec<u8>> {
     let mut inputs = vec![vec![], vec![1], vec![0], with(1, &longest_table())];
     inputs.push([inputs[3].as_slice(), &[0]].concat());
     inputs.push(vec![0; inputs[4].len()]);
+    inputs.push(vec![1; 500_000]);
     inputs.extend((0..=255).map(|order| with(order, &the_and())));
     inputs.push(with(1, &and_chain(2_730)));
     inputs.push(with(1, &and_chain(2_731)));
@@ -136,7 +145,10 @@ fn in_pieces(
 ) -> Result<(), String> {
     let table = if size > 100 { and_chain(2_730) } else { the_and() };
     let input = [&[1], &table[..]].concat();
-    mask.expect_in_pieces(&input, size, &Written::of_mask(&input))?;
+    for and in And::BOTH {
+        let input = [&[and as u8], &input[..]].concat();
+        mask.expect_in_pieces(&input, size, &Written::of_mask(&input))?;
+    }
     forecast.expect_in_pieces(&input, size, &Written::out(model::forecast_line(&input)))?;
     show.expect_in_pieces(&table, size, &Written::out(model::listing(&table)))
 }
@@ -272,15 +284,15 @@ fn test_example(sample: &Sample, mask: &Program, show: &Program) -> Result<(), S
         let outputs = run(&table, &bits(x, inputs), &[], expected.len())?;
         ensure(outputs == expected, &format!("{} of {x}", sample.name))?;
     }
-    for order in ORDERS {
-        let input = [&[order], &table[..]].concat();
+    for (and, order) in And::BOTH.into_iter().flat_map(|and| ORDERS.map(|order| (and, order))) {
+        let input = [&[and as u8, order], &table[..]].concat();
         mask.expect(&input, &Written::of_mask(&input))?;
         // The S-box of AES does not fit at the largest order.
         let Ok(masked) = model::masked(&input) else { continue };
         for x in 0..1 << inputs {
             let expected = bits((sample.truth)(x), sample.circuit.outputs.len());
             let outputs = run_masked(&mut rng, &masked, order, &bits(x, inputs), expected.len())?;
-            let what = format!("{} of {x}, masked at order {order}", sample.name);
+            let what = format!("{} of {x}, masked at order {order}, {}", sample.name, and.name());
             ensure(outputs == expected, &what)?;
         }
     }

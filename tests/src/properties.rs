@@ -12,10 +12,10 @@ fn ensure(holds: bool, what: &str) -> Result<(), String> {
     if holds { Ok(()) } else { Err(what.into()) }
 }
 
-/// Checks an accepted map that answered a free share and wrote its three buffers: that the probes
-/// read the same in both runs, that the map from y to x leads back, that both runs are those of
-/// the masked table on the encoded secrets, and that their outputs decode to those of the plain
-/// table.
+/// Checks an accepted map that answered a free share and wrote its three buffers: that no probe has
+/// that mark, and no smaller share is free; that the probes read the same in both runs, that the map
+/// from y to x leads back, that both runs are those of the masked table on the encoded secrets, and
+/// that their outputs decode to those of the plain table.
 pub fn check_mapping(
     masks: &impl Masks,
     case: &MapCase,
@@ -38,9 +38,12 @@ pub fn check_mapping(
         case.probes.iter().all(|&probe| one[probe as usize] == other[probe as usize]);
     ensure(read_the_same, "a probe reads different values in the two runs")?;
 
+    check_free_share(masks, case, free_share)?;
+
     let (mut tape, mut first, mut second) =
         (vec![255; mapped.len()], vec![2; one.len()], vec![2; one.len()]);
     let back = masks.map(
+        case.and,
         &case.table,
         case.order,
         &case.second,
@@ -56,11 +59,25 @@ pub fn check_mapping(
     ensure(first == other && second == one, "the map back does not give the two runs")?;
 
     let mut masked = vec![0; bytes as usize];
-    let outcome = masks.mask(&case.table, case.order, &mut masked);
+    let outcome = masks.mask(case.and, &case.table, case.order, &mut masked);
     ensure(outcome == Outcome::value(bytes), "masking refuses what the map accepts")?;
     let encoded = 2 * usize::from(case.order) * case.first.len();
     check_run(masks, case, &masked, &case.first, cut(&case.tape, bits, encoded), one)?;
     check_run(masks, case, &masked, &case.second, cut(mapped, bits, encoded), other)
+}
+
+/// Checks that a share is the smallest that no probe carries.
+fn check_free_share(masks: &impl Masks, case: &MapCase, free_share: u32) -> Result<(), String> {
+    let mut carried = [false; 32];
+    for &probe in &case.probes {
+        let outcome = masks.marks(case.and, &case.table, case.order, probe);
+        ensure(outcome.number == 0, "the marks call refuses a probe of the map")?;
+        let [first, second, ..] = outcome.values;
+        carried[first as usize] = true;
+        carried[second as usize] = true;
+    }
+    let smallest = (1..32).find(|&share| !carried[share]);
+    ensure(smallest == Some(free_share as usize), "the free share is another")
 }
 
 /// Checks one of the two runs against encoding, running and decoding, with the two parts of its

@@ -5,7 +5,7 @@ use std::process::{Child, Command, ExitStatus, Stdio};
 use std::time::{Duration, Instant};
 use std::{env, fs, io, process, thread};
 
-use compare::model;
+use compare::model::{self, And};
 
 use crate::programs::root;
 
@@ -176,8 +176,22 @@ impl Drop for Folder {
     }
 }
 
-/// The masked table that the separate implementation gives.
+/// A command's words with --dom after the first, for the DOM AND.
+pub fn with_and<'a>(and: And, arguments: &[&'a str]) -> Vec<&'a str> {
+    let mut all = arguments.to_vec();
+    if and == And::Dom {
+        all.insert(1, "--dom");
+    }
+    all
+}
+
+/// The masked table that the separate implementation gives, with document 01's AND.
 pub fn masked(order: u8, table: &[u8]) -> Result<Vec<u8>, String> {
-    model::masked(&[&[order], table].concat())
+    masked_with(And::Isw, order, table)
+}
+
+/// The same with an AND.
+pub fn masked_with(and: And, order: u8, table: &[u8]) -> Result<Vec<u8>, String> {
+    model::masked(&[&[and as u8, order], table].concat())
         .map_err(|line| format!("FAILED: a table to be masked is {line}"))
 }

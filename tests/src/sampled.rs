@@ -3,7 +3,7 @@
 use crate::case::MapCase;
 use crate::circuit::Circuit;
 use crate::exhaustive;
-use crate::model;
+use crate::model::{self, And};
 use crate::rng::Rng;
 use crate::samples::samples;
 
@@ -19,7 +19,7 @@ pub fn circuits(order: u8) -> Vec<Circuit> {
 }
 
 /// A sound map of a circuit. The probes are anywhere, or all near one another; some repeat.
-pub fn draw(rng: &mut Rng, circuit: &Circuit, order: u8) -> MapCase {
+pub fn draw(rng: &mut Rng, and: And, circuit: &Circuit, order: u8) -> MapCase {
     let table = circuit.bytes();
     let sizes = model::forecast(&table, order).expect("the circuit can be masked");
     let (wires, inputs) = (sizes.wires as usize, usize::from(circuit.inputs));
@@ -32,6 +32,7 @@ pub fn draw(rng: &mut Rng, circuit: &Circuit, order: u8) -> MapCase {
     };
     let probes = (0..count).map(|_| ((from + rng.below(width)) % wires) as u32).collect();
     MapCase {
+        and,
         table,
         order,
         first: rng.bits(inputs),

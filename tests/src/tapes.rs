@@ -8,11 +8,11 @@ use std::ops::Range;
 use crate::case::{Call, Case, MapCase};
 use crate::generate::{PLAIN_KINDS, circuit};
 use crate::masks::Outcome;
-use crate::model::{AND, MOST, OR, RANDOM, bytes_for, pack};
+use crate::model::{AND, And, MOST, OR, RANDOM, bytes_for, pack};
 use crate::rng::Rng;
 
 /// The calls that take a tape.
-pub const CALLS: [Call; 3] = [Call::Encode, Call::Run, Call::Map];
+pub const CALLS: [Call; 4] = [Call::Encode, Call::Run, Call::Map(And::Isw), Call::Map(And::Dom)];
 
 /// A case with a tape of so many bits, and how it must be refused, if at all.
 struct Trial {
@@ -82,7 +82,8 @@ fn trials(rng: &mut Rng, call: Call, bits: usize) -> Vec<Trial> {
     let sound = match call {
         Call::Encode => encode(rng, bits),
         Call::Run => run(rng, bits),
-        _ => Case::Map(map(rng, bits)),
+        Call::Map(and) => Case::Map(map(rng, and, bits)),
+        _ => unreachable!("the call takes a tape"),
     };
     if chosen(call, bits) {
         return all_trials(rng, &sound, bits);
@@ -171,7 +172,7 @@ fn most_ands(bits: usize) -> usize {
     ((bits - 2) / 3).min((2 * MOST - 3 * bits) / 39)
 }
 
-fn map(rng: &mut Rng, bits: usize) -> MapCase {
+fn map(rng: &mut Rng, and: And, bits: usize) -> MapCase {
     let odd = bits % 2;
     let ands = odd + 2 * rng.below((most_ands(bits).min(100) - odd) / 2 + 1);
     let inputs = (bits - 3 * ands) / 2;
@@ -182,6 +183,7 @@ fn map(rng: &mut Rng, bits: usize) -> MapCase {
     let mut kinds = [vec![AND; ands - ors], vec![OR; ors]].concat();
     rng.shuffle(&mut kinds);
     MapCase {
+        and,
         table: circuit(rng, inputs, &kinds, 2).bytes(),
         order: 1,
         first: rng.bits(inputs),

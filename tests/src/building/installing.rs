@@ -65,7 +65,8 @@ fn works(folder: &Folder, tools: &Tools, prefix: &Path) -> Result<(), String> {
     if find("pkg-config").is_some() { links(folder, prefix) } else { Ok(()) }
 }
 
-/// A program that sees every answer by its name: success with each kind, and each refusal, 4 twice.
+/// A program that sees every answer by its name: success with each kind, each refusal, 4 twice, and one
+/// of each entry with the DOM AND.
 const PROGRAM: &str = include_str!("refusals.c");
 
 /// The flags that pkg-config tells compile and link a program in C.
@@ -80,7 +81,7 @@ fn links(folder: &Folder, prefix: &Path) -> Result<(), String> {
             .env("PKG_CONFIG_PATH", prefix.join("lib/pkgconfig")),
     )?;
     let lines: Vec<&str> = ran.out.lines().collect();
-    let sound = lines.len() == 2 && lines[0] == format!("{} 20", lines[1]);
+    let sound = lines.len() == 2 && lines[0] == format!("{} 23", lines[1]);
     ensure(ran.is_done() && sound, &ran, "the flags for C do not work")
 }
 

@@ -11,10 +11,10 @@ use std::process::Command;
 use std::{env, fs};
 
 use compare::examples::the_and;
-use compare::model;
+use compare::model::{self, And};
 
 use crate::programs::root;
-use crate::running::{Folder, Ran, ensure, masked};
+use crate::running::{Folder, Ran, ensure, masked, masked_with, with_and};
 
 /// All tests of building, with a line for each group.
 pub fn test() -> Result<(), String> {
@@ -153,11 +153,13 @@ fn all_work(command: &Path, caller: &Path, prepare: &dyn Fn(&mut Command)) -> Re
         prepare(&mut run);
         Ran::of(&mut run)
     };
-    drop(fs::remove_file(&out));
-    let ran = run(&["mask", "1", "../table", "out"])?;
-    ensure(ran.is_done() && ran.out.lines().count() == 3, &ran, "masking fails")?;
-    let written = fs::read(&out).map_err(|error| format!("FAILED: OUT: {error}"))?;
-    ensure(written == masked(1, &the_and())?, &ran, "OUT is another table")?;
+    for and in And::BOTH {
+        drop(fs::remove_file(&out));
+        let ran = run(&with_and(and, &["mask", "1", "../table", "out"]))?;
+        ensure(ran.is_done() && ran.out.lines().count() == 3, &ran, "masking fails")?;
+        let written = fs::read(&out).map_err(|error| format!("FAILED: OUT: {error}"))?;
+        ensure(written == masked_with(and, 1, &the_and())?, &ran, "OUT is another table")?;
+    }
     for (arguments, beginning) in on_tables("../") {
         let arguments: Vec<&str> = arguments.iter().map(String::as_str).collect();
         let ran = run(&arguments)?;

@@ -36,7 +36,7 @@ impl Begun {
     fn new(folder: &Folder, turn: usize, out: &str) -> Result<Self, String> {
         let masks = turn.is_multiple_of(3);
         let (arguments, beginning) = if masks {
-            let sizes = "3 shares, 30 wires, 7 tape bits\n".into();
+            let sizes = "3 shares, 30 wires, 7 tape bits, AND: ISW\n".into();
             (["mask", "1", "table", out].map(String::from).to_vec(), sizes)
         } else {
             let others = on_tables("");

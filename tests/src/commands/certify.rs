@@ -3,22 +3,25 @@
 use std::fs;
 use std::process::Command;
 
-use compare::circuit::{Circuit, and, random};
+use compare::circuit::{Circuit, and, not, random, xor};
 use compare::examples::the_and;
-use compare::model;
+use compare::model::{self, And};
 use compare::samples::samples;
 
 use crate::programs::root;
-use crate::running::{Folder, Ran, ensure, masked};
+use crate::running::{Folder, Ran, ensure, masked_with, with_and};
 
 pub fn test(folder: &Folder) -> Result<(), String> {
-    for sample in samples() {
-        for order in [1, 2, 7] {
-            certificate(folder, &sample.circuit.bytes(), order)?;
+    for and in And::BOTH {
+        for sample in samples() {
+            for order in [1, 2, 7] {
+                certificate(folder, and, &sample.circuit.bytes(), order)?;
+            }
         }
+        differences(folder, and)?;
     }
+    other_and(folder)?;
     theorem()?;
-    differences(folder)?;
     not_certified(folder)
 }
 
@@ -43,13 +46,13 @@ fn entry<'a>(ran: &'a Ran, name: &str) -> &'a str {
 }
 
 /// A certificate of a sound masking says all that it rests on.
-fn certificate(folder: &Folder, table: &[u8], order: u8) -> Result<(), String> {
+fn certificate(folder: &Folder, and: And, table: &[u8], order: u8) -> Result<(), String> {
     folder.write("table", table)?;
-    folder.write("masked", &masked(order, table)?)?;
+    folder.write("masked", &masked_with(and, order, table)?)?;
     let sizes = model::forecast(table, order)
         .map_err(|refusal| format!("FAILED: a sample is refused: {refusal:?}"))?;
     let before = today()?;
-    let ran = folder.run(&["certify", &format!("0{order}"), "table", "masked"])?;
+    let ran = folder.run(&with_and(and, &["certify", &format!("0{order}"), "table", "masked"]))?;
     let days = [before, today()?];
     ensure(ran.is_done(), &ran, "a masked table is not certified")?;
     let version = folder.run(&["version"])?;
@@ -57,6 +60,7 @@ fn certificate(folder: &Folder, table: &[u8], order: u8) -> Result<(), String> {
     ensure(told.len() == 3, &version, "version has not three lines")?;
     let entries = [
         ("order", format!("{order}: at most {order} of the wires are read together")),
+        ("AND", of_and(and).into()),
         ("shares", format!("{} for each bit", sizes.shares)),
         ("wires", format!("{} in the masked table", sizes.wires)),
         ("tape", format!("{} random bits for each run", sizes.tape)),
@@ -69,7 +73,17 @@ fn certificate(folder: &Folder, table: &[u8], order: u8) -> Result<(), String> {
     for (name, text) in entries {
         ensure(entry(&ran, name) == text, &ran, &format!("under '{name}' is not '{text}'"))?;
     }
+    let told = format!("masking the plain table at order {order} with the {} AND", and.name());
+    ensure(ran.out.contains(&told), &ran, &told)?;
     ensure(days.iter().any(|day| entry(&ran, "date") == day), &ran, "the date is another")
+}
+
+/// What a certificate says of an AND.
+fn of_and(and: And) -> &'static str {
+    match and {
+        And::Isw => "ISW, of Ishai, Sahai and Wagner",
+        And::Dom => "DOM, of VERISICC Deliverable L2.3",
+    }
 }
 
 /// The theorem that certificates name is where they say.
@@ -94,8 +108,8 @@ fn difference(given: &[u8], due: &[u8]) -> String {
 }
 
 /// Any file but the masked table is told by its first difference.
-fn differences(folder: &Folder) -> Result<(), String> {
-    let due = masked(1, &the_and())?;
+fn differences(folder: &Folder, and: And) -> Result<(), String> {
+    let due = masked_with(and, 1, &the_and())?;
     let last = due.len() - 1;
     let changed = |at: usize, to: u8| {
         let mut bytes = due.clone();
@@ -108,18 +122,49 @@ fn differences(folder: &Folder) -> Result<(), String> {
     cases.extend([changed(0, 0), changed(0, 255), changed(last, 255)]);
     cases.extend([without(0), without(last / 2), without(last)]);
     cases.extend([[&due[..], &[0]].concat(), [&due[..], &[255, 255]].concat(), vec![], vec![6]]);
-    cases.extend([masked(2, &the_and())?, the_and(), vec![0; 500_000]]);
+    cases.extend([masked_with(and, 2, &the_and())?, the_and(), vec![0; 500_000]]);
     folder.write("table", &the_and())?;
     for given in cases {
-        folder.write("masked", &given)?;
-        let ran = folder.run(&["certify", "1", "table", "masked"])?;
-        let told =
-            format!("'masked' is not 'table' masked at order 1: {}\n", difference(&given, &due));
-        ensure(ran.is_ended(1, &told), &ran, &told)?;
+        not_masked(folder, and, 1, &given, &due)?;
     }
-    folder.write("masked", &due)?;
-    let ran = folder.run(&["certify", "2", "table", "masked"])?;
-    ensure(ran.is_ended(1, "'masked' is not 'table' masked at order 2: "), &ran, "another order")
+    not_masked(folder, and, 2, &due, &masked_with(and, 2, &the_and())?)
+}
+
+/// A file that is not the table masked at an order with an AND, and is told so.
+fn not_masked(
+    folder: &Folder,
+    and: And,
+    order: u8,
+    given: &[u8],
+    due: &[u8],
+) -> Result<(), String> {
+    folder.write("masked", given)?;
+    let ran = folder.run(&with_and(and, &["certify", &order.to_string(), "table", "masked"]))?;
+    let told = format!(
+        "'masked' is not 'table' masked at order {order} with the {} AND: {}\n",
+        and.name(),
+        difference(given, due)
+    );
+    ensure(ran.is_ended(1, &told), &ran, &told)
+}
+
+/// A table that was masked with one AND is not certified with the other, unless it has none.
+fn other_and(folder: &Folder) -> Result<(), String> {
+    for sample in samples() {
+        let table = sample.circuit.bytes();
+        folder.write("table", &table)?;
+        for order in [1, 3] {
+            let [isw, dom] =
+                [masked_with(And::Isw, order, &table)?, masked_with(And::Dom, order, &table)?];
+            not_masked(folder, And::Isw, order, &dom, &isw)?;
+            not_masked(folder, And::Dom, order, &isw, &dom)?;
+        }
+    }
+    let table = Circuit::new(2, &[xor(0, 1), not(2)], &[3]).bytes();
+    for and in And::BOTH {
+        certificate(folder, and, &table, 1)?;
+    }
+    Ok(())
 }
 
 /// A refused table and a missing file.

@@ -35,7 +35,7 @@ fn names(folder: &Folder) -> Result<(), String> {
         ensure(ran.is_ended(2, &told), &ran, &told)?;
     }
     let ran = folder.run(&["certify", "1", name, r"\0"])?;
-    let told = format!(r"'\0' is not '{name}' masked at order 1: ");
+    let told = format!(r"'\0' is not '{name}' masked at order 1 with the ISW AND: ");
     ensure(ran.is_ended(1, &told), &ran, &told)?;
     for word in [r"a\nb\c", "-n"] {
         for (arguments, told) in [

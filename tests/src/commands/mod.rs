@@ -11,11 +11,11 @@ use std::time::{Duration, Instant};
 use std::{fs, thread};
 
 use compare::examples::{and_chain, the_and};
-use compare::model;
+use compare::model::{self, And};
 
 pub use check::counts;
 
-use crate::running::{Folder, Ran, Started, at_terminal, ensure, masked};
+use crate::running::{Folder, Ran, Started, at_terminal, ensure, masked, masked_with, with_and};
 
 /// What is in OUT before a command that must leave it.
 const KEPT: &[u8] = b"kept";
@@ -47,32 +47,56 @@ fn masks(folder: &Folder) -> Result<(), String> {
         [("a table", "-o u t"), ("-n", "sub folder/out"), ("é\"$(x)'", "*"), (same, same)]
     {
         for (order, number) in [("1", 1), ("02", 2), ("15", 15)] {
-            folder.write(name, &the_and())?;
-            let ran = folder.run(&["mask", order, name, out])?;
-            ensure(ran.is_done(), &ran, "masking fails")?;
-            ensure(folder.read(out)? == masked(number, &the_and())?, &ran, "OUT is another table")?;
-            ensure(ran.out.lines().count() == 3, &ran, "not three lines are printed")?;
+            for and in And::BOTH {
+                folder.write(name, &the_and())?;
+                let ran = folder.run(&with_and(and, &["mask", order, name, out]))?;
+                ensure(ran.is_done(), &ran, "masking fails")?;
+                let due = masked_with(and, number, &the_and())?;
+                ensure(folder.read(out)? == due, &ran, "OUT is another table")?;
+                ensure(ran.out.lines().count() == 3, &ran, "not three lines are printed")?;
+            }
         }
     }
-    folder.write("a table", &the_and())?;
-    let ran = folder.run(&["mask", "1", "a table", "out"])?;
-    let lines: Vec<&str> = ran.out.lines().collect();
-    ensure(lines[0] == "3 shares, 30 wires, 7 tape bits", &ran, "the sizes are others")?;
-    ensure(lines[1].contains("at most 1 of the wires"), &ran, "the order is not told")?;
-    let sums = [
-        "e76497d5f59abde9ac7b940f45d23a8f4f44700dac55e8d3ea9072e787842373",
-        "c8a64748704044ba1808524e5e48f093667c20f21635ba6b1dafe0bd5feda0ca",
-    ];
-    ensure(sums.iter().all(|sum| lines[2].contains(sum)), &ran, "the sums are others")?;
-    folder.write("chain", &and_chain(2_730))?;
-    let ran = folder.run(&["mask", "1", "chain", "out"])?;
-    let sizes = "3 shares, 65526 wires, 8194 tape bits\n";
-    ensure(ran.out.starts_with(sizes), &ran, "the sizes of the longest chain are others")
+    // A file may have the name of the option.
+    folder.write("--dom", &the_and())?;
+    let ran = folder.run(&["mask", "1", "--dom", "--dom"])?;
+    ensure(folder.read("--dom")? == masked(1, &the_and())?, &ran, "OUT is another table")?;
+    for (and, masked_sum) in [
+        (And::Isw, "c8a64748704044ba1808524e5e48f093667c20f21635ba6b1dafe0bd5feda0ca"),
+        (And::Dom, "632a4659df7eff4c056d171e1f1b8a0b5816fd007e72d6b5574c7a33b77eee6f"),
+    ] {
+        let name = and.name();
+        folder.write("a table", &the_and())?;
+        let ran = folder.run(&with_and(and, &["mask", "1", "a table", "out"]))?;
+        let lines: Vec<&str> = ran.out.lines().collect();
+        let sizes = format!("3 shares, 30 wires, 7 tape bits, AND: {name}");
+        ensure(lines[0] == sizes, &ran, "the sizes or the AND are others")?;
+        ensure(lines[1].contains("at most 1 of the wires"), &ran, "the order is not told")?;
+        let plain_sum = "e76497d5f59abde9ac7b940f45d23a8f4f44700dac55e8d3ea9072e787842373";
+        let told = [plain_sum, masked_sum].iter().all(|sum| lines[2].contains(sum));
+        ensure(told, &ran, "the sums are others")?;
+        folder.write("chain", &and_chain(2_730))?;
+        let ran = folder.run(&with_and(and, &["mask", "1", "chain", "out"]))?;
+        let sizes = format!("3 shares, 65526 wires, 8194 tape bits, AND: {name}\n");
+        ensure(ran.out.starts_with(&sizes), &ran, "the sizes of the longest chain are others")?;
+    }
+    Ok(())
 }
 
 /// Arguments that no command takes.
-const BAD: [&[&str]; 36] = [
+const BAD: [&[&str]; 50] = [
     &["mask"],
+    &["mask", "--dom"],
+    &["mask", "--dom", "1", "table"],
+    &["mask", "--dom", "1", "table", "out", "out"],
+    &["mask", "--dom", "one", "table", "out"],
+    &["mask", "--dom", "--dom", "table", "out"],
+    &["mask", "--dom", "--dom", "1", "table", "out"],
+    &["mask", "--don", "1", "table", "out"],
+    &["mask", "--", "1", "table", "out"],
+    &["mask", "-dom", "1", "table", "out"],
+    &["mask", "1", "--dom", "table", "out"],
+    &["mask", "1", "table", "out", "--dom"],
     &["mask", "1", "table"],
     &["mask", "1", "table", "out", "out"],
     &["mask", "", "table", "out"],
@@ -92,7 +116,10 @@ const BAD: [&[&str]; 36] = [
     &["forecast", "-1", "table"],
     &["forecast", "1 ", "table"],
     &["forecast", "1", "no such table"],
+    &["forecast", "--dom", "1", "table"],
     &["certify", "1", "table"],
+    &["certify", "--dom", "1", "table"],
+    &["certify", "--don", "1", "table", "out"],
     &["certify", "", "table", "out"],
     &["certify", "one", "table", "out"],
     &["certify", "-1", "table", "out"],
@@ -118,6 +145,11 @@ fn bad_arguments(folder: &Folder) -> Result<(), String> {
         let ran = folder.run(arguments)?;
         ensure(ran.is_ended(2, "fantzori: "), &ran, "it is not told as an error in one line")?;
         ensure_kept(folder)?;
+    }
+    for word in ["mask", "certify"] {
+        let ran = folder.run(&[word, "--don", "1", "table", "out"])?;
+        let told = format!("fantzori: {word} has no option '--don', only --dom\n");
+        ensure(ran.is_ended(2, &told), &ran, &told)?;
     }
     Ok(())
 }

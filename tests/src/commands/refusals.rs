@@ -2,10 +2,10 @@
 
 use compare::circuit::{Circuit, Gate, and, constant, not, or, random, xor};
 use compare::examples::{and_chain, the_and};
-use compare::model::{self, AND, MOST, NOT, OR};
+use compare::model::{self, AND, And, MOST, NOT, OR};
 
 use super::{KEPT, ensure_kept};
-use crate::running::{Folder, ensure, masked};
+use crate::running::{Folder, ensure, masked_with, with_and};
 
 const WRONG_ORDER: &str = "refused 6: the order is not 1 to 15\n";
 
@@ -55,8 +55,8 @@ fn by_number(folder: &Folder) -> Result<(), String> {
     for (table, told) in faulty().into_iter().chain(others) {
         folder.write("table", &table)?;
         folder.write("out", KEPT)?;
-        for out in ["out", "not there"] {
-            let ran = folder.run(&["mask", "1", "table", out])?;
+        for (and, out) in And::BOTH.into_iter().flat_map(|and| [(and, "out"), (and, "not there")]) {
+            let ran = folder.run(&with_and(and, &["mask", "1", "table", out]))?;
             ensure(ran.is_ended(1, told), &ran, told)?;
         }
         ensure_kept(folder)?;
@@ -65,11 +65,13 @@ fn by_number(folder: &Folder) -> Result<(), String> {
 }
 
 /// The commands that take an order, over the files "table" and "out".
-fn with_order(order: &str) -> [Vec<&str>; 3] {
+fn with_order(order: &str) -> [Vec<&str>; 5] {
     [
         vec!["mask", order, "table", "out"],
+        vec!["mask", "--dom", order, "table", "out"],
         vec!["forecast", order, "table"],
         vec!["certify", order, "table", "out"],
+        vec!["certify", "--dom", order, "table", "out"],
     ]
 }
 
@@ -185,10 +187,14 @@ fn long_tables(folder: &Folder) -> Result<(), String> {
         let ran = folder.run(&["forecast", "1", "table"])?;
         let told = ran.told.contains("mask takes longer ones");
         ensure(ran.is_ended(1, "refused 9: ") && told, &ran, "a long table is not told")?;
-        let ran = folder.run(&["mask", "1", "table", "out"])?;
-        let sizes = format!("3 shares, {sizes} tape bits\n");
-        ensure(ran.is_done() && ran.out.starts_with(&sizes), &ran, "a long table is not masked")?;
-        ensure(folder.read("out")? == masked(1, &table)?, &ran, "OUT is another table")?;
+        for and in And::BOTH {
+            let ran = folder.run(&with_and(and, &["mask", "1", "table", "out"]))?;
+            let sizes = format!("3 shares, {sizes} tape bits, AND: {}\n", and.name());
+            let told = ran.out.starts_with(&sizes);
+            ensure(ran.is_done() && told, &ran, "a long table is not masked")?;
+            let due = masked_with(and, 1, &table)?;
+            ensure(folder.read("out")? == due, &ran, "OUT is another table")?;
+        }
     }
     Ok(())
 }

@@ -1,5 +1,6 @@
 //! The mapped tape.
 
+use super::and::And;
 use super::masking::{Gates, Plain, Shares, mask_gate, pair_index};
 use super::table::{AND, CONSTANT, NOT, XOR};
 use super::tape::{bit, bytes_for, check_unused, flip};
@@ -13,18 +14,17 @@ struct Runs<'a> {
     mapped: &'a mut [u8],
     next_wire: usize,
     next_bit: usize,
+    and: And,
     /// The number of shares, and the free one.
     n: usize,
     k: usize,
 }
 
 impl Runs<'_> {
-    /// Whether a_k·b_j ⊕ a_j·b_k differs between the runs.
-    fn cross_differs(&self, a: Shares, b: Shares, j: usize) -> u8 {
-        let k = self.k;
-        let cross =
-            |run: &[u8]| (run[a.wire(k)] & run[b.wire(j)]) ^ (run[a.wire(j)] & run[b.wire(k)]);
-        cross(self.one) ^ cross(self.other)
+    /// Whether a_i·b_j differs between the runs.
+    fn product_differs(&self, a: Shares, i: usize, b: Shares, j: usize) -> u8 {
+        let product = |run: &[u8]| run[a.wire(i)] & run[b.wire(j)];
+        product(self.one) ^ product(self.other)
     }
 }
 
@@ -49,21 +49,32 @@ impl Gates for Runs<'_> {
         self.next_wire += 1;
     }
 
-    /// Flips z(k,j), j > k, in the mapped tape where that differs.
+    /// Flips random bits of pairs of k in the mapped tape. Document 01's AND: z(k,j), j > k, where
+    /// a_k·b_j ⊕ a_j·b_k differs. The DOM AND: that of k and j where a_j·b_k differs.
     fn before_and(&mut self, a: Shares, b: Shares) {
-        for j in self.k + 1..=self.n {
-            let differs = self.cross_differs(a, b, j);
-            flip(self.mapped, self.next_bit + pair_index(self.n, self.k, j), differs);
+        let (n, k) = (self.n, self.k);
+        if self.and == And::Dom {
+            for j in 1..k {
+                let differs = self.product_differs(a, j, b, k);
+                flip(self.mapped, self.next_bit + pair_index(n, j, k), differs);
+            }
+        }
+        for j in k + 1..=n {
+            let mut differs = self.product_differs(a, j, b, k);
+            if self.and == And::Isw {
+                differs ^= self.product_differs(a, k, b, j);
+            }
+            flip(self.mapped, self.next_bit + pair_index(n, k, j), differs);
         }
     }
 }
 
 impl Plain<'_> {
     /// The smallest share that no probe carries.
-    fn free_share(&self, probes: &[u32]) -> usize {
+    fn free_share(&self, and: And, probes: &[u32]) -> usize {
         let mut carried = [false; 32];
         for &probe in probes {
-            let marks = self.marks(probe as usize);
+            let marks = self.marks(and, probe as usize);
             carried[usize::from(marks.first)] = true;
             carried[usize::from(marks.second)] = true;
         }
@@ -76,6 +87,7 @@ impl Plain<'_> {
 /// runs; answers the free share.
 #[allow(clippy::too_many_arguments)]
 pub fn map(
+    and: And,
     table: &[u8],
     order: u8,
     first: &[u8],
@@ -99,7 +111,7 @@ pub fn map(
     }
     Fault::Buffer.when(mapped.len() < bytes || one.len() < wires || other.len() < wires)?;
 
-    let k = plain.free_share(probes);
+    let k = plain.free_share(and, probes);
     let (mapped, one, other) = (&mut mapped[..bytes], &mut one[..wires], &mut other[..wires]);
     mapped.copy_from_slice(tape);
     let input_bits = 2 * order.t;
@@ -112,10 +124,10 @@ pub fn map(
     order.share(second, mapped, other);
 
     let (next_wire, next_bit) = (plain.inputs(), input_bits * inputs);
-    let mut runs = Runs { one, other, tape, mapped, next_wire, next_bit, n: order.n, k };
+    let mut runs = Runs { one, other, tape, mapped, next_wire, next_bit, and, n: order.n, k };
     let mut shares = plain.input_shares();
     for gate in table.gates() {
-        shares.push(mask_gate(&mut runs, order.n, gate, &shares));
+        shares.push(mask_gate(&mut runs, and, order.n, gate, &shares));
     }
     Ok(k as u32)
 }

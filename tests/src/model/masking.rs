@@ -1,5 +1,6 @@
 //! Masking a plain table: sizes, the masked table, and the marks of its wires.
 
+use super::and::And;
 use super::shares::Order;
 use super::table::{AND, CONSTANT, Gate, NOT, OR, RANDOM, Table, XOR};
 use super::{Fault, MOST, Refusal};
@@ -21,11 +22,11 @@ pub struct Marks {
 }
 
 impl Marks {
-    fn one(share: usize) -> Self {
+    pub(super) fn one(share: usize) -> Self {
         Marks { first: share as u8, second: 0 }
     }
 
-    fn two(first: usize, second: usize) -> Self {
+    pub(super) fn two(first: usize, second: usize) -> Self {
         Marks { first: first as u8, second: second as u8 }
     }
 }
@@ -118,7 +119,7 @@ impl<'a> Plain<'a> {
     }
 
     /// The marks of a masked wire.
-    pub fn marks(&self, wire: usize) -> Marks {
+    pub fn marks(&self, and: And, wire: usize) -> Marks {
         let Some(mut offset) = wire.checked_sub(self.inputs()) else {
             return Marks::one(wire % self.order.n + 1);
         };
@@ -131,8 +132,8 @@ impl<'a> Plain<'a> {
                     XOR | CONSTANT => Marks::one(offset + 1),
                     // The two NOTs of its operands, and that of its result.
                     OR if offset < 2 || offset == cost - 1 => Marks::one(1),
-                    OR => and_marks(self.order, offset - 2),
-                    _ => and_marks(self.order, offset),
+                    OR => and_marks(and, self.order, offset - 2),
+                    _ => and_marks(and, self.order, offset),
                 };
             }
             offset -= cost;
@@ -152,7 +153,7 @@ fn gate_cost(order: Order, kind: u8) -> usize {
 }
 
 /// The marks of a wire inside a masked AND: five wires for each pair, then n for each row.
-fn and_marks(order: Order, offset: usize) -> Marks {
+fn and_marks(and: And, order: Order, offset: usize) -> Marks {
     if let Some(rows) = offset.checked_sub(5 * order.pairs()) {
         return Marks::one(rows / order.n + 1);
     }
@@ -161,11 +162,7 @@ fn and_marks(order: Order, offset: usize) -> Marks {
         i += 1;
         j = j - order.n + i;
     }
-    match offset % 5 {
-        0 => Marks::one(i),
-        4 => Marks::one(j),
-        _ => Marks::two(i, j),
-    }
+    and.pair_marks(offset % 5, i, j)
 }
 
 /// How many pairs stand before the pair i < j.
@@ -176,7 +173,13 @@ pub(super) fn pair_index(n: usize, i: usize, j: usize) -> usize {
 /// Hands over the masked gates of a plain gate, given where the shares of earlier plain wires stand;
 /// answers where those of its result do.
 #[inline]
-pub(super) fn mask_gate(gates: &mut impl Gates, n: usize, gate: Gate, shares: &[Shares]) -> Shares {
+pub(super) fn mask_gate(
+    gates: &mut impl Gates,
+    and: And,
+    n: usize,
+    gate: Gate,
+    shares: &[Shares],
+) -> Shares {
     match gate.kind {
         NOT => negate(gates, shares[gate.left]),
         XOR => {
@@ -202,7 +205,10 @@ pub(super) fn mask_gate(gates: &mut impl Gates, n: usize, gate: Gate, shares: &[
                 a = negate(gates, a);
                 b = negate(gates, b);
             }
-            let both = mask_and(gates, n, a, b);
+            let both = match and {
+                And::Isw => mask_and::<false>(gates, n, a, b),
+                And::Dom => mask_and::<true>(gates, n, a, b),
+            };
             if gate.kind == OR { negate(gates, both) } else { both }
         }
     }
@@ -215,30 +221,33 @@ fn negate(gates: &mut impl Gates, a: Shares) -> Shares {
     Shares { first, ..a }
 }
 
-/// Hands over the gates of an AND: five for each pair, then the rows.
+/// Hands over the gates of an AND: five for each pair, then the rows. It is compiled for each AND apart.
 #[inline]
-fn mask_and(gates: &mut impl Gates, n: usize, a: Shares, b: Shares) -> Shares {
+fn mask_and<const DOM: bool>(gates: &mut impl Gates, n: usize, a: Shares, b: Shares) -> Shares {
+    let and = if DOM { And::Dom } else { And::Isw };
     gates.before_and(a, b);
     let start = gates.next_wire();
+    let [third, fifth] = and.sums();
     for i in 1..=n {
         for j in i + 1..=n {
-            let z = gates.next_wire();
+            let pair = gates.next_wire();
             gates.gate(RANDOM, 0, 0);
             gates.gate(AND, a.wire(i), b.wire(j));
-            gates.gate(XOR, z, z + 1);
+            gates.gate(XOR, pair + third.0, pair + third.1);
             gates.gate(AND, a.wire(j), b.wire(i));
-            gates.gate(XOR, z + 2, z + 3);
+            gates.gate(XOR, pair + fifth.0, pair + fifth.1);
         }
     }
     let rows = gates.next_wire();
+    let (lower, upper) = and.added();
     for i in 1..=n {
         gates.gate(AND, a.wire(i), b.wire(i));
         for j in 1..i {
-            let z = start + 5 * pair_index(n, j, i) + 4;
+            let z = start + 5 * pair_index(n, j, i) + upper;
             gates.gate(XOR, gates.next_wire() - 1, z);
         }
         for j in i + 1..=n {
-            let z = start + 5 * pair_index(n, i, j);
+            let z = start + 5 * pair_index(n, i, j) + lower;
             gates.gate(XOR, gates.next_wire() - 1, z);
         }
     }
@@ -279,7 +288,7 @@ pub fn forecast(table: &[u8], order: u8) -> Result<Sizes, Refusal> {
 }
 
 /// Writes the masked table and answers its number of bytes.
-pub fn mask(table: &[u8], order: u8, out: &mut [u8]) -> Result<u32, Refusal> {
+pub fn mask(and: And, table: &[u8], order: u8, out: &mut [u8]) -> Result<u32, Refusal> {
     let plain = Plain::new(table, order)?;
     let (bytes, n) = (plain.bytes(), plain.order.n);
     Fault::Buffer.when(out.len() < bytes)?;
@@ -296,7 +305,7 @@ pub fn mask(table: &[u8], order: u8, out: &mut [u8]) -> Result<u32, Refusal> {
     let mut writer = Writer { kinds, pairs, inputs: plain.inputs(), written: 0 };
     let mut shares = plain.input_shares();
     for gate in plain.table.gates() {
-        shares.push(mask_gate(&mut writer, n, gate, &shares));
+        shares.push(mask_gate(&mut writer, and, n, gate, &shares));
     }
     for (group, wire) in outputs.chunks_exact_mut(2 * n).zip(plain.table.outputs()) {
         for (s, field) in (1..).zip(group.chunks_exact_mut(2)) {
@@ -307,8 +316,8 @@ pub fn mask(table: &[u8], order: u8, out: &mut [u8]) -> Result<u32, Refusal> {
 }
 
 /// Answers the marks of a masked wire.
-pub fn marks(table: &[u8], order: u8, wire: u32) -> Result<Marks, Refusal> {
+pub fn marks(and: And, table: &[u8], order: u8, wire: u32) -> Result<Marks, Refusal> {
     let plain = Plain::new(table, order)?;
     Fault::Probe.when(wire as usize >= plain.wires)?;
-    Ok(plain.marks(wire as usize))
+    Ok(plain.marks(and, wire as usize))
 }

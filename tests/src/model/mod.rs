@@ -1,10 +1,11 @@
 //! Document 01, written from the paper: checking, running, forecasting, masking, encoding,
-//! decoding, marks, the mapped tape, and what the programs write. Tapes are packed, and there are
-//! constants and ORs, as Cards 4 and 6 ask.
+//! decoding, marks, the mapped tape, and what the programs write. Tapes are packed, there are
+//! constants and ORs, and a second AND, as Cards 4, 6 and 8 ask.
 //!
 //! Every call answers its value or a refusal. It writes into the lent buffers only when nothing
 //! is refused, and then only what the paper says; the rest of a longer buffer stays.
 
+mod and;
 mod map;
 mod masking;
 mod program;
@@ -12,6 +13,7 @@ mod shares;
 mod table;
 mod tape;
 
+pub use and::And;
 pub use map::map;
 pub use masking::{Marks, Sizes, forecast, marks, mask};
 pub use program::{forecast_line, listing, masked};

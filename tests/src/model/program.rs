@@ -1,7 +1,7 @@
 //! The programs, as functions from what they read to what they write.
 
 use super::table::Table;
-use super::{AND, CONSTANT, NOT, OR, Refusal, XOR, forecast, mask};
+use super::{AND, And, CONSTANT, NOT, OR, Refusal, XOR, forecast, mask};
 
 /// The longest input, the order byte included, that the forecast program takes.
 const MOST_FORECAST: usize = 65_536;
@@ -36,11 +36,17 @@ pub fn forecast_line(input: &[u8]) -> String {
     }
 }
 
-/// The masked table that the mask program writes for an input, or the line of its refusal.
+/// The masked table that the mask program writes for an input, or the line of its refusal. The first
+/// byte names the AND: 0 is that of document 01, any other the DOM AND.
 pub fn masked(input: &[u8]) -> Result<Vec<u8>, String> {
-    let (order, table) = order_and_table(input);
+    let (and, rest) = match input {
+        [0, rest @ ..] => (And::Isw, rest),
+        [_, rest @ ..] => (And::Dom, rest),
+        [] => (And::Isw, input),
+    };
+    let (order, table) = order_and_table(rest);
     let mut out = vec![0; forecast(table, order)?.bytes as usize];
-    mask(table, order, &mut out)?;
+    mask(and, table, order, &mut out)?;
     Ok(out)
 }
 

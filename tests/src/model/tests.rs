@@ -4,7 +4,7 @@ use super::*;
 use crate::case::{Call, Case, Lent};
 use crate::circuit::{Circuit, and, constant, or};
 use crate::compare::Tally;
-use crate::examples::{examples, map_examples, the_and};
+use crate::examples::{examples, the_and};
 use crate::exhaustive::{check_maps, check_patterns, circuits, circuits_for_order_2};
 use crate::generate::generate;
 use crate::kinds;
@@ -17,7 +17,7 @@ use crate::tapes;
 
 #[test]
 fn the_papers_examples_hold() {
-    for example in examples().into_iter().chain(map_examples()) {
+    for example in examples() {
         if let Err(text) = example.put_to(&Model) {
             panic!("{}\n{}\n{text}", example.name, example.case);
         }
@@ -33,6 +33,23 @@ fn the_forecast_line_is_the_papers() {
     assert_eq!(forecast_line(&[&[0][..], &the_and()].concat()), "refused 6 0\n");
     assert_eq!(forecast_line(&[0; 65_536]), "refused 2 0\n");
     assert_eq!(forecast_line(&[0; 65_537]), "refused 9 0\n");
+}
+
+#[test]
+fn the_first_byte_names_the_and() {
+    let masked_with = |and| {
+        let mut out = vec![0; 132];
+        mask(and, &the_and(), 1, &mut out).unwrap();
+        out
+    };
+    for byte in 0..=255 {
+        let and = if byte == 0 { And::Isw } else { And::Dom };
+        assert_eq!(masked(&[&[byte, 1][..], &the_and()].concat()), Ok(masked_with(and)));
+        assert_eq!(masked(&[byte]), Err("refused 1 0\n".into()));
+        assert_eq!(masked(&[byte, 1]), Err("refused 1 0\n".into()));
+    }
+    assert_eq!(masked(&[]), Err("refused 1 0\n".into()));
+    assert_ne!(masked_with(And::Isw), masked_with(And::Dom));
 }
 
 #[test]
@@ -105,7 +122,7 @@ fn check_masked_kinds(table: &[u8], order: u8, masked: &[u8]) {
 fn generated_cases_hold_together() {
     for call in Call::ALL {
         let mut tally = Tally::default();
-        let mut rng = Rng::new(call as u64);
+        let mut rng = Rng::new(call.index() as u64);
         for _ in 0..20_000 {
             let case = generate(call, &mut rng);
             let mut buffers = case.buffers();
@@ -137,21 +154,23 @@ fn generated_cases_hold_together() {
 
 #[test]
 fn all_tapes_of_small_circuits_hold_together() {
-    for circuit in circuits().iter().filter(|circuit| circuit.inputs == 1) {
-        check_patterns(&Model, circuit, 1).unwrap();
-        check_maps(&Model, &Model, circuit).unwrap();
-    }
-    for circuit in circuits_for_order_2() {
-        check_patterns(&Model, &circuit, 2).unwrap();
+    for and in And::BOTH {
+        for circuit in circuits().iter().filter(|circuit| circuit.inputs == 1) {
+            check_patterns(&Model, and, circuit, 1).unwrap();
+            check_maps(&Model, &Model, and, circuit).unwrap();
+        }
+        for circuit in circuits_for_order_2() {
+            check_patterns(&Model, and, &circuit, 2).unwrap();
+        }
     }
 }
 
 #[test]
 fn sampled_maps_hold() {
     let mut rng = Rng::new(1);
-    for order in [2, 3] {
+    for (and, order) in And::BOTH.into_iter().flat_map(|and| [(and, 2), (and, 3), (and, 15)]) {
         for circuit in sampled::circuits(order) {
-            let case = Case::Map(sampled::draw(&mut rng, &circuit, order));
+            let case = Case::Map(sampled::draw(&mut rng, and, &circuit, order));
             let mut buffers = case.buffers();
             let outcome = case.put_to(&Model, &mut buffers);
             let Case::Map(map) = &case else { unreachable!("a map was drawn") };
@@ -195,6 +214,8 @@ fn kinds_are_taken_and_refused() {
 #[test]
 fn two_probes_at_order_2_tell_nothing() {
     for gate in [and(0, 1), or(0, 1)] {
-        check_patterns(&Model, &Circuit::new(2, &[gate], &[2]), 2).unwrap();
+        for and in And::BOTH {
+            check_patterns(&Model, and, &Circuit::new(2, &[gate], &[2]), 2).unwrap();
+        }
     }
 }
