@@ -1,18 +1,20 @@
 -- The five wires of a pair in one run: each gate runs on after those before it.
 -- Assumes nothing.
-use mathlib.Core.Path.{_≡_, refl, sym, subst}
+use mathlib.Core.Path.{_≡_, refl, sym, ap, subst, _∙_}
 use mathlib.Core.List.{List, [], _∷_, _++_, map}
 use Prim.Native.Nat.{ℕ, _+_, _≤_, _<_}
 use native.Mathlib.Omega.{arith}
+use lib.ListN.{length, getD, set}
+use lib.Seq.{getD-set-same, getD-set-other}
 use Rattle.tables.specs.Tables.{XOR, AND, RANDOM, Gate, gate, total}
-use Rattle.tables.specs.Runs.{randoms}
+use Rattle.tables.specs.Runs.{xor, randoms}
 use Rattle.tables.specs.Inside.{ranOn, RunsTo}
 use Rattle.tables.proofs.Lists.{bits-nil, bits-cons}
-use Rattle.tables.proofs.Ran.{Ran, ran-start, ran-more, runs-less, runs-bit}
+use Rattle.tables.proofs.Ran.{Ran, ran-one, ran-keep, ran-start, ran-more, runs-less, runs-bit}
 use Rattle.masks.specs.declared.PairForm as DF
 use Rattle.masks.specs.Gadgets.{allFive, Gadget}
 use Rattle.masks.specs.Forms.{FormSays}
-use Rattle.crossing.specs.Crossing.{BitAt, PairBits, PairBefore}
+use Rattle.crossing.specs.Crossing.{fifthValue, BitAt, PairBits, PairBefore}
 
 -- a gate more, which draws nothing
 gate-more :
@@ -44,13 +46,41 @@ module _
         unfolding total
         ran-2 = gate-more ran-1 (gate AND ai bj) 3 refl e₂ (omega arith) (omega arith)
 
-        pub ready-3 : RunsTo (w + 2) 1 b₂ × (w + r .third .left < w + 2) × (w + r .third .right < w + 2)
-        ready-3 = (runs-less 1 (ran-2 .ready) (omega arith), omega (arith, F .third), omega (arith, F .third))
+        pub ready-3 : RunsTo (w + 2) 1 b₂ × (w < w + 2) × (w + 1 < w + 2)
+        ready-3 = (runs-less 1 (ran-2 .ready) (omega arith), omega arith, omega arith)
 
-        module _ {b₃ : List ℕ} (e₃ : b₃ ≡ ranOn (thirdGate ∷ []) [] (w + 2) b₂) where
+        room-3 : w + 2 < length b₂
+        room-3 = omega (arith, ran-2 .ready .room)
+
+        -- what the third gate drives, whichever of its operands is the left one
+        third-set :
+            ranOn (gate XOR w (w + 1) ∷ []) [] (w + 2) b₂ ≡ set b₂ (w + 2) (xor (getD b₂ w 0) (getD b₂ (w + 1) 0))
+        third-set = ran-one XOR w (w + 1) [] (w + 2) b₂ room-3 (omega arith, omega arith)
+
+        third-same : ranOn (gate XOR w (w + 1) ∷ []) [] (w + 2) b₂ ≡ ranOn (thirdGate ∷ []) [] (w + 2) b₂
+        third-same =
+            third-set
+            ∙ ap (set b₂ (w + 2)) (sym (F .third-adds w (λ p. getD b₂ p 0)))
+            ∙ sym
+            (ran-one XOR (w + r .third .left) (w + r .third .right) [] (w + 2) b₂ room-3
+            (omega (arith, F .third), omega (arith, F .third)))
+
+        module _ {b₃ : List ℕ} (e₃ : b₃ ≡ ranOn (gate XOR w (w + 1) ∷ []) [] (w + 2) b₂) where
           ran-3 : Ran (gate RANDOM 0 0 ∷ gate AND ai bj ∷ thirdGate ∷ []) (bit ∷ []) w b₀ (w + 3) 2 b₃
           unfolding total
-          ran-3 = gate-more ran-2 thirdGate 2 refl e₃ (omega arith) (omega arith)
+          ran-3 = gate-more ran-2 thirdGate 2 refl (e₃ ∙ third-same) (omega arith) (omega arith)
+
+          -- the first three wires
+          third-is : getD b₃ (w + 2) 0 ≡ xor (getD b₃ w 0) (getD b₃ (w + 1) 0)
+          third-is =
+              let is : b₃ ≡ set b₂ (w + 2) (xor (getD b₂ w 0) (getD b₂ (w + 1) 0)) = e₃ ∙ third-set in
+              rw (
+                is,
+                getD-set-same b₂ (w + 2) (xor (getD b₂ w 0) (getD b₂ (w + 1) 0)) 0 room-3,
+                getD-set-other b₂ (w + 2) w (xor (getD b₂ w 0) (getD b₂ (w + 1) 0)) 0 (omega arith),
+                getD-set-other b₂ (w + 2) (w + 1) (xor (getD b₂ w 0) (getD b₂ (w + 1) 0)) 0 (omega arith),
+              )
+              refl
 
           pub ready-4 : RunsTo (w + 3) 1 b₃ × (aj < w + 3) × (bi < w + 3)
           ready-4 = (runs-less 1 (ran-3 .ready) (omega arith), omega (arith, P .back), omega (arith, P .back))
@@ -61,16 +91,31 @@ module _
             unfolding total
             ran-4 = gate-more ran-3 (gate AND aj bi) 1 refl e₄ (omega arith) (omega arith)
 
-            pub ready-5 : RunsTo (w + 4) 1 b₄ × (w + r .fifth .left < w + 4) × (w + r .fifth .right < w + 4)
-            ready-5 = (ran-4 .ready, omega (arith, F .fifth), omega (arith, F .fifth))
+            pub ready-5 : RunsTo (w + 4) 1 b₄ × (r .both ≤ 1)
+            ready-5 = (ran-4 .ready, F .both)
+
+            kept : (p : ℕ) → p < w + 3 → getD b₄ p 0 ≡ getD b₃ p 0
+            kept p h =
+                ap (λ (b : List ℕ). getD b p 0) e₄
+                ∙ ran-keep (gate AND aj bi ∷ []) [] (w + 3) b₃ (omega (arith, ran-3 .ready .room)) p h
+
+            -- what the fifth gate drives
+            fifth-same : set b₄ (w + 4) (fifthValue (r .both) w (λ p. getD b₄ p 0)) ≡ ranOn (fifthGate ∷ []) [] (w + 4) b₄
+            fifth-same =
+                let third : getD b₄ (w + 2) 0 ≡ xor (getD b₄ w 0) (getD b₄ (w + 1) 0) =
+                rw (kept (w + 2) (omega arith), kept w (omega arith), kept (w + 1) (omega arith)) third-is in
+                ap (set b₄ (w + 4)) (sym (F .fifth-adds w (λ p. getD b₄ p 0) third))
+                ∙ sym
+                (ran-one XOR (w + r .fifth .left) (w + r .fifth .right) [] (w + 4) b₄ (omega (arith, ran-4 .ready .room))
+                (omega (arith, F .fifth), omega (arith, F .fifth)))
 
             pub five-ran :
-                {b₅ : List ℕ} → b₅ ≡ ranOn (fifthGate ∷ []) [] (w + 4) b₄
+                {b₅ : List ℕ} → b₅ ≡ set b₄ (w + 4) (fifthValue (r .both) w (λ p. getD b₄ p 0))
                 → Ran (map (G .gates w ai bj aj bi) allFive) (bit ∷ []) w b₀ (w + 5) 0 b₅
             unfolding total
             five-ran {b₅} e₅ =
                 subst (λ (gs : List Gate). Ran gs (bit ∷ []) w b₀ (w + 5) 0 b₅) (F .gates w ai bj aj bi)
-                (gate-more ran-4 fifthGate 0 refl e₅ (omega arith) (omega arith))
+                (gate-more ran-4 fifthGate 0 refl (e₅ ∙ fifth-same) (omega arith) (omega arith))
 
 -- the values of a pair's operands are bits
 pub pair-bits : {w c ai bj aj bi : ℕ} {b : List ℕ} → RunsTo w c b → PairBefore w ai bj aj bi → PairBits b ai bj aj bi

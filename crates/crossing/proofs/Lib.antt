@@ -1,3 +1,2 @@
 -- Laws of a pair's five wires, and of what it flips.
 mod Five
-mod Flipped

@@ -1,16 +1,25 @@
 // A pair of shares in both runs of the map: its five wires, and the random bit that the second run takes.
 ghost use mathlib.Core.Path.{_≡_};
 ghost use mathlib.Core.List.{[], _∷_, map};
-ghost use Prim.Native.Nat.{_≤_, _<_};
+ghost use Prim.Native.Nat.{_+_, _≤_, _<_};
 ghost use lib.ListN.{length, getD, set};
 ghost use Rattle.tables.specs.Runs.{xor};
 ghost use Rattle.tables.specs.Packing.{unpacked};
 ghost use Rattle.tables.specs.Inside.{ranOn, RunsTo};
 ghost use Rattle.masks.specs.Gadgets.{allFive, gadgetOf};
 ghost use Rattle.maps.specs.Both.{BothFlip, BothReady};
-ghost use Rattle.crossing.specs.Crossing.{wiresDiffer, BitAt, PairBits, PairBefore};
+ghost use Rattle.crossing.specs.Crossing.{fifthValue, wiresDiffer, BitAt, PairBits, PairBefore};
 
-// The five wires of a pair in one run, from wire w on, with the pair's random bit.
+// The fifth wire of a pair in one run, where w is the first: it adds the first, the fourth and, where both is 1, the second.
+fn run_fifth(run: &mut [u8], w: usize, both: u8)
+    requires { ⌜ RunsTo (w + 4) 1 (now run) × (both ≤ 1) ⌝ }
+    ensures { λ _. ⌜ now (run .exit) ≡ set (now (run .entry)) (w + 4) (fifthValue both w (λ p. getD (now (run .entry)) p 0)) ⌝ }
+{
+    run[w + 4] = (run[w] ^ (both & run[w + 1])) ^ run[w + 3];
+}
+
+// The five wires of a pair in one run, from wire w on, with the pair's random bit. The third adds the first two, in whichever order its
+// gate has them.
 fn run_pair(
     and: masks::And,
     run: &mut [u8],
@@ -27,9 +36,9 @@ fn run_pair(
     let form = masks::pair_form(and);
     driving::run_random(run, w, bit);
     driving::run_and(run, w + 1, ai, bj);
-    driving::run_xor(run, w + 2, w + form.third.left, w + form.third.right);
+    driving::run_xor(run, w + 2, w, w + 1);
     driving::run_and(run, w + 3, aj, bi);
-    driving::run_xor(run, w + 4, w + form.fifth.left, w + form.fifth.right);
+    run_fifth(run, w, form.both);
 }
 
 // Whether the product of two wires differs between the runs: 1 or 0.
@@ -41,7 +50,7 @@ fn product_differs(one: &[u8], other: &[u8], left: usize, right: usize) -> u8
 }
 
 // Flips the bit of a pair of shares i < j in the mapped tape where the second run needs it, and answers what was flipped; k is the
-// free share. Where no product decides, none is looked at.
+// free share. Where nothing is flipped, no product is looked at.
 fn flip_pair(
     and: masks::And,
     k: usize,
@@ -65,13 +74,12 @@ fn flip_pair(
         × (unpacked (now (mapped .exit))
         ≡ set (unpacked (now (mapped .entry))) at (xor (getD (unpacked (now (mapped .entry))) at 0) r)) ⌝ }
 {
-    let by = masks::decided_by(and, k, i, j);
-    if by.cross + by.back == 0 {
+    if (i != k) & (j != masks::upper_flipped(and, k)) {
         return 0;
     }
     let p = product_differs(one, other, ai, bj);
     let q = product_differs(one, other, aj, bi);
-    let flip = (by.cross & p) ^ (by.back & q);
+    let flip = masks::pair_flip(and, k, i, j, p, q);
     bits::flip_bit(mapped, at, flip);
     flip
 }

@@ -1,19 +1,19 @@
--- The form of each AND's pairs, and what decides whether a pair is flipped, are those of its gadget.
+-- The form of each AND's pairs is that of its gadget.
 -- Assumes nothing.
-use mathlib.Core.Path.{_≡_, refl, ap}
+use mathlib.Core.Path.{_≡_, refl, sym, ap, _∙_}
 use mathlib.Core.Bool.{Bool, true, false, cond}
 use mathlib.Core.List.{List, [], _∷_}
-use Prim.Native.Nat.{ℕ, _+_, _*_, _≤_, _<_}
+use Prim.Native.Nat.{ℕ, _+_, _-_, _*_, _≤_, _<_}
 use native.Mathlib.Omega.{arith}
 use lib.Dec.{eqb}
-use borrow.Author.Tests.{eq-eqb, ne-eqb}
+use borrow.Author.Tests.{eqb-true, eq-eqb, ne-eqb}
 use Rattle.tables.specs.Tables.{XOR, AND, RANDOM, Gate, gate}
 use Rattle.tables.specs.Runs.{xor}
 use Rattle.masks.specs.declared.PairForm as DF
 use Rattle.masks.specs.declared.And as DAnd
 use Rattle.masks.specs.declared.And.the-variants.{Isw, Dom}
-use Rattle.masks.specs.Gadgets.{Five, first, second, third, fourth, fifth, indexOf, isw, dom, gadgetOf}
-use Rattle.masks.specs.Forms.{formMarks, FormSays, DecidingSays}
+use Rattle.masks.specs.Gadgets.{Five, first, second, third, fourth, fifth, indexOf, Gadget, isw, dom, gadgetOf}
+use Rattle.masks.specs.Forms.{formMarks, formFlip, FormSays}
 
 pub index-below : (f : Five) → indexOf f < 5
 index-below first = omega arith
@@ -27,10 +27,10 @@ at-0 : (w : ℕ) → w + 0 ≡ w
 at-0 w = omega arith
 
 abbrev iswForm : DF.PairForm
-iswForm = record { third = record { left = 0; right = 1 }; fifth = record { left = 2; right = 3 }; low = 0; high = 4 }
+iswForm = record { third = record { left = 0; right = 1 }; fifth = record { left = 2; right = 3 }; low = 0; high = 4; both = 1 }
 
 abbrev domForm : DF.PairForm
-domForm = record { third = record { left = 1; right = 0 }; fifth = record { left = 3; right = 0 }; low = 2; high = 4 }
+domForm = record { third = record { left = 1; right = 0 }; fifth = record { left = 3; right = 0 }; low = 2; high = 4; both = 0 }
 
 isw-marks : (i j : ℕ) (f : Five) → isw .marks i j f ≡ formMarks iswForm i j (indexOf f)
 isw-marks i j first = refl
@@ -46,6 +46,47 @@ dom-marks i j third = refl
 dom-marks i j fourth = refl
 dom-marks i j fifth = refl
 
+-- the values of the third and the fifth wire
+isw-third : (w : ℕ) (v : ℕ → ℕ) → xor (v (w + 0)) (v (w + 1)) ≡ xor (v w) (v (w + 1))
+isw-third w v = ap (λ (x : ℕ). xor (v x) (v (w + 1))) (at-0 w)
+
+isw-fifth :
+    (w : ℕ) (v : ℕ → ℕ) → v (w + 2) ≡ xor (v w) (v (w + 1)) → xor (v (w + 2)) (v (w + 3)) ≡ xor (xor (v w) (1 * v (w + 1))) (v (w + 3))
+isw-fifth w v e = go (v w) (v (w + 1)) (v (w + 2)) (v (w + 3)) e
+  where
+    go : (r p m q : ℕ) → m ≡ xor r p → xor m q ≡ xor (xor r (1 * p)) q
+    go r p m q e = omega arith
+
+dom-third : (w : ℕ) (v : ℕ → ℕ) → xor (v (w + 1)) (v (w + 0)) ≡ xor (v w) (v (w + 1))
+dom-third w v = ap (λ (x : ℕ). xor (v (w + 1)) (v x)) (at-0 w) ∙ other-way (v (w + 1)) (v w)
+  where
+    other-way : (x y : ℕ) → xor x y ≡ xor y x
+    other-way x y = omega arith
+
+dom-fifth :
+    (w : ℕ) (v : ℕ → ℕ) → v (w + 2) ≡ xor (v w) (v (w + 1)) → xor (v (w + 3)) (v (w + 0)) ≡ xor (xor (v w) (0 * v (w + 1))) (v (w + 3))
+dom-fifth w v e = ap (λ (x : ℕ). xor (v (w + 3)) (v x)) (at-0 w) ∙ go (v w) (v (w + 1)) (v (w + 3))
+  where
+    go : (r p q : ℕ) → xor q r ≡ xor (xor r (0 * p)) q
+    go r p q = omega arith
+
+-- what a pair flips
+isw-flip : (k i j p q : ℕ) → q ≤ 1 → isw .flip k i j p q ≡ formFlip iswForm k i j p q
+isw-flip k i j p q h = go (eqb i k) (eqb j k)
+  where
+    go : (t u : Bool) → cond t (xor p q) 0 ≡ cond t (xor (1 * p) q) (cond u (0 * p) 0)
+    go true u = omega arith
+    go false true = omega arith
+    go false false = refl
+
+dom-flip : (k i j p q : ℕ) → q ≤ 1 → dom .flip k i j p q ≡ formFlip domForm k i j p q
+dom-flip k i j p q h = go (eqb i k) (eqb j k)
+  where
+    go : (t u : Bool) → cond t q (cond u p 0) ≡ cond t (xor (0 * p) q) (cond u (1 * p) 0)
+    go true u = omega arith
+    go false true = omega arith
+    go false false = refl
+
 pub isw-form : {a : DAnd.And} → a ≡ Isw → FormSays (gadgetOf a) iswForm
 isw-form e =
     rw e
@@ -56,6 +97,10 @@ isw-form e =
       low = refl;
       high = refl;
       marks = isw-marks;
+      both = omega arith;
+      third-adds = isw-third;
+      fifth-adds = isw-fifth;
+      flip = isw-flip;
     })
 
 pub dom-form : {a : DAnd.And} → a ≡ Dom → FormSays (gadgetOf a) domForm
@@ -68,64 +113,26 @@ dom-form e =
       low = refl;
       high = refl;
       marks = dom-marks;
+      both = omega arith;
+      third-adds = dom-third;
+      fifth-adds = dom-fifth;
+      flip = dom-flip;
     })
 
--- both products, one, or none
-both-of : (p q : ℕ) → xor p q ≡ xor (1 * p) (1 * q)
-both-of p q = omega arith
+-- what a pair flips, by the tests of the code
+module _ {G : Gadget} {r : DF.PairForm} (F : FormSays G r) (k i j p q : ℕ) (hq : q ≤ 1) where
+  pub flip-lower : i ≡ k → xor (r .both * p) q ≡ G .flip k i j p q
+  flip-lower e = sym (F .flip k i j p q hq ∙ rw (eq-eqb i k e))
 
-cross-of : (p q : ℕ) → p ≤ 1 → p ≡ xor (1 * p) (0 * q)
-cross-of p q h = omega arith
+  pub flip-upper : (i ≡ k → ⊥) → r .both ≡ 0 → j ≡ k → p ≡ G .flip k i j p q
+  flip-upper n b e = sym (F .flip k i j p q hq ∙ rw (ne-eqb i k n, eq-eqb j k e, b) (omega arith))
 
-back-of : (p q : ℕ) → q ≤ 1 → q ≡ xor (0 * p) (1 * q)
-back-of p q h = omega arith
-
-none-of : (p q : ℕ) → 0 ≡ xor (0 * p) (0 * q)
-none-of p q = omega arith
-
-module _ {a : DAnd.And} {k i j : ℕ} where
-  pub isw-lower : a ≡ Isw → i ≡ k → DecidingSays (gadgetOf a) k i j (record { cross = 1; back = 1 })
-  isw-lower e h =
-      rw e
-      (record {
-        cross = omega arith;
-        back = omega arith;
-        flip = λ p q hp hq. rw (eq-eqb i k h) (both-of p q);
-      })
-
-  pub isw-other : a ≡ Isw → (i ≡ k → ⊥) → DecidingSays (gadgetOf a) k i j (record { cross = 0; back = 0 })
-  isw-other e h =
-      rw e
-      (record {
-        cross = omega arith;
-        back = omega arith;
-        flip = λ p q hp hq. rw (ne-eqb i k h) (none-of p q);
-      })
-
-  pub dom-lower : a ≡ Dom → i ≡ k → DecidingSays (gadgetOf a) k i j (record { cross = 0; back = 1 })
-  dom-lower e h =
-      rw e
-      (record {
-        cross = omega arith;
-        back = omega arith;
-        flip = λ p q hp hq. rw (eq-eqb i k h) (back-of p q hq);
-      })
-
-  pub dom-upper : a ≡ Dom → (i ≡ k → ⊥) → j ≡ k → DecidingSays (gadgetOf a) k i j (record { cross = 1; back = 0 })
-  dom-upper e n h =
-      rw e
-      (record {
-        cross = omega arith;
-        back = omega arith;
-        flip = λ p q hp hq. rw (ne-eqb i k n, eq-eqb j k h) (cross-of p q hp);
-      })
-
-  pub dom-other :
-      a ≡ Dom → (i ≡ k → ⊥) → (j ≡ k → ⊥) → DecidingSays (gadgetOf a) k i j (record { cross = 0; back = 0 })
-  dom-other e n h =
-      rw e
-      (record {
-        cross = omega arith;
-        back = omega arith;
-        flip = λ p q hp hq. rw (ne-eqb i k n, ne-eqb j k h) (none-of p q);
-      })
+  pub flip-none : (i ≡ k → ⊥) → (r .both ≡ 0 → j ≡ k → ⊥) → 0 ≡ G .flip k i j p q
+  flip-none n h = sym (F .flip k i j p q hq ∙ rw (ne-eqb i k n) (go (eqb j k) refl))
+    where
+      go : (t : Bool) → eqb j k ≡ t → cond t ((1 - r .both) * p) 0 ≡ 0
+      go true t =
+          let alone : r .both ≡ 0 → ⊥ = λ b. h b (eqb-true j k t) in
+          let one : r .both ≡ 1 = omega (arith, alone, F .both) in
+          rw one (omega arith)
+      go false t = refl

@@ -1,16 +1,15 @@
 -- For contracts inside the library only: no promise of a call cites this.
--- What sets one AND apart from another, as the code keeps it: wires of a pair by their place among the five, from 0; and which of a
--- pair's two products decide whether its random bit is flipped.
+-- What sets one AND apart from another, as the code keeps it: wires of a pair by their place among the five, from 0, and whether the
+-- fifth adds both products.
 -- Assumes nothing.
 use mathlib.Core.Path.{_≡_}
 use mathlib.Core.Bool.{cond}
 use mathlib.Core.List.{List, [], _∷_, map}
-use Prim.Native.Nat.{ℕ, _+_, _*_, _≤_, _<_}
+use Prim.Native.Nat.{ℕ, _+_, _-_, _*_, _≤_, _<_}
 use lib.Dec.{eqb}
 use Rattle.tables.specs.Tables.{XOR, AND, RANDOM, Gate, gate}
 use Rattle.tables.specs.Runs.{xor}
 use Rattle.masks.specs.declared.PairForm as DF
-use Rattle.masks.specs.declared.Deciding as DD
 use Rattle.masks.specs.Gadgets.{Five, allFive, indexOf, Gadget}
 
 -- the five gates of a pair, from wire w on, by the operands of its third and fifth
@@ -27,6 +26,10 @@ formGates r w ai bj aj bi =
 abbrev pub formMarks : DF.PairForm → ℕ → ℕ → ℕ → List ℕ
 formMarks r i j f = cond (eqb f (r .low)) (i ∷ []) (cond (eqb f (r .high)) (j ∷ []) (i ∷ j ∷ []))
 
+-- what a pair of shares i and j flips, p and q being whether a_i·b_j and a_j·b_i differ
+abbrev pub formFlip : DF.PairForm → ℕ → ℕ → ℕ → ℕ → ℕ → ℕ
+formFlip r k i j p q = cond (eqb i k) (xor (r .both * p) q) (cond (eqb j k) ((1 - r .both) * p) 0)
+
 -- the form is that of the gadget; an operand stands before the wire that reads it
 pub record FormSays (G : Gadget) (r : DF.PairForm) : Type 0 where
   pub third : (r .third .left < 2) × (r .third .right < 2)
@@ -35,9 +38,11 @@ pub record FormSays (G : Gadget) (r : DF.PairForm) : Type 0 where
   pub low : r .low ≡ indexOf (G .low)
   pub high : r .high ≡ indexOf (G .high)
   pub marks : (i j : ℕ) (f : Five) → G .marks i j f ≡ formMarks r i j (indexOf f)
-
--- what a pair of shares i and j flips is the sum of the products that decide, of those that differ
-pub record DecidingSays (G : Gadget) (k i j : ℕ) (r : DD.Deciding) : Type 0 where
-  pub cross : r .cross ≤ 1
-  pub back : r .back ≤ 1
-  pub flip : (p q : ℕ) → p ≤ 1 → q ≤ 1 → G .flip k i j p q ≡ xor (r .cross * p) (r .back * q)
+  pub both : r .both ≤ 1
+  -- whatever the values are, the third wire adds the first two, the fifth the first, the fourth and, where `both` is 1, the second
+  pub third-adds :
+      (w : ℕ) (v : ℕ → ℕ) → xor (v (w + r .third .left)) (v (w + r .third .right)) ≡ xor (v w) (v (w + 1))
+  pub fifth-adds :
+      (w : ℕ) (v : ℕ → ℕ) → v (w + 2) ≡ xor (v w) (v (w + 1))
+      → xor (v (w + r .fifth .left)) (v (w + r .fifth .right)) ≡ xor (xor (v w) (r .both * v (w + 1))) (v (w + 3))
+  pub flip : (k i j p q : ℕ) → q ≤ 1 → G .flip k i j p q ≡ formFlip r k i j p q

@@ -6,7 +6,7 @@ ghost use Rattle.tables.specs.Tables.{kindOf};
 ghost use Rattle.tables.specs.Says.{Refused};
 ghost use Rattle.masks.specs.Shares.{tri};
 ghost use Rattle.masks.specs.Gadgets.{gadgetOf};
-ghost use Rattle.masks.specs.Forms.{FormSays, DecidingSays};
+ghost use Rattle.masks.specs.Forms.{FormSays};
 ghost use Rattle.masks.specs.Wires.{andCost, cost, draws};
 ghost use Rattle.masks.specs.Says.{orderFault};
 
@@ -42,13 +42,14 @@ pub struct Operands {
     pub right: usize,
 }
 
-// What sets the pairs of one AND apart from those of another: what the third and the fifth wire read, and which wires row i and row j
-// of a pair (i, j) add.
+// What sets the pairs of one AND apart from those of another: what the third and the fifth wire read, which wires row i and row j of
+// a pair (i, j) add, and 1 where the fifth wire adds both products, 0 where it adds a_j·b_i alone.
 pub struct PairForm {
     pub third: Operands,
     pub fifth: Operands,
     pub low: usize,
     pub high: usize,
+    pub both: u8,
 }
 
 // The form of an AND's pairs.
@@ -61,43 +62,42 @@ pub fn pair_form(and: And) -> PairForm
             fifth: Operands { left: 2, right: 3 },
             low: 0,
             high: 4,
+            both: 1,
         },
         And::Dom => PairForm {
             third: Operands { left: 1, right: 0 },
             fifth: Operands { left: 3, right: 0 },
             low: 2,
             high: 4,
+            both: 0,
         },
     }
 }
 
-// Which products of a pair (i, j) decide whether its random bit is flipped, a_i·b_j and a_j·b_i: 1 or 0 each.
-pub struct Deciding {
-    pub cross: u8,
-    pub back: u8,
+// What a pair of shares i < j flips, where k is the free share, and p and q say whether a_i·b_j and a_j·b_i differ.
+pub fn pair_flip(and: And, k: usize, i: usize, j: usize, p: u8, q: u8) -> u8
+    requires { ⌜ (p ≤ 1) × (q ≤ 1) ⌝ }
+    ensures { λ r. ⌜ (r ≡ gadgetOf and .flip k i j p q) × (r ≤ 1) ⌝ }
+{
+    let form = pair_form(and);
+    if i == k {
+        return (form.both & p) ^ q;
+    }
+    if (form.both == 0) & (j == k) {
+        return p;
+    }
+    0
 }
 
-// What decides for a pair of shares i < j, where k is the free share: in document 01's AND both products where i is k, in the DOM AND
-// the product that has b_k.
-pub fn decided_by(and: And, k: usize, i: usize, j: usize) -> Deciding
-    ensures { λ r. ⌜ DecidingSays (gadgetOf and) k i j r ⌝ }
+// The share j whose pairs (i, j) may be flipped though i is not the free share k: k, or none, which is 0.
+pub fn upper_flipped(and: And, k: usize) -> usize
+    ensures { λ r. ⌜ ((i j p q : ℕ) → q ≤ 1 → (i ≡ k → ⊥) → (j ≡ r → ⊥) → 0 ≡ gadgetOf and .flip k i j p q) ⌝ }
 {
-    match and {
-        And::Isw => {
-            if i == k {
-                return Deciding { cross: 1, back: 1 };
-            }
-        }
-        And::Dom => {
-            if i == k {
-                return Deciding { cross: 0, back: 1 };
-            }
-            if j == k {
-                return Deciding { cross: 1, back: 0 };
-            }
-        }
+    let form = pair_form(and);
+    if form.both == 1 {
+        return 0;
     }
-    Deciding { cross: 0, back: 0 }
+    k
 }
 
 // The refusal of an order that is not 1 to 15.

@@ -1,4 +1,4 @@
--- `crossing::run_pair` meets its contract: five gates, one after the other.
+-- `crossing::run_pair` meets its contract: five gates, one after the other, by the form of the AND's pairs.
 -- Assumes nothing.
 use mathlib.Core.List.{[], _∷_, map}
 use Prim.Native.Nat.{_+_}
@@ -11,7 +11,7 @@ use Rattle.crossing.proofs.run_pair.Statement.{statement}
 use Rattle.crossing.proofs.run_pair.Tie as tie
 
 pair-form-requires : tie.Need-pair-form-requires
-pair-form-requires c κs = search needs
+pair-form-requires c κs = tt
 
 run-random-requires : tie.Need-run-random-requires
 run-random-requires c κs = runs-less 1 (c .before .before .before .pre .0) (omega arith)
@@ -32,76 +32,58 @@ add-run-xor c = search needs
 add-run-xor-2 : tie.Need-add-run-xor-2
 add-run-xor-2 c = search needs
 
-add-run-xor-3 : tie.Need-add-run-xor-3
-add-run-xor-3 c = search needs
-
 run-xor-requires : tie.Need-run-xor-requires
 run-xor-requires c κs =
-    let second = c .before .before .before .before .before in
+    let second = c .before .before .before in
     let first = second .before .before .before .before in
     let form = first .before .before in
     let s = form .before .before in
     ready-3 (form .pair-form .ensures) (s .pre .0) (s .pre .1) (s .pre .2) (first .run-random .ensures) (second .run-and .ensures)
 
 add-run-and-2 : tie.Need-add-run-and-2
-add-run-and-2 c = search needs
+add-run-and-2 c =
+    let s = c .before .before .before .before .before .before .before .before .before .before .before .before .before .before .before in
+    omega (arith, s, s .pre .0 .room)
 
 run-and-requires-2 : tie.Need-run-and-requires-2
 run-and-requires-2 c κs =
     let third = c .before .before .before in
-    let second = third .before .before .before .before .before .before in
+    let second = third .before .before .before .before in
     let first = second .before .before .before .before in
     let form = first .before .before in
     let s = form .before .before in
     ready-4 (form .pair-form .ensures) (s .pre .0) (s .pre .1) (s .pre .2) (first .run-random .ensures) (second .run-and .ensures)
     (third .run-xor .ensures)
 
-add-run-xor-4 : tie.Need-add-run-xor-4
-add-run-xor-4 c =
-    let s = c .before .before .before .before .before .before .before .before .before .before .before .before .before .before
-    .before .before .before .before .before .before .before in
-    omega (arith, s .pre .0 .room)
-
-add-run-xor-5 : tie.Need-add-run-xor-5
-add-run-xor-5 c =
-    let form = c .before .before .before .before .before .before .before .before .before .before .before .before .before .before
-    .before .before .before .before .before .before in
-    omega (arith, form .pair-form .ensures .fifth, form .before .before .pre .0 .room)
-
-add-run-xor-6 : tie.Need-add-run-xor-6
-add-run-xor-6 c =
-    let form = c .before .before .before .before .before .before .before .before .before .before .before .before .before .before
-    .before .before .before .before .before .before .before in
-    omega (arith, form .pair-form .ensures .fifth, form .before .before .pre .0 .room)
-
-run-xor-requires-2 : tie.Need-run-xor-requires-2
-run-xor-requires-2 c κs =
-    let fourth = c .before .before .before .before .before in
+run-fifth-requires : tie.Need-run-fifth-requires
+run-fifth-requires c κs =
+    let fourth = c .before .before .before in
     let third = fourth .before .before .before .before in
-    let second = third .before .before .before .before .before .before in
+    let second = third .before .before .before .before in
     let first = second .before .before .before .before in
     let form = first .before .before in
     let s = form .before .before in
     ready-5 (form .pair-form .ensures) (s .pre .0) (s .pre .1) (s .pre .2) (first .run-random .ensures) (second .run-and .ensures)
-    (third .run-xor .ensures) (fourth .run-and2 .ensures)
+    (third .run-xor .ensures)
+    (fourth .run-and2 .ensures)
 
 -- the five gates have run on
 five :
     (c : tie.After-slice-known6)
     → let s = c .before .before .before .before .before .before .before .before .before .before .before .before .before
-    .before .before .before .before .before .before .before .before .before .before .before .before .before .args in
+    .before .before .before .before .before .before .before .before .before .args in
     Ran (map (gadgetOf (s .and) .gates (s .w) (s .ai) (s .bj) (s .aj) (s .bi)) allFive) (s .bit ∷ []) (s .w) (s .run .now)
-    (s .w + 5) 0 (c .before .before .run-xor2 .last .0)
+    (s .w + 5) 0 (c .before .before .run-fifth .last .0)
 five c =
     let fifth = c .before .before in
-    let fourth = fifth .before .before .before .before .before .before in
+    let fourth = fifth .before .before .before .before in
     let third = fourth .before .before .before .before in
-    let second = third .before .before .before .before .before .before in
+    let second = third .before .before .before .before in
     let first = second .before .before .before .before in
     let form = first .before .before in
     let s = form .before .before in
     five-ran (form .pair-form .ensures) (s .pre .0) (s .pre .1) (s .pre .2) (first .run-random .ensures) (second .run-and .ensures)
-    (third .run-xor .ensures) (fourth .run-and2 .ensures) (fifth .run-xor2 .ensures)
+    (third .run-xor .ensures) (fourth .run-and2 .ensures) (fifth .run-fifth .ensures)
 
 same-length : tie.Need-same-length
 same-length c = five c .long
@@ -119,13 +101,9 @@ run-pair-spec =
     run-and-requires
     add-run-xor
     add-run-xor-2
-    add-run-xor-3
     run-xor-requires
     add-run-and-2
     run-and-requires-2
-    add-run-xor-4
-    add-run-xor-5
-    add-run-xor-6
-    run-xor-requires-2
+    run-fifth-requires
     same-length
     returns)
