@@ -14,7 +14,7 @@ ghost use Rattle.pieces.specs.Layout.{constantGates, andGates, orGates};
 ghost use Rattle.placing.specs.Located.{placesAt, Room};
 
 // Writes the operands of a pair's five wires, from wire w on.
-fn write_pair(
+fn write_five(
     and: masks::And,
     ops: &mut [u8],
     at: usize,
@@ -34,6 +34,31 @@ fn write_pair(
     pieces::put_gate(ops, at + 8, w + form.third.left, w + form.third.right);
     pieces::put_gate(ops, at + 12, aj, bi);
     pieces::put_gate(ops, at + 16, w + form.fifth.left, w + form.fifth.right);
+}
+
+// The same. Each AND has its own call, so that the compiler knows the form where it writes.
+fn write_pair(
+    and: masks::And,
+    ops: &mut [u8],
+    at: usize,
+    w: usize,
+    ai: usize,
+    bj: usize,
+    aj: usize,
+    bi: usize,
+)
+    requires { ⌜ PairRoom w ai bj aj bi at (now ops) ⌝ }
+    ensures { λ _. ⌜ now (ops .exit)
+        ≡ putAt at (pairBytes (map (gadgetOf and .gates w ai bj aj bi) allFive)) (now (ops .entry)) ⌝ }
+{
+    match and {
+        masks::And::Isw => {
+            write_five(masks::And::Isw, ops, at, w, ai, bj, aj, bi);
+        }
+        masks::And::Dom => {
+            write_five(masks::And::Dom, ops, at, w, ai, bj, aj, bi);
+        }
+    }
 }
 
 // A pair of shares i < j, counted from 0.
