@@ -1,12 +1,14 @@
--- Runs of masked tables at order 1, computed: an AND, and two ANDs. A construction that only decodes well has other values.
+-- Runs of masked tables at order 1, computed: an AND, and two ANDs; and the DOM AND, gate by gate. A construction that only decodes
+-- well has other values.
 -- Assumes nothing.
 use mathlib.Core.Path.{_≡_, refl}
 use mathlib.Core.List.{List, [], _∷_}
 use Prim.Native.Nat.{ℕ}
-use Rattle.tables.specs.Tables.{AND, Gate, gate, Table, total}
+use lib.ListN.{take, drop}
+use Rattle.tables.specs.Tables.{XOR, AND, RANDOM, Gate, gate, Table, total}
 use Rattle.tables.specs.Runs.{run, runFrom, readAll}
 use Rattle.masks.specs.Shares.{upFrom, inTurn, pairsFrom, tri, pairAt, row}
-use Rattle.masks.specs.Gadgets.{isw}
+use Rattle.masks.specs.Gadgets.{isw, dom}
 use Rattle.masks.specs.Wires.{adding, andWires, masked, sharesAfter, outputShares, maskedTable}
 use Rattle.masks.specs.Codes.{xorAll, encode, maskedRun}
 
@@ -34,3 +36,28 @@ pub ands-run :
 unfolding run runFrom readAll total upFrom inTurn pairsFrom tri pairAt row adding andWires masked sharesAfter
     outputShares maskedTable xorAll encode maskedRun
 ands-run = refl
+
+-- "r; a_i·b_j; a_i·b_j⊕r; a_j·b_i; a_j·b_i⊕r" of shares 1 and 2, which are wires 0 and 1 of a, 3 and 4 of b
+dom-pair :
+    take 5 (maskedTable dom 1 (table 2 (gate AND 0 1 ∷ []) (2 ∷ [])) .gates)
+    ≡ gate RANDOM 0 0 ∷ gate AND 0 4 ∷ gate XOR 7 6 ∷ gate AND 1 3 ∷ gate XOR 9 6 ∷ []
+unfolding upFrom inTurn pairsFrom tri pairAt row adding andWires masked sharesAfter outputShares maskedTable
+dom-pair = refl
+
+-- "Row i adds the third wire, row j the fifth": the three rows, and document 01's output wires
+dom-rows :
+    let t = maskedTable dom 1 (table 2 (gate AND 0 1 ∷ []) (2 ∷ [])) in
+    (drop 15 (t .gates)
+    ≡ gate AND 0 3
+    ∷ gate XOR 21 8
+    ∷ gate XOR 22 13
+    ∷ gate AND 1 4
+    ∷ gate XOR 24 10
+    ∷ gate XOR 25 18
+    ∷ gate AND 2 5
+    ∷ gate XOR 27 15
+    ∷ gate XOR 28 20
+    ∷ [])
+    × (t .outputs ≡ 23 ∷ 26 ∷ 29 ∷ [])
+unfolding upFrom inTurn pairsFrom tri pairAt row adding andWires masked sharesAfter outputShares maskedTable
+dom-rows = (refl, refl)
