@@ -1,11 +1,11 @@
 -- A row in one run: its own product, the sums of the pairs before it, those of the pairs after it.
 -- Assumes nothing.
-use mathlib.Core.Path.{_≡_, refl, sym}
+use mathlib.Core.Path.{_≡_, refl, sym, ap}
 use mathlib.Core.List.{List, [], _∷_, _++_}
 use Prim.Native.Nat.{ℕ, suc, _+_, _-_, _*_, _<_}
 use native.Mathlib.Omega.{arith}
 use lib.ListN.{length}
-use Rattle.tables.specs.Tables.{AND, gate, total}
+use Rattle.tables.specs.Tables.{AND, Gate, gate, total}
 use Rattle.tables.specs.Runs.{drawn, randoms}
 use Rattle.tables.specs.Inside.{ranOn, RunsTo}
 use Rattle.tables.proofs.Lists.{bits-nil}
@@ -16,14 +16,14 @@ use Rattle.masks.specs.Gadgets.{first, Gadget}
 use Rattle.masks.specs.Wires.{share, pairWire}
 use Rattle.pieces.specs.Layout.{joined, sumGates, highGates, lowGates, rowGates}
 use Rattle.pieces.proofs.Bytes.{joined-long}
-use Rattle.pieces.proofs.Pieces.{high-long, low-same}
-use Rattle.driving.proofs.InPieces.{xor-none, joined-none-drawn}
+use Rattle.pieces.proofs.Pieces.{high-long, low-same, row-long}
+use Rattle.driving.proofs.InPieces.{InPieces, pieces-turn, xor-none, joined-none-drawn}
 
 sums-none : (last c s : ℕ) (z : ℕ → ℕ) → randoms (joined c s (sumGates last z)) ≡ 0
 sums-none last c s z = joined-none-drawn c s (sumGates last z) (λ i. xor-none _ _)
 
 -- a row draws nothing
-pub row-none : (G : Gadget) (n w v : ℕ) (a b : List ℕ) (i : ℕ) → randoms (rowGates G n w v a b i) ≡ 0
+row-none : (G : Gadget) (n w v : ℕ) (a b : List ℕ) (i : ℕ) → randoms (rowGates G n w v a b i) ≡ 0
 unfolding total
 row-none G n w v a b i =
     let low : ℕ → ℕ = λ j. pairWire w (G .low) (pairAt n i (suc i + j)) in
@@ -71,3 +71,17 @@ module _ (G : Gadget) (w l r : ℕ) {n v i : ℕ} {b₀ : List ℕ} (R : RunsTo 
           (omega arith)
           (omega arith) in
           rw (low-same G n w i z (v + i) (n - 1 - i) (omega arith) low, ← el, ← er) (all .is)
+
+-- i rows have run on, and the next one begins at wire from
+abbrev pub InRows : Gadget → ℕ → ℕ → ℕ → List ℕ → List ℕ → List ℕ → ℕ → ℕ → List ℕ → Type 0
+InRows G n w v a b = InPieces n v n (λ i. rowGates G n w (v + n * i) a b i)
+
+pub rows-turn :
+    (G : Gadget) (n w v : ℕ) (a b : List ℕ) {b₀ : List ℕ} {from i : ℕ} {c : List ℕ} (c′ : List ℕ)
+    → InRows G n w v a b b₀ from i c → i < n → c′ ≡ ranOn (rowGates G n w from a b i) [] from c
+    → InRows G n w v a b b₀ (from + n) (i + 1) c′
+rows-turn G n w v a b {b₀} {from} {i} c′ P h ran =
+    pieces-turn P c′ h (row-long G n w (v + n * i) a b i h) (row-none G n w (v + n * i) a b i)
+    (ap {A = ℕ} {B = List Gate} (λ u. rowGates G n w u a b i) (P .place))
+    ran
+    refl

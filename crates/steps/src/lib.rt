@@ -44,8 +44,7 @@ fn map_and(
 {
     let v = w + 5 * masks::pair_count(n);
     pairing::map_pairs(and, k, n, w, a, b, tape, at, mapped, one, other);
-    driving::run_rows(and, one, v, w, n, a, b);
-    driving::run_rows(and, other, v, w, n, a, b);
+    driving::run_rows(and, one, other, v, w, n, a, b);
 }
 
 // The two NOTs that an OR begins with, in both runs, on wires w and w + 1; an AND begins with none.

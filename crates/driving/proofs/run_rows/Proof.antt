@@ -1,74 +1,78 @@
--- `driving::run_rows` meets its contract. The invariant: i rows have run on.
+-- `driving::run_rows` meets its contract. The invariant, of each run: i rows have run on.
 -- Assumes nothing.
-use mathlib.Core.Path.{refl, ap}
-use mathlib.Core.List.{List}
-use Prim.Native.Nat.{ℕ, _+_, _-_, _*_}
+use mathlib.Core.Path.{refl}
+use Prim.Native.Nat.{_-_}
 use native.Mathlib.Nat.{mul-le-mul-left}
 use native.Mathlib.Omega.{arith}
-use Rattle.tables.specs.Tables.{Gate}
 use Rattle.masks.specs.Gadgets.{gadgetOf}
-use Rattle.pieces.specs.Layout.{shareWires, rowGates}
-use Rattle.pieces.proofs.Pieces.{row-long}
-use Rattle.driving.proofs.InPieces.{InPieces, pieces-start, pieces-room, pieces-turn, pieces-end}
-use Rattle.driving.proofs.Rows.{row-none}
+use Rattle.pieces.specs.Layout.{shareWires}
+use Rattle.driving.proofs.InPieces.{pieces-start, pieces-room, pieces-end}
+use Rattle.driving.proofs.Rows.{InRows, rows-turn}
 use Rattle.driving.proofs.run_rows.Statement.{statement}
 use Rattle.driving.proofs.run_rows.Tie as tie
 
 abbrev Inv-loop : tie.InvT-loop
-Inv-loop and run₀ v w n a b from₀ i₀ run from i =
-    InPieces n v n (λ i. rowGates (gadgetOf and) n w (v + n * i) (shareWires n a) (shareWires n b) i) run₀ from i run
+Inv-loop and one₀ other₀ v w n a b from₀ i₀ one other from i =
+    InRows (gadgetOf and) n w v (shareWires n a) (shareWires n b) one₀ from i one
+    × InRows (gadgetOf and) n w v (shareWires n a) (shareWires n b) other₀ from i other
 
 abbrev μ-loop : tie.MeasureT-loop
-μ-loop and run₀ v w n a b from₀ i₀ run from i = n - i
+μ-loop and one₀ other₀ v w n a b from₀ i₀ one other from i = n - i
 
 loop-holds : tie.Need-loop-holds Inv-loop μ-loop
-loop-holds c = let s = c .before in pieces-start (s .args .n) (s .args .v) (s .args .n) _ _ refl (s .pre .0)
+loop-holds c =
+    let s = c .before .before in
+    let n = s .args .n in
+    (pieces-start n (s .args .v) n _ _ refl (s .pre .0), pieces-start n (s .args .v) n _ _ refl (s .pre .1))
 
 run-row-requires : tie.Need-run-row-requires Inv-loop μ-loop
 run-row-requires c κs =
-    let test = c .before in
-    let s = c .before .before .before .before in
+    let test = c .before .before in
+    let s = test .before .before .before .before in
     let inv = test .before .loop .inv in
     let h = test .loop-test .taken in
     let ends = mul-le-mul-left (s .args .n) h in (
-      pieces-room inv h,
-      s .pre .1,
+      pieces-room (inv .0) h,
+      pieces-room (inv .1) h,
+      s .pre .2,
       h,
-      omega (arith, inv .place, s .pre .2),
-      omega (arith, inv .place, ends, s .pre .3),
+      omega (arith, inv .0 .place, s .pre .3),
+      omega (arith, inv .0 .place, ends, s .pre .4),
     )
 
 add-from : tie.Need-add-from Inv-loop μ-loop
-add-from c = omega (arith, pieces-room (c .before .before .before .before .before .loop .inv) (c .before .before .before .before .loop-test .taken) .room)
+add-from c = let test = c .before .before .before .before .before .before .before in omega (arith, pieces-room (test .before .loop .inv .0) (test .loop-test .taken) .room)
 
 add-i : tie.Need-add-i Inv-loop μ-loop
-add-i c = omega (arith, c .before .before .before .before .loop-test .taken)
+add-i c = omega (arith, c .before .before .before .before .before .before .before .loop-test .taken)
 
 loop-less : tie.Need-loop-less Inv-loop μ-loop
-loop-less c = omega (arith, c .before .before .before .before .loop-test .taken)
+loop-less c = omega (arith, c .before .before .before .before .before .before .before .loop-test .taken)
 
 loop-again : tie.Need-loop-again Inv-loop μ-loop
 loop-again c =
-    let test = c .before .before .before .before in
-    let s = c .before .before .before .before .before .before .before in
-    let G = gadgetOf (s .args .and) in
-    let n = s .args .n in
-    let w = s .args .w in
-    let i = test .before .loop .i in
-    let A = shareWires n (s .args .a) in
-    let B = shareWires n (s .args .b) in
+    let row = c .before .before .before .before in
+    let test = row .before .before .before in
+    let a = test .before .before .before .before .args in
+    let G = gadgetOf (a .and) in
+    let A = shareWires (a .n) (a .a) in
+    let B = shareWires (a .n) (a .b) in
     let inv = test .before .loop .inv in
-    let h = test .loop-test .taken in
-    pieces-turn inv _ h (row-long G n w (s .args .v + n * i) A B i h) (row-none G n w (s .args .v + n * i) A B i)
-    (ap {A = ℕ} {B = List Gate} (λ from. rowGates G n w from A B i) (inv .place))
-    (c .before .before .run-row .ensures)
-    refl
+    let h = test .loop-test .taken in (
+      rows-turn G (a .n) (a .w) (a .v) A B _ (inv .0) h (row .run-row .ensures .0),
+      rows-turn G (a .n) (a .w) (a .v) A B _ (inv .1) h (row .run-row .ensures .1),
+    )
 
 same-length : tie.Need-same-length Inv-loop μ-loop
-same-length c = c .before .loop .inv .ran .long
+same-length c = c .before .loop .inv .0 .ran .long
+
+same-length-2 : tie.Need-same-length-2 Inv-loop μ-loop
+same-length-2 c = c .before .loop .inv .1 .ran .long
 
 returns : tie.Need-returns Inv-loop μ-loop
-returns c = pieces-end (c .before .loop .inv) (omega (arith, c .loop-test .left))
+returns c =
+    let inv = c .before .loop .inv in
+    (pieces-end (inv .0) (omega (arith, c .loop-test .left)), pieces-end (inv .1) (omega (arith, c .loop-test .left)))
 
 pub run-rows-spec : {M : Type 1} → statement M
 run-rows-spec =
@@ -83,4 +87,5 @@ run-rows-spec =
     loop-less
     loop-again
     same-length
+    same-length-2
     returns)

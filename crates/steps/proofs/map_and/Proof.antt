@@ -24,21 +24,12 @@ map-pairs-requires c κs =
 
 run-rows-requires : tie.Need-run-rows-requires
 run-rows-requires c κs =
-    let ran = c .before .before .before .before .before .before .before in
+    let ran = c .before .before .before .before .before .before .before .before in
     let count = ran .before .before .before .before in
     let s = count .before .before .before .before .before in
     let a = s .args in
     let ready = rows-ready (lawful (a .and)) (a .n) (a .k) (a .w) (a .a) (a .b) (s .pre .2) (ran .map-pairs .ensures) in
-    rw (count .pair-count .ensures) (ready .0, s .pre .0, omega arith, omega (arith, s .pre .1))
-
-run-rows-requires-2 : tie.Need-run-rows-requires-2
-run-rows-requires-2 c κs =
-    let ran = c .before .before .before .before .before .before .before .before .before .before .before in
-    let count = ran .before .before .before .before in
-    let s = count .before .before .before .before .before in
-    let a = s .args in
-    let ready = rows-ready (lawful (a .and)) (a .n) (a .k) (a .w) (a .a) (a .b) (s .pre .2) (ran .map-pairs .ensures) in
-    rw (count .pair-count .ensures) (ready .1, s .pre .0, omega arith, omega (arith, s .pre .1))
+    rw (count .pair-count .ensures) (ready .0, ready .1, s .pre .0, omega arith, omega (arith, s .pre .1))
 
 same-length : tie.Need-same-length
 same-length c = search needs
@@ -51,15 +42,15 @@ same-length-3 c = search needs
 
 returns : tie.Need-returns
 returns c =
-    let first = c .before .before .before .before .before .before in
-    let ran = first .before .before .before .before .before .before .before .before in
+    let rows = c .before .before .before .before in
+    let ran = rows .before .before .before .before .before .before .before .before .before in
     let count = ran .before .before .before .before in
     let s = count .before .before .before .before .before in
     let a = s .args in
     let is = count .pair-count .ensures in
     and-ran (lawful (a .and)) (a .n) (a .k) (a .w) (a .a) (a .b) (s .pre .2) (ran .map-pairs .ensures)
-    (rw is at (first .run-rows .ensures))
-    (rw is at (c .before .before .run-rows2 .ensures))
+    (rw is at (rows .run-rows .ensures .0))
+    (rw is at (rows .run-rows .ensures .1))
 
 pub map-and-spec : {M : Type 1} → statement M
 map-and-spec =
@@ -70,7 +61,6 @@ map-and-spec =
     add-v
     map-pairs-requires
     run-rows-requires
-    run-rows-requires-2
     same-length
     same-length-2
     same-length-3
