@@ -1,4 +1,4 @@
--- A row in one run: its own product, the sums of the pairs before it, those of the pairs after it.
+-- A row in one run: its own product, the sums of the pairs before it, those of the pairs after it; and rows in turn.
 -- Assumes nothing.
 use mathlib.Core.Path.{_≡_, refl, sym, ap}
 use mathlib.Core.List.{List, [], _∷_, _++_}

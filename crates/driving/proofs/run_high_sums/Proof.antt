@@ -87,13 +87,19 @@ run-sum-requires-2 c κs =
     (sums-room inv (test .loop-test .taken), omega (arith, after-pair test), inv .value)
 
 sub-z : tie.Need-sub-z Inv-loop μ-loop
-sub-z c = let test = c .before .before .before .before .before .before .before .before .before in omega (arith, test .loop-test .taken, test .before .before .before .before .before .before .before .pre .2)
+sub-z c =
+    let test = c .before .before .before .before .before .before .before .before .before in
+    omega (arith, test .loop-test .taken, test .before .before .before .before .before .before .before .pre .2)
 
 sub-z-2 : tie.Need-sub-z-2 Inv-loop μ-loop
-sub-z-2 c = let test = c .before .before .before .before .before .before .before .before .before in omega (arith, test .loop-test .taken, test .before .before .before .before .before .before .before .pre .2)
+sub-z-2 c =
+    let test = c .before .before .before .before .before .before .before .before .before in
+    omega (arith, test .loop-test .taken, test .before .before .before .before .before .before .before .pre .2)
 
 mul-z-2 : tie.Need-mul-z-2 Inv-loop μ-loop
-mul-z-2 c = let test = c .before .before .before .before .before .before .before .before .before in omega (arith, test .before .before .before .before .before .before .before .pre .3)
+mul-z-2 c =
+    let test = c .before .before .before .before .before .before .before .before .before in
+    omega (arith, test .before .before .before .before .before .before .before .pre .3)
 
 add-z-2 : tie.Need-add-z-2 Inv-loop μ-loop
 add-z-2 c =

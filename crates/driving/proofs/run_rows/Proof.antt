@@ -41,7 +41,9 @@ run-row-requires c κs =
     )
 
 add-from : tie.Need-add-from Inv-loop μ-loop
-add-from c = let test = c .before .before .before .before .before .before .before in omega (arith, pieces-room (test .before .loop .inv .0) (test .loop-test .taken) .room)
+add-from c =
+    let test = c .before .before .before .before .before .before .before in
+    omega (arith, pieces-room (test .before .loop .inv .0) (test .loop-test .taken) .room)
 
 add-i : tie.Need-add-i Inv-loop μ-loop
 add-i c = omega (arith, c .before .before .before .before .before .before .before .loop-test .taken)
