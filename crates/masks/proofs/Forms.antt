@@ -22,7 +22,6 @@ index-below third = omega arith
 index-below fourth = omega arith
 index-below fifth = omega arith
 
--- where i and j count from the pair's first wire
 at-0 : (w : ℕ) → w + 0 ≡ w
 at-0 w = omega arith
 

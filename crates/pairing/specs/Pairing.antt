@@ -15,7 +15,8 @@ sharePairs n i = upFrom (n - suc i) (suc i) (λ j. pairOf i j)
 
 -- the pairs ps run on in both runs, and what they flip is read off the values x and y so far
 abbrev pub PairsRan :
-    Gadget → ℕ → ℕ → DP.Places → DP.Places → List Pair → List ℕ → ℕ → ℕ → List ℕ → List ℕ → List ℕ → List ℕ → List ℕ → List ℕ → Type 0
+    Gadget → ℕ → ℕ → DP.Places → DP.Places → List Pair → List ℕ → ℕ → ℕ
+    → List ℕ → List ℕ → List ℕ → List ℕ → List ℕ → List ℕ → Type 0
 PairsRan G n k a b ps ts at w m m′ x x′ y y′ =
     BothFlip
     (inTurn 5 w ps (pairGates G (shareWires n a) (shareWires n b)))

@@ -54,7 +54,8 @@ write-operands-requires : tie.Need-write-operands-requires
 write-operands-requires c κs =
     let s = c .before .before .before .before .before .before .before .before .before .before .before .before in
     let R = s .pre .0 in
-    let asked = operands-asked (s .args .and) R (kinds-back (s .args .and) R (parts-start (s .args .and) R (s .args .out .now) (s .pre .2)) (c .before .before .before .write-kinds .ensures)) in
+    let parts = parts-start (s .args .and) R (s .args .out .now) (s .pre .2) in
+    let asked = operands-asked (s .args .and) R (kinds-back (s .args .and) R parts (c .before .before .before .write-kinds .ensures)) in
     (R, s .pre .1, omega arith, omega arith, asked .0, asked .1)
 
 mul-write-outputs : tie.Need-mul-write-outputs
@@ -78,7 +79,9 @@ write-outputs-requires : tie.Need-write-outputs-requires
 write-outputs-requires c κs =
     let s = c .before .before .before .before .before .before .before .before .before .before .before .before .before .before .before .before in
     let R = s .pre .0 in
-    let kinds = kinds-back (s .args .and) R (parts-start (s .args .and) R (s .args .out .now) (s .pre .2)) (c .before .before .before .before .before .before .before
+    let parts = parts-start (s .args .and) R (s .args .out .now) (s .pre .2) in
+    let kinds = kinds-back (s .args .and) R parts
+    (c .before .before .before .before .before .before .before
     .write-kinds .ensures) in
     (R, s .pre .1, outputs-asked (s .args .and) R (operands-back (s .args .and) R kinds (c .before .before .before .write-operands .ensures)))
 
@@ -90,9 +93,12 @@ returns c =
     let s = c .before .before .before .before .before .before .before .before .before .before .before .before .before .before .before .before
     .before .before .before in
     let R = s .pre .0 in
-    let kinds = kinds-back (s .args .and) R (parts-start (s .args .and) R (s .args .out .now) (s .pre .2)) (c .before .before .before .before .before .before .before .before
+    let parts = parts-start (s .args .and) R (s .args .out .now) (s .pre .2) in
+    let kinds = kinds-back (s .args .and) R parts
+    (c .before .before .before .before .before .before .before .before
     .before .before .write-kinds .ensures) in
-    outputs-back (s .args .and) R (operands-back (s .args .and) R kinds (c .before .before .before .before .before .before .write-operands .ensures)) (c .before .before
+    outputs-back (s .args .and) R
+    (operands-back (s .args .and) R kinds (c .before .before .before .before .before .before .write-operands .ensures)) (c .before .before
     .write-outputs .ensures)
 
 pub mask-gates-spec : {M : Type 1} → statement M

@@ -62,7 +62,8 @@ same-length-4 c = search needs
 
 returns : tie.Need-returns
 returns c =
-    let s = c .before .before .before .before .before .before .before .before .before .before .before .before .before .before .before .before .before .before .before .before .before .before .before .before .before .before .before .before .before in
+    let s = c .before .before .before .before .before .before .before .before .before .before .before .before .before .before
+    .before .before .before .before .before .before .before .before .before .before .before .before .before .before .before in
     whole-back (s .args .and) (s .pre .0) _ (s .pre .2)
     (c .before .before .before .before .before .before .before .before .before .put-sizes .ensures)
     (c .before .before .mask-gates .ensures)

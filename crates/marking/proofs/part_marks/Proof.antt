@@ -16,7 +16,9 @@ cast-if1 : tie.Need-cast-if1
 cast-if1 c = search needs
 
 add-t12 : tie.Need-add-t12
-add-t12 c = omega (arith, pair-among _ _ _ (c .before .before .before .before .part .given .1) (c .before .before .before .before .before .before .pre))
+add-t12 c =
+    let read = c .before .before .before .before in
+    omega (arith, pair-among _ _ _ (read .part .given .1) (read .before .before .pre))
 
 returns : tie.Need-returns
 returns c =
@@ -29,7 +31,9 @@ cast-if2 : tie.Need-cast-if2
 cast-if2 c = search needs
 
 add-t13 : tie.Need-add-t13
-add-t13 c = omega (arith, pair-among _ _ _ (c .before .before .before .before .before .before .part .given .1) (c .before .before .before .before .before .before .before .before .pre))
+add-t13 c =
+    let read = c .before .before .before .before .before .before in
+    omega (arith, pair-among _ _ _ (read .part .given .1) (read .before .before .pre))
 
 returns-2 : tie.Need-returns-2
 returns-2 c =
@@ -39,10 +43,14 @@ returns-2 c =
     high-marks (form .pair-form .ensures) _ _ _ (read .part .given .1) small (c .before .before .if1 .left) (c .if2 .taken)
 
 add-t14 : tie.Need-add-t14
-add-t14 c = omega (arith, pair-among _ _ _ (c .before .before .before .before .before .before .part .given .1) (c .before .before .before .before .before .before .before .before .pre))
+add-t14 c =
+    let read = c .before .before .before .before .before .before in
+    omega (arith, pair-among _ _ _ (read .part .given .1) (read .before .before .pre))
 
 add-t15 : tie.Need-add-t15
-add-t15 c = omega (arith, pair-among _ _ _ (c .before .before .before .before .before .before .part .given .1) (c .before .before .before .before .before .before .before .before .pre))
+add-t15 c =
+    let read = c .before .before .before .before .before .before in
+    omega (arith, pair-among _ _ _ (read .part .given .1) (read .before .before .pre))
 
 enum-known-part-2 : tie.Need-enum-known-part-2
 enum-known-part-2 c = search needs

@@ -1,11 +1,23 @@
 -- `marking::wire_marks` meets its contract: the plan's refusal, 13, or the share numbers.
 -- Assumes nothing.
 use Rattle.masks.specs.Gadgets.{gadgetOf}
+use Rattle.masks.specs.Says.{plainFault}
+use Rattle.sizing.specs.Plans.{PlanSays}
 use Rattle.sizing.proofs.Planning.{planned-as, planned-ready}
 use Rattle.marking.proofs.Carrying.{marks-refused, marks-outside, marks-inside}
 use borrow.Author.Needs.{needs}
 use Rattle.marking.proofs.wire_marks.Statement.{statement}
 use Rattle.marking.proofs.wire_marks.Tie as tie
+
+-- what the function was given, and what is planned with its AND
+abbrev start : tie.After-plan-table → tie.Start
+start c = c .before .before
+
+planned :
+    (c : tie.After-plan-table)
+    → let s = start c .args in
+    PlanSays (plainFault (gadgetOf (s .and)) (s .table .now) (s .order)) (s .table .now) (s .order) (c .plan-table .result)
+planned c = c .plan-table .ensures (start c .args .and)
 
 plan-table-requires : tie.Need-plan-table-requires
 plan-table-requires c κs = search needs
@@ -18,23 +30,25 @@ enum-known-p c = search needs
 
 returns : tie.Need-returns
 returns c = marks-outside (c .before .before .before .before .before .before .before .args .and)
-    (planned-ready (planned-as (c .before .before .before .before .before .plan-table .ensures (c .before .before .before .before .before .before .before .args .and)) (c .before .before .before .p .given .1))) _
+    (planned-ready (planned-as (planned (c .before .before .before .before .before)) (c .before .before .before .p .given .1))) _
     (c .if1 .taken)
 
 marks-at-requires : tie.Need-marks-at-requires
 marks-at-requires c κs = (
-  planned-ready (planned-as (c .before .before .before .before .before .plan-table .ensures (c .before .before .before .before .before .before .before .args .and))
+  planned-ready (planned-as (planned (c .before .before .before .before .before))
       (c .before .before .before .p .given .1)) .ready,
   c .if1 .left,
 )
 
 returns-2 : tie.Need-returns-2
-returns-2 c = marks-refused (gadgetOf (c .before .before .before .before .before .args .and)) _ (planned-as (c .before .before .before .plan-table .ensures (c .before .before .before .before .before .args .and)) (c .before .r .given .1))
+returns-2 c =
+    let plan = c .before .before .before in
+    marks-refused (gadgetOf (start plan .args .and)) _ (planned-as (planned plan) (c .before .r .given .1))
 
 returns-3 : tie.Need-returns-3
 returns-3 c =
     marks-inside (c .before .before .before .before .before .before .before .before .args .and) (planned-ready
-    (planned-as (c .before .before .before .before .before .before .plan-table .ensures (c .before .before .before .before .before .before .before .before .args .and))
+    (planned-as (planned (c .before .before .before .before .before .before))
     (c .before .before .before .before .p .given .1))) _ (c .before .if1 .left) (c .marks-at .ensures)
 
 pub wire-marks-spec : {M : Type 1} → statement M

@@ -14,7 +14,9 @@ same-length : tie.Need-same-length
 same-length c = search needs
 
 returns : tie.Need-returns
-returns c = mask-none (c .before .before .before .before .before .before .before .args .input .now) (c .before .before .before .before .if1 .taken) (c .before .before .mask-ordered .ensures)
+returns c =
+    let s = c .before .before .before .before .before .before .before in
+    mask-none (s .args .input .now) (c .before .before .before .before .if1 .taken) (c .before .before .mask-ordered .ensures)
 
 shared-slice-read-and-of : tie.Need-shared-slice-read-and-of
 shared-slice-read-and-of c = search needs
@@ -39,7 +41,9 @@ same-length-2 c = search needs
 
 returns-2 : tie.Need-returns-2
 returns-2 c =
-    mask-part (c .before .before .before .before .before .before .before .before .before .before .args .input .now) (c .before .before .before .before .before .and-of .ensures) (c .before .before .mask-ordered2 .ensures)
+    let and = c .before .before .before .before .before in
+    mask-part (and .before .before .before .before .before .args .input .now) (and .and-of .ensures)
+    (c .before .before .mask-ordered2 .ensures)
 
 pub mask-input-spec : {M : Type 1} → statement M
 mask-input-spec =

@@ -115,7 +115,9 @@ returns : tie.Need-returns Inv-loop μ-loop
 returns c =
     let inv = c .before .loop .inv in
     let s = c .before .before .before .before in
-    let sums : ℕ → List ℕ = λ v. pairBytes (joined (s .args .i) 0 (sumGates (s .args .last) (λ j. s .args .w + 5 * pairAt (s .args .n) j (s .args .i) + v))) in (
+    let a = s .args in
+    let sums : ℕ → List ℕ =
+    λ v. pairBytes (joined (a .i) 0 (sumGates (a .last) (λ j. a .w + 5 * pairAt (a .n) j (a .i) + v))) in (
       λ h. upright-low _ _ _ (c .before .loop .j) _ h (omega (arith, inv .0 .within)) (inv .1),
       rw pairs-joined (joining-end (inv .0) (omega arith))
           ∙ ap {A = ℕ} {B = List ℕ} (λ v. putAt (s .args .at) (sums v) (s .args .ops .now)) (c .before .before .pair-form .ensures .high),

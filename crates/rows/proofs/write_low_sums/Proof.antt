@@ -76,9 +76,10 @@ same-length c = c .before .loop .inv .long
 
 returns : tie.Need-returns Inv-loop μ-loop
 returns c =
-    let s = c .before .before .before .before in
+    let a = c .before .before .before .before .args in
+    let sums : ℕ → List ℕ = λ v. pairBytes (joined (a .m) 0 (sumGates (a .last) (λ c. a .z + 5 * c + v))) in
     rw pairs-joined (joining-end (c .before .loop .inv) (omega arith))
-    ∙ ap {A = ℕ} {B = List ℕ} (λ v. putAt (s .args .at) (pairBytes (joined (s .args .m) 0 (sumGates (s .args .last) (λ c. s .args .z + 5 * c + v)))) (s .args .ops .now))
+    ∙ ap {A = ℕ} {B = List ℕ} (λ v. putAt (a .at) (sums v) (a .ops .now))
     (c .before .before .pair-form .ensures .low)
 
 pub write-low-sums-spec : {M : Type 1} → statement M

@@ -14,6 +14,13 @@ use Rattle.writing.proofs.write_five.Tie as tie
 pair-form-requires : tie.Need-pair-form-requires
 pair-form-requires c κs = tt
 
+-- the form, from a call on
+abbrev form2 : tie.After-put-gate2 → tie.After-pair-form
+form2 c = c .before .before .before .before .before .before
+
+abbrev form4 : tie.After-put-gate4 → tie.After-pair-form
+form4 c = form2 (c .before .before .before .before .before .before .before .before .before .before)
+
 put-gate-requires : tie.Need-put-gate-requires
 put-gate-requires c κs = search needs
 
@@ -27,17 +34,23 @@ add-put-gate-2 : tie.Need-add-put-gate-2
 add-put-gate-2 c = search needs
 
 add-put-gate-3 : tie.Need-add-put-gate-3
-add-put-gate-3 c = omega (arith, c .before .before .before .before .before .before .before .before .before .before .pair-form .ensures .third, c .before .before .before .before .before .before .before .before .before .before .before .before .pre .wires)
+add-put-gate-3 c =
+    let form = form2 (c .before .before .before .before) in
+    omega (arith, form .pair-form .ensures .third, form .before .before .pre .wires)
 
 add-put-gate-4 : tie.Need-add-put-gate-4
-add-put-gate-4 c = omega (arith, c .before .before .before .before .before .before .before .before .before .before .before .pair-form .ensures .third, c .before .before .before .before .before .before .before .before .before .before .before .before .before .pre .wires)
+add-put-gate-4 c =
+    let form = form2 (c .before .before .before .before .before) in
+    omega (arith, form .pair-form .ensures .third, form .before .before .pre .wires)
 
 put-gate-requires-3 : tie.Need-put-gate-requires-3
 put-gate-requires-3 c κs =
-    let form = c .before .before .before .before .before .before .before .before .before .before .before in
+    let second = c .before .before .before .before in
+    let first = second .before .before .before .before in
+    let form = first .before .before .before in
     let s = form .before .before in
     let third = form .pair-form .ensures .third in (
-      omega (arith, s .pre .room, c .before .before .before .before .ops2 .given, c .before .before .before .before .before .before .before .before .ops .given),
+      omega (arith, s .pre .room, second .ops2 .given, first .ops .given),
       omega (arith, third, s .pre .wires),
       omega (arith, third, s .pre .wires),
     )
@@ -49,13 +62,19 @@ put-gate-requires-4 : tie.Need-put-gate-requires-4
 put-gate-requires-4 c κs = search needs
 
 add-put-gate-6 : tie.Need-add-put-gate-6
-add-put-gate-6 c = let s = c .before .before .before .before .before .before .before .before .before .before .before .before .before .before .before .before .before .before .before .before .before in omega (arith, s, s .pre .room)
+add-put-gate-6 c =
+    let s = form4 (c .before .before .before) .before .before in
+    omega (arith, s, s .pre .room)
 
 add-put-gate-7 : tie.Need-add-put-gate-7
-add-put-gate-7 c = omega (arith, c .before .before .before .before .before .before .before .before .before .before .before .before .before .before .before .before .before .before .before .before .pair-form .ensures .fifth, c .before .before .before .before .before .before .before .before .before .before .before .before .before .before .before .before .before .before .before .before .before .before .pre .wires)
+add-put-gate-7 c =
+    let form = form4 (c .before .before .before .before) in
+    omega (arith, form .pair-form .ensures .fifth, form .before .before .pre .wires)
 
 add-put-gate-8 : tie.Need-add-put-gate-8
-add-put-gate-8 c = omega (arith, c .before .before .before .before .before .before .before .before .before .before .before .before .before .before .before .before .before .before .before .before .before .pair-form .ensures .fifth, c .before .before .before .before .before .before .before .before .before .before .before .before .before .before .before .before .before .before .before .before .before .before .before .pre .wires)
+add-put-gate-8 c =
+    let form = form4 (c .before .before .before .before .before) in
+    omega (arith, form .pair-form .ensures .fifth, form .before .before .pre .wires)
 
 put-gate-requires-5 : tie.Need-put-gate-requires-5
 put-gate-requires-5 c κs =
