@@ -118,6 +118,10 @@ dom-form e =
       flip = dom-flip;
     })
 
+-- the wires that rows add are two of the five
+pub form-below : {G : Gadget} {r : DF.PairForm} → FormSays G r → (r .low < 5) × (r .high < 5)
+form-below {G} F = (omega (arith, F .low, index-below (G .low)), omega (arith, F .high, index-below (G .high)))
+
 -- what a pair flips, by the tests of the code
 module _ {G : Gadget} {r : DF.PairForm} (F : FormSays G r) (k i j p q : ℕ) (hq : q ≤ 1) where
   pub flip-lower : i ≡ k → xor (r .both * p) q ≡ G .flip k i j p q

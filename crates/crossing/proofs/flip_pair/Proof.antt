@@ -41,7 +41,10 @@ product-differs-requires-2 : tie.Need-product-differs-requires-2
 product-differs-requires-2 c κs = search needs
 
 pair-flip-requires : tie.Need-pair-flip-requires
-pair-flip-requires c κs = (c .before .product-differs .ensures .1, c .product-differs2 .ensures .1)
+pair-flip-requires c κs =
+    let p = c .before .product-differs .ensures .1 in
+    let q = c .product-differs2 .ensures .1 in
+    (omega (arith, p, q), omega (arith, p, q))
 
 flip-bit-requires : tie.Need-flip-bit-requires
 flip-bit-requires c κs =

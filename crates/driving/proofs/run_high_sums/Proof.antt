@@ -1,11 +1,10 @@
 -- `driving::run_high_sums` meets its contract. The invariant: in each run j sums have run on, and `Upright`.
 -- Assumes nothing.
 use mathlib.Core.Path.{_≡_, refl}
-use Prim.Native.Nat.{_+_, _-_, _*_, _≤_}
+use Prim.Native.Nat.{_+_, _-_, _*_, _≤_, _<_}
 use native.Mathlib.Omega.{arith}
 use Rattle.masks.specs.Shares.{pairAt}
-use Rattle.masks.specs.Gadgets.{gadgetOf}
-use Rattle.masks.proofs.Forms.{index-below}
+use Rattle.masks.proofs.Forms.{form-below}
 use Rattle.pieces.proofs.Pieces.{Upright, upright-start, upright-turn, upright-high, upright-within, upright-low}
 use Rattle.driving.proofs.InSums.{InSums, sums-start, sums-room, sums-turn, sums-long, sums-end}
 use borrow.Author.Needs.{needs}
@@ -21,12 +20,13 @@ Inv-loop one₀ other₀ last w n i form x₀ y₀ z₀ j₀ one other x y z j =
 abbrev μ-loop : tie.MeasureT-loop
 μ-loop one₀ other₀ last w n i form x₀ y₀ z₀ j₀ one other x y z j = i - j
 
--- z is the wire after a pair, and the wire that is added comes before it
+-- z is the wire after a pair, and the wires that rows add come before it
 after-pair :
     (c : tie.In-loop Inv-loop μ-loop)
     → (5 ≤ c .before .loop .z)
     × (c .before .loop .z ≤ c .before .before .before .before .before .before .before .args .last)
-    × (c .before .before .before .before .pair-form .result .high ≤ 4)
+    × (c .before .before .before .before .pair-form .result .low < 5)
+    × (c .before .before .before .before .pair-form .result .high < 5)
 after-pair c =
     let form = c .before .before .before .before in
     let s = form .before .before .before in
@@ -34,7 +34,8 @@ after-pair c =
     let j = c .before .loop .j in (
       omega (arith, upright-high _ _ _ j _ (c .loop-test .taken) (s .pre .2) inv),
       omega (arith, upright-within _ _ _ j _ (c .loop-test .taken) (s .pre .2) inv, s .pre .4),
-      omega (arith, form .pair-form .ensures .high, index-below (gadgetOf (s .args .and) .high)),
+      form-below (form .pair-form .ensures) .0,
+      form-below (form .pair-form .ensures) .1,
     )
 
 pair-form-requires : tie.Need-pair-form-requires Inv-loop μ-loop

@@ -34,7 +34,7 @@ run-and-requires-2 c κs =
     let h = s .pre .3 in
     let left = left-before (s .pre .2) h (second .before .share-wire .ensures .1 n h) in
     let right = right-before (s .pre .2) h (second .share-wire2 .ensures .1 n h) in
-    (runs-less 1 (s .pre .1) (omega arith), omega (arith, left, s .pre .4), omega (arith, right, s .pre .4))
+    (runs-less 1 (s .pre .1) (omega arith), omega (arith, left, right, s .pre .4), omega (arith, left, right, s .pre .4))
 
 run-high-sums-requires : tie.Need-run-high-sums-requires
 run-high-sums-requires c κs =

@@ -7,8 +7,7 @@ use mathlib.Core.List.{List, _++_}
 use Rattle.tables.specs.Tables.{two, pairBytes}
 use Rattle.tables.specs.Inside.{putAt}
 use Rattle.masks.specs.Shares.{pairAt}
-use Rattle.masks.specs.Gadgets.{gadgetOf}
-use Rattle.masks.proofs.Forms.{index-below}
+use Rattle.masks.proofs.Forms.{form-below}
 use Rattle.pieces.specs.Layout.{joined, sumGates}
 use Rattle.pieces.proofs.Bytes.{pairs-joined, Joining, joining-start, joining-turn, joining-end}
 use Rattle.pieces.proofs.Pieces.{Upright, upright-start, upright-turn, upright-high, upright-within}
@@ -38,10 +37,6 @@ after-pair c =
       omega (arith, upright-within _ _ _ j _ (omega arith) (s .pre .0) inv, s .pre .2),
     )
 
--- the wire that a row adds is one of five
-high-place : (c : tie.In-loop Inv-loop μ-loop) → c .before .before .pair-form .result .high < 5
-high-place c = omega (arith, c .before .before .pair-form .ensures .high, index-below (gadgetOf (c .before .before .before .before .args .and) .high))
-
 mul-z : tie.Need-mul-z Inv-loop μ-loop
 mul-z c = omega arith
 
@@ -69,10 +64,10 @@ sub-put-gate : tie.Need-sub-put-gate Inv-loop μ-loop
 sub-put-gate c = omega (arith, after-pair (c .before) .0)
 
 add-put-gate-3 : tie.Need-add-put-gate-3 Inv-loop μ-loop
-add-put-gate-3 c = omega (arith, after-pair (c .before .before) .1, high-place (c .before .before))
+add-put-gate-3 c = omega (arith, after-pair (c .before .before) .1, form-below (c .before .before .before .before .pair-form .ensures))
 
 put-gate-requires : tie.Need-put-gate-requires Inv-loop μ-loop
-put-gate-requires c κs = omega (arith, after-pair (c .before .before), high-place (c .before .before))
+put-gate-requires c κs = omega (arith, after-pair (c .before .before), form-below (c .before .before .before .before .pair-form .ensures))
 
 sub-z : tie.Need-sub-z Inv-loop μ-loop
 sub-z c = omega arith

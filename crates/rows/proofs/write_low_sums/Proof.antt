@@ -8,6 +8,7 @@ use Rattle.tables.specs.Tables.{pairBytes}
 use Rattle.tables.specs.Inside.{putAt}
 use Rattle.masks.specs.Gadgets.{gadgetOf}
 use Rattle.masks.specs.Wires.{pairWire}
+use Rattle.masks.proofs.Forms.{form-below}
 use Rattle.pieces.specs.Layout.{joined, sumGates}
 use Rattle.pieces.proofs.Bytes.{pairs-joined, Joining, joining-start, joining-turn, joining-end}
 use Rattle.rows.proofs.write_low_sums.Statement.{statement}
@@ -52,11 +53,14 @@ add-put-gate-3 : tie.Need-add-put-gate-3 Inv-loop μ-loop
 add-put-gate-3 c = omega (arith, low-wire (c .before))
 
 add-put-gate-4 : tie.Need-add-put-gate-4 Inv-loop μ-loop
-add-put-gate-4 c = omega (arith, low-wire (c .before .before), c .before .before .before .before .pair-form .ensures .low)
+add-put-gate-4 c =
+    let F = c .before .before .before .before .pair-form .ensures in
+    omega (arith, low-wire (c .before .before), F .low, form-below F)
 
 put-gate-requires : tie.Need-put-gate-requires Inv-loop μ-loop
 put-gate-requires c κs =
-    omega (arith, low-wire (c .before .before), c .before .before .before .before .pair-form .ensures .low)
+    let F = c .before .before .before .before .pair-form .ensures in
+    omega (arith, low-wire (c .before .before), F .low, form-below F)
 
 add-c : tie.Need-add-c Inv-loop μ-loop
 add-c c = omega arith
