@@ -27,10 +27,12 @@ use Rattle.masks.proofs.Each.{Each, each-append, each-at, each-in-turn, each-up
 use Rattle.masks.proofs.Lawful.{Lawful}
 use Rattle.masks.proofs.Costs.{adding-length, pairs-span, rows-span, and-length, orAnd, new-length, new-draws}
 use Rattle.masks.proofs.Shares.{share-values, or-solves}
-use Rattle.masks.proofs.Products.{rowTerms, and-pair, and-row}
+use Rattle.masks.proofs.Products.{rowTerms, fiveWire, each-five, each-and, and-pair, and-row}
+use Rattle.masks.proofs.Placed.{drop-share}
+use Rattle.masks.proofs.Gatewise.{masked-each}
 use Rattle.maps.specs.Maps.{pairFlip, valuesOf, gateFlips}
 use Rattle.maps.specs.Laws.{gatesFlips}
-use Rattle.maps.proofs.Flips.{gate-flips-length, drop-share, first-not-flips}
+use Rattle.maps.proofs.Flips.{gate-flips-length, first-not-flips}
 use Rattle.masks.proofs.Hiding.{Hiding, not-first}
 
 -- shares other than k have the same value in both runs
@@ -52,24 +54,6 @@ map-at : {A : Type 0} (f : A → ℕ) (xs : List A) (q : ℕ) (d : A) → q < le
 map-at f [] q d h = absurd (omega arith)
 map-at f (x ∷ xs) zero d h = refl
 map-at f (x ∷ xs) (suc q) d h = map-at f xs q d (omega arith)
-
--- what holds of each of the five wires
-each-five :
-    (P : ℕ → Wire → Type 0) (w : ℕ) (x : Five → Wire) → ((f : Five) → P (w + indexOf f) (x f)) → Each P w (map x allFive)
-unfolding Each
-each-five P w x h = (
-  subst (λ (y : ℕ). P y (x first)) (omega arith) (h first),
-  (
-    subst (λ (y : ℕ). P y (x second)) (omega arith) (h second),
-    (
-      subst (λ (y : ℕ). P y (x third)) (omega arith) (h third),
-      (
-        subst (λ (y : ℕ). P y (x fourth)) (omega arith) (h fourth),
-        (subst (λ (y : ℕ). P y (x fifth)) (omega arith) (h fifth), tt),
-      ),
-    ),
-  ),
-)
 
 -- a running sum of what agrees agrees
 adding-agrees :
@@ -138,19 +122,6 @@ module _
         (q i j : ℕ) → q < tri n → getD (pairs n) q (pairOf 0 0) ≡ pairOf i j → Agreed q (pairOf i j)
     pair-agrees-at q i j h e = subst (Agreed q) e (pair-agrees q h)
 
-    pairs-kept : Each (Kept G k v u) w (inTurn 5 w (pairs n) (pairWires G part a b))
-    pairs-kept =
-        each-in-turn _ 5 w (pairs n) (pairWires G part a b) (pairOf 0 0) (pairs-span G n part a b)
-        (λ q h.
-        let p = getD (pairs n) q (pairOf 0 0) in
-        each-five _ (w + 5 * q)
-        (λ f.
-        wire
-        (G .gates (w + 5 * q) (share a (p .lower)) (share b (p .upper)) (share a (p .upper)) (share b (p .lower)) f)
-        (part (pair f (p .lower) (p .upper))))
-        (λ f e.
-        pair-agrees q (omega (arith, pairs-length n 0)) f (ap (isIn k) (sym (same (pair f (p .lower) (p .upper)))) ∙ e)))
-
     -- what row i adds carries share i alone
     terms-agree : (i : ℕ) → i < n → (suc i ≡ k → ⊥) → All (λ z. v z ≡ u z) (rowTerms G n w i)
     terms-agree i h ne =
@@ -188,15 +159,13 @@ module _
     )
 
     and-kept : Each (Kept G k v u) w (andWires G n part w a b)
-    unfolding andWires
     and-kept =
-        let ps = inTurn 5 w (pairs n) (pairWires G part a b) in
-        let rs = inTurn n (w + 5 * tri n) (upFrom n 0 (λ i. i)) (rowWires part a b (rowTerms G n w)) in
-        let long : w + 5 * tri n ≡ w + length ps =
-        omega (arith, in-turn-length 5 w (pairs n) (pairWires G part a b) (pairs-span G n part a b), pairs-length n 0) in
-        each-append _ w ps rs pairs-kept
-        (subst (λ (y : ℕ). Each (Kept G k v u) y rs) long
-        (each-rows _ n n (w + 5 * tri n) _ (rows-span G n part a b _ _) row-kept))
+        each-and G n part w a b (Kept G k v u)
+        (λ q h.
+        let p = getD (pairs n) q (pairOf 0 0) in
+        each-five (Kept G k v u) (w + 5 * q) (fiveWire G part a b (w + 5 * q) p)
+        (λ f e. pair-agrees q h f (ap (isIn k) (sym (same (pair f (p .lower) (p .upper)))) ∙ e)))
+        row-kept
 
     -- the last wire of each row
     and-alike : Alike n v u k (andShares n w)
@@ -343,7 +312,17 @@ masked-split {G} L kd l n g w c a b rest r v s =
     ap (λ (y : ℕ). c + y) (new-draws L kd l n g w a b) in
     (t .0, subst₂ (λ (x y : ℕ). Solves x y (map driverOf rest) r v) long bits (t .1))
 
--- by induction over the gates; the shares come along, so that clocks can go on from them
+-- what is known of the gates that are left: the equations of their wires in both runs, from random bit `bits` on, and what the second
+-- run flips
+record Left (G : Gadget) (n k : ℕ) (r s v u : ℕ → ℕ) (g w : ℕ) (S : List (List ℕ)) (gs : List Gate) : Type 0 where
+  bits : ℕ
+  one : Solves w bits (map driverOf (masked G n g w S gs)) r v
+  other : Solves w bits (map driverOf (masked G n g w S gs)) s u
+  flips :
+      (q : ℕ) → q < total (λ kd. draws kd n) gs
+      → s (bits + q) ≡ xor (r (bits + q)) (getD (gatesFlips G n k w S gs v u) q 0)
+
+-- the gates in table order; the shares come along, so that clocks can go on from them
 pub masked-agrees :
     {G : Gadget} (H : Hiding G) (n g w c k : ℕ) (S : List (List ℕ)) (gs : List Gate) (r s v u : ℕ → ℕ) → 1 ≤ n
     → PlainGates (length S) gs → ((p : ℕ) → v p ≤ 1) → ((p : ℕ) → u p ≤ 1) → ((q : ℕ) → r q ≤ 1)
@@ -353,30 +332,21 @@ pub masked-agrees :
     → s (c + q) ≡ xor (r (c + q)) (getD (gatesFlips G n k w S gs v u) q 0))
     → All (Alike n v u k) S
     → Each (Kept G k v u) w (masked G n g w S gs) × All (Alike n v u k) (sharesAfter n w S gs)
-unfolding All Each masked sharesAfter PlainGates total gatesFlips
-masked-agrees H n g w c k S [] r s v u h x bv bu br sv su fl A = (tt, A)
-masked-agrees {G} H n g w c k S (y ∷ ys) r s v u h x bv bu br sv su fl A =
+unfolding masked total gatesFlips
+masked-agrees {G} H n g w c k S gs r s v u h x bv bu br sv su fl A =
+    masked-each G n (Kept G k v u) (Alike n v u k) (Left G n k r s v u)
+    (λ g w S y ys p sa sb L.
     let kd = y .kind in
     let a = getD S (y .left) [] in
     let b = getD S (y .right) [] in
-    let ws = newWires G kd (y .left) n g w a b in
     let T = S ++ (newShares kd n w a ∷ []) in
     let rest = masked G n (suc g) (w + cost kd n) T ys in
-    let reads = plain-reads (length S) kd (y .left) (y .right) (x .0) in
-    let sa = read-left (operandsOf kd) (length S) (y .left) (y .right) reads (all-getD (Alike n v u k) S (y .left) [] A) in
-    let sb = read-right (operandsOf kd) (length S) (y .left) (y .right) reads (all-getD (Alike n v u k) S (y .right) [] A) in
-    let tv = masked-split (H .lawful) kd (y .left) n g w c a b rest r v sv in
-    let tu = masked-split (H .lawful) kd (y .left) n g w c a b rest s u su in
+    let tv = masked-split (H .lawful) kd (y .left) n g w (L .bits) a b rest r v (L .one) in
+    let tu = masked-split (H .lawful) kd (y .left) n g w (L .bits) a b rest s u (L .other) in
     let fs = flips-split (gateFlips G kd n k a b v u) (gatesFlips G n k (w + cost kd n) T ys v u) (draws kd n)
-    (total (λ kd. draws kd n) ys) c r s (gate-flips-length G kd n k a b v u) fl in
-    let one = new-agrees H kd n g w c k (length S) (y .left) (y .right) a b r s v u h (x .0) sa sb bv bu br
-    (tv .0) (tu .0) (fs .0) in
-    let long : w + cost kd n ≡ w + length ws = ap (λ (z : ℕ). w + z) (sym (new-length G kd (y .left) n g w a b)) in
-    let more : suc (length S) ≡ length T = sym (length-append S (newShares kd n w a ∷ []) ∙ omega arith) in
-    let B : All (Alike n v u k) T =
-    all-append _ S (newShares kd n w a ∷ []) A (one .1, tt) in
-    let others = masked-agrees H n (suc g) (w + cost kd n) (c + draws kd n) k T ys r s v u h
-    (subst (λ (z : ℕ). PlainGates z ys) more (x .1)) bv bu br (tv .1) (tu .1) (fs .1) B in (
-      each-append _ w ws rest (one .0) (subst (λ (z : ℕ). Each (Kept G k v u) z rest) long (others .0)),
-      others .1,
-    )
+    (total (λ kd. draws kd n) ys) (L .bits) r s (gate-flips-length G kd n k a b v u) (L .flips) in (
+      new-agrees H kd n g w (L .bits) k (length S) (y .left) (y .right) a b r s v u h p sa sb bv bu br (tv .0) (tu .0) (fs .0),
+      record { bits = L .bits + draws kd n; one = tv .1; other = tu .1; flips = fs .1 },
+    ))
+    g w S gs x A
+    (record { bits = c; one = sv; other = su; flips = fl })

@@ -13,7 +13,7 @@ use lib.Seq.{length-take-le, take-at}
 use Rattle.tables.specs.declared.Answer as DA
 use Rattle.tables.specs.Refusals.{Fault, passed}
 use Rattle.tables.specs.Tables.{Table, wires, tableOf, tableBytes, word}
-use Rattle.tables.specs.Runs.{Bits, run, readAll, outputsOf, randoms}
+use Rattle.tables.specs.Runs.{Bits, run, readAll, outputsOf, randoms, probeReads, ofEach}
 use Rattle.tables.specs.Packing.{bytesFor, packed, tapeOf}
 use Rattle.tables.specs.Says.{Answered, Writes, over, afterCall, runFault}
 use Rattle.tables.proofs.Tests.{and-true}
@@ -23,24 +23,24 @@ use Rattle.tables.proofs.Run.{read-length}
 use Rattle.tables.proofs.Format.{outputs-written}
 use Rattle.masks.specs.declared.And as DAnd
 use Rattle.masks.specs.Gadgets.{Gadget, gadgetOf}
-use Rattle.masks.specs.Wires.{marks, maskedTable, tapeLong}
+use Rattle.masks.specs.Wires.{maskedTable, tapeLong, probeMarks}
 use Rattle.masks.specs.Codes.{encode, decode, maskedRun}
 use Rattle.masks.specs.Says.{plainFault}
 use Rattle.masks.proofs.Lawful.{lawful}
 use Rattle.masks.proofs.Hiding.{hiding}
 use Rattle.masks.proofs.Passed.{plain-passed}
 use Rattle.maps.specs.Maps.{single, freeShare, mapped}
-use Rattle.maps.specs.Claims.{allBelow, isTape, areSecrets, same}
+use Rattle.maps.specs.Claims.{allBelow, isTape, areSecrets, same, readBy, Hides}
 use Rattle.maps.specs.Packed.{allPacked, timesPacked}
 use Rattle.maps.specs.Says.{mapFault}
-use Rattle.maps.specs.Assurance.{Lent, written, Way, timesRead, Assurance}
+use Rattle.maps.specs.Assurance.{Lent, written, Way, Calls, timesRead, tableWritten, ReadAlike, Assured, Assurance}
 use Rattle.maps.proofs.Bits.{bits-all, all-below}
-use Rattle.maps.proofs.Count.{bits-of, many-same}
+use Rattle.maps.proofs.Count.{BitsOf, of-bits, bits-of, many-same}
 use Rattle.maps.proofs.Packed.{tape-again, hides-packed}
-use Rattle.maps.proofs.Faults.{map-good}
+use Rattle.maps.proofs.Faults.{MapGood, map-good}
 use Rattle.maps.proofs.Begun.{tape-is, secrets-are, values-long}
 use Rattle.maps.proofs.Computing.{computes}
-use Rattle.maps.proofs.Whole.{each-single, covers-single, hides, demands}
+use Rattle.maps.proofs.Whole.{each-single, Covers, covers-pins, pins-below, pins-single, hides, demands}
 
 -- a call that answered 0 was refused by none of its checks, and answers its value
 answered-0 : (f : Fault) (v : ℕ) (r : DA.Answer) → Answered f v r → r .number ≡ 0 → (passed f ≡ true) × (r .value ≡ v)
@@ -158,13 +158,11 @@ module _ (a : DAnd.And) where
         ap (take (w .ran .value)) values-left ∙ over-front values (w .values .before) (w .ran .value) values-count
 
     read-values :
-        (ps : List ℕ) → allBelow (wires (maskedTable G o t)) ps ≡ true
-        → readAll (w .values .after) ps ≡ readAll values ps
-    read-values ps h =
+        (ws : List ℕ) → All (λ p. p < wires (maskedTable G o t)) ws → readAll (w .values .after) ws ≡ readAll values ws
+    read-values ws below =
         let long = values-long (lawful a) o t (plain-passed G s o plain .plain) xs ts hx ht in
-        ap (λ (l : List ℕ). readAll l ps) values-left
-        ∙ read-over values (w .values .before) ps
-        (subst (λ (n : ℕ). All (λ p. p < n) ps) (sym long) (all-below (wires (maskedTable G o t)) ps h))
+        ap (λ (l : List ℕ). readAll l ws) values-left
+        ∙ read-over values (w .values .before) ws (subst (λ (n : ℕ). All (λ p. p < n) ws) (sym long) below)
 
     -- the masked outputs, as the next call takes them
     masked-outputs : take (word m 4) (w .outputs .after) ≡ outputsOf (maskedTable G o t) values
@@ -180,10 +178,11 @@ module _ (a : DAnd.And) where
 
   -- the table written runs as the masked table does, so that as many packed tapes give each pattern
   times-are :
-      (s : List ℕ) (o : ℕ) (m zs ps pattern : List ℕ) → passed (plainFault G s o) ≡ true
+      (s : List ℕ) (o : ℕ) (m zs ps pattern : List ℕ) (rd : Table → ℕ → List ℕ) → passed (plainFault G s o) ≡ true
       → m ≡ tableBytes (maskedTable G o (tableOf s)) → areSecrets (tableOf s) zs ≡ true
-      → timesRead o m (tapeLong G o (tableOf s)) zs ps pattern ≡ timesPacked G single o (tableOf s) zs ps pattern
-  times-are s o m zs ps pattern plain is hz =
+      → timesRead o m (tapeLong G o (tableOf s)) zs (readBy G rd o (tableOf s) ps) pattern
+      ≡ timesPacked G rd o (tableOf s) zs ps pattern
+  times-are s o m zs ps pattern rd plain is hz =
       let t = tableOf s in
       let front : 2 * o * length zs ≡ 2 * o * t .inputs = ap (λ (y : ℕ). 2 * o * y) (secrets-are t zs hz .0) in
       let run-is : (us : List ℕ)
@@ -192,59 +191,110 @@ module _ (a : DAnd.And) where
       ap₂ (λ (k : ℕ) (l : List ℕ). run (tableOf l) (encode o zs (take k us)) (drop k us)) front is
       ∙ demands a .written-back s o plain .same-run zs us in
       many-same _ _
-      (λ us. ap₂ (λ (vs qs : List ℕ). same (readAll vs qs) pattern) (run-is (tapeOf (tapeLong G o t) us)) (sym (each-single ps)))
+      (λ us. ap (λ (vs : List ℕ). same (readAll vs (readBy G rd o t ps)) pattern) (run-is (tapeOf (tapeLong G o t) us)))
       (allPacked (tapeLong G o t))
+
+  module _ (s : List ℕ) (o : ℕ) (xs ys ts ps : List ℕ) (c : Calls G s o xs ys ts ps) where
+    abbrev plain : Table
+    plain = tableOf s
+
+    abbrev f : Fault
+    f = mapFault G s o xs ys ts ps (length (c .tape .before)) (length (c .one .before)) (length (c .other .before))
+
+    ok : passed f ≡ true
+    ok = answered-0 f (freeShare (probeMarks G) o plain ps) (c .mapping) (c .map-says .answer) (c .map-ok) .0
+
+    h : MapGood G s o xs ys ts ps (length (c .tape .before)) (length (c .one .before)) (length (c .other .before))
+    h = map-good G s o xs ys ts ps _ _ _ ok
+
+    is : tableWritten c ≡ tableBytes (maskedTable G o plain)
+    is = wrote _ _ (c .table) (c .masked) (c .mask-says) (c .mask-ok)
+
+    -- the bits of the tape, and those of the mapped tape
+    abbrev bs : List ℕ
+    bs = tapeOf (tapeLong G o plain) ts
+
+    abbrev ms : List ℕ
+    ms = mapped G (probeMarks G) o plain xs ys bs ps
+
+    abbrev us : List ℕ
+    us = tapeOf (tapeLong G o plain) (take (length ts) (c .tape .after))
+
+    covers : Covers G (probeMarks G) probeReads plain o
+    covers = covers-pins (lawful a) plain o (plain-passed G s o (h .plain) .plain)
+
+    hides-pins : Hides G (probeMarks G) probeReads plain o
+    hides-pins = hides (hiding a) plain o covers (plain-passed G s o (h .plain) .plain)
+
+    of-ms : BitsOf (tapeLong G o plain) ms
+    of-ms = bits-of G o plain ms (hides-pins .a-tape xs ys bs ps (h .first) (h .second) (h .tape) (h .probes))
+
+    us-is : us ≡ ms
+    us-is =
+        let long : length (packed ms) ≡ length ts =
+        packed-length ms ∙ ap (λ (n : ℕ). bytesFor n) (of-ms .0) ∙ sym (h .long) in
+        let back : take (length ts) (c .tape .after) ≡ packed ms =
+        ap (take (length ts)) (left-0 f (packed ms) (c .tape .before) (c .tape .after) ok (c .map-says .mapped-tape))
+        ∙ over-front (packed ms) (c .tape .before) (length ts) long in
+        ap (tapeOf (tapeLong G o plain)) back ∙ tape-again (tapeLong G o plain) ms of-ms
+
+    tape-us : isTape G o plain us ≡ true
+    tape-us = subst (λ (v : List ℕ). isTape G o plain v ≡ true) (sym us-is) (of-bits G o plain ms of-ms)
+
+    -- what mapping left of a run
+    filled : (b : Lent) (vs : List ℕ) (n : ℕ) → b .after ≡ afterCall f vs (b .before) → length vs ≡ n → take n (b .after) ≡ vs
+    filled b vs n e long = ap (take n) (left-0 f vs (b .before) (b .after) ok e) ∙ over-front vs (b .before) n long
+
+    -- the wires that the probes read, by what a probe reads
+    read-alike :
+        (rd : Table → ℕ → List ℕ) → Hides G (probeMarks G) rd plain o
+        → All (λ p. p < wires (maskedTable G o plain)) (readBy G rd o plain ps)
+        → ReadAlike G s o xs ys ts ps c (readBy G rd o plain ps)
+    read-alike rd H below =
+        let ws = readBy G rd o plain ps in
+        record {
+          same-read =
+              read-values s o (h .plain) (tableWritten c) ys us is (h .second) tape-us (c .second) ws below
+              ∙ ap (λ (v : List ℕ). readAll (maskedRun G o plain ys v) ws) us-is
+              ∙ H .same-read xs ys bs ps (h .first) (h .second) (h .tape) (h .probes)
+              ∙ sym (read-values s o (h .plain) (tableWritten c) xs bs is (h .first) (h .tape) (c .first) ws below);
+          as-many = λ pattern.
+              times-are s o (tableWritten c) xs ps pattern rd (h .plain) is (h .first)
+              ∙ hides-packed H .as-many xs ys ps pattern (h .first) (h .second) (h .probes)
+              ∙ sym (times-are s o (tableWritten c) ys ps pattern rd (h .plain) is (h .second));
+        }
+
+    -- the probes, and the wires that they read with their pins, are wires of the masked table
+    probes-below : All (λ p. p < wires (maskedTable G o plain)) ps
+    probes-below =
+        all-below (wires (maskedTable G o plain)) ps
+        (and-true (leb (length ps) o) (allBelow (wires (maskedTable G o plain)) ps) (h .probes) .1)
+
+    assured : Assured G s o xs ys ts ps c
+    assured =
+        record {
+          with-pins =
+              subst (λ (m : Table). ReadAlike G s o xs ys ts ps c (ofEach (probeReads m) ps))
+              (sym (ap tableOf is ∙ demands a .written-back s o (h .plain) .read-back))
+              (read-alike probeReads hides-pins
+              (pins-below (lawful a) plain o (plain-passed G s o (h .plain) .plain) ps probes-below));
+          single-values =
+              subst (ReadAlike G s o xs ys ts ps c) (each-single (maskedTable G o plain) ps)
+              (read-alike single (pins-single hides-pins) (rw (each-single (maskedTable G o plain) ps) probes-below));
+          first-run =
+              filled (c .one) (maskedRun G o plain xs bs) _ (c .map-says .first-run)
+              (values-count s o (h .plain) (tableWritten c) xs bs is (h .first) (h .tape) (c .first))
+              ∙ sym (values-written s o (h .plain) (tableWritten c) xs bs is (h .first) (h .tape) (c .first));
+          second-run =
+              let same-run = ap (maskedRun G o plain ys) us-is in
+              filled (c .other) (maskedRun G o plain ys ms) _ (c .map-says .second-run)
+              (ap length (sym same-run) ∙ values-count s o (h .plain) (tableWritten c) ys us is (h .second) tape-us (c .second))
+              ∙ sym same-run
+              ∙ sym (values-written s o (h .plain) (tableWritten c) ys us is (h .second) tape-us (c .second));
+          first-decoded = decoded s o (h .plain) (tableWritten c) xs bs is (h .first) (h .tape) (c .first);
+          second-decoded = decoded s o (h .plain) (tableWritten c) ys us is (h .second) tape-us (c .second);
+        }
 
   -- the law
   pub assurance : Assurance G
-  assurance s o xs ys ts ps c =
-      let t = tableOf s in
-      let l = tapeLong G o t in
-      let f =
-      mapFault G s o xs ys ts ps (length (c .tape .before)) (length (c .one .before)) (length (c .other .before)) in
-      let ok = answered-0 f (freeShare G (marks G) o t ps) (c .mapping) (c .map-says .answer) (c .map-ok) .0 in
-      let h = map-good G s o xs ys ts ps _ _ _ ok in
-      let p = plain-passed G s o (h .plain) .plain in
-      let m = written (c .table) (c .masked) in
-      let is : m ≡ tableBytes (maskedTable G o t) =
-      wrote _ _ (c .table) (c .masked) (c .mask-says) (c .mask-ok) in
-      let bs = tapeOf l ts in
-      let ms = mapped G (marks G) o t xs ys bs ps in
-      let hides = hides (hiding a) t o (covers-single (lawful a) t o) p in
-      let tape-ms = hides .a-tape xs ys bs ps (h .first) (h .second) (h .tape) (h .probes) in
-      let of-ms = bits-of G o t ms tape-ms in
-      let same-long : length (packed ms) ≡ length ts =
-      packed-length ms ∙ ap (λ (n : ℕ). bytesFor n) (of-ms .0) ∙ sym (h .long) in
-      let back : take (length ts) (c .tape .after) ≡ packed ms =
-      ap (take (length ts)) (left-0 f (packed ms) (c .tape .before) (c .tape .after) ok (c .map-says .mapped-tape))
-      ∙ over-front (packed ms) (c .tape .before) (length ts) same-long in
-      let us : tapeOf l (take (length ts) (c .tape .after)) ≡ ms = ap (tapeOf l) back ∙ tape-again l ms of-ms in
-      let tape-us : isTape G o t (tapeOf l (take (length ts) (c .tape .after))) ≡ true =
-      subst (λ (v : List ℕ). isTape G o t v ≡ true) (sym us) tape-ms in
-      let below = and-true (leb (length ps) o) (allBelow (wires (maskedTable G o t)) ps) (h .probes) .1 in
-      let us-run = ap (maskedRun G o t ys) us in
-      let fill : (b : Lent) (vs : List ℕ) (n : ℕ) → b .after ≡ afterCall f vs (b .before) → length vs ≡ n → take n (b .after) ≡ vs =
-      λ b vs n e long. ap (take n) (left-0 f vs (b .before) (b .after) ok e) ∙ over-front vs (b .before) n long in
-      record {
-        same-read =
-            read-values s o (h .plain) m ys _ is (h .second) tape-us (c .second) ps below
-            ∙ ap (λ (v : List ℕ). readAll v ps) us-run
-            ∙ subst (λ (qs : List ℕ). readAll (maskedRun G o t ys ms) qs ≡ readAll (maskedRun G o t xs bs) qs) (each-single ps)
-            (hides .same-read xs ys bs ps (h .first) (h .second) (h .tape) (h .probes))
-            ∙ sym (read-values s o (h .plain) m xs bs is (h .first) (h .tape) (c .first) ps below);
-        as-many = λ pattern.
-            times-are s o m xs ps pattern (h .plain) is (h .first)
-            ∙ hides-packed hides .as-many xs ys ps pattern (h .first) (h .second) (h .probes)
-            ∙ sym (times-are s o m ys ps pattern (h .plain) is (h .second));
-        first-run =
-            fill (c .one) (maskedRun G o t xs bs) _ (c .map-says .first-run)
-            (values-count s o (h .plain) m xs bs is (h .first) (h .tape) (c .first))
-            ∙ sym (values-written s o (h .plain) m xs bs is (h .first) (h .tape) (c .first));
-        second-run =
-            fill (c .other) (maskedRun G o t ys ms) _ (c .map-says .second-run)
-            (ap length (sym us-run) ∙ values-count s o (h .plain) m ys _ is (h .second) tape-us (c .second))
-            ∙ sym us-run
-            ∙ sym (values-written s o (h .plain) m ys _ is (h .second) tape-us (c .second));
-        first-decoded = decoded s o (h .plain) m xs bs is (h .first) (h .tape) (c .first);
-        second-decoded = decoded s o (h .plain) m ys _ is (h .second) tape-us (c .second);
-      }
+  assurance = assured

@@ -15,7 +15,6 @@ use Rattle.tables.proofs.Tests.{and-true}
 use Rattle.tables.proofs.Lists.{bits-take, bits-drop}
 use Rattle.tables.proofs.Run.{Solves, run-length, run-keep, run-solves, run-bits}
 use Rattle.tables.proofs.Accept.{PlainGates, Plain}
-use Rattle.tables.proofs.Format.{sound-earlier}
 use Rattle.masks.specs.Shares.{sharesOf}
 use Rattle.masks.specs.Gadgets.{Gadget}
 use Rattle.masks.specs.Wires.{driverOf, inputShares, draws, maskedWires, maskedTable, tapeLong}
@@ -23,7 +22,7 @@ use Rattle.masks.specs.Codes.{encode, maskedRun}
 use Rattle.masks.proofs.Sum.{up-length}
 use Rattle.masks.proofs.Lawful.{Lawful}
 use Rattle.masks.proofs.Costs.{masked-tape}
-use Rattle.masks.proofs.Placed.{placed-inputs, masked-sound}
+use Rattle.masks.proofs.Placed.{masked-earlier}
 use Rattle.masks.proofs.Codes.{encode-length, encode-bits}
 use Rattle.maps.specs.Claims.{allBits, isTape, areSecrets}
 use Rattle.maps.proofs.Bits.{all-bits}
@@ -66,10 +65,6 @@ pub shares-long :
     (o m : ℕ) (xs bs : List ℕ) → length xs ≡ m → length bs ≡ 2 * o * m → length (encode o xs bs) ≡ sharesOf o * m
 shares-long o m xs bs e f = encode-length o xs bs (f ∙ rw e) ∙ rw e
 
--- the gates of a plain table, after the shares of its inputs
-pub plain-inputs : (n : ℕ) (t : Table) → Plain t → PlainGates (length (inputShares n (t .inputs))) (t .gates)
-plain-inputs n t P = subst (λ (y : ℕ). PlainGates y (t .gates)) (sym (up-length (t .inputs) 0 _)) (P .gates)
-
 module _ {G : Gadget} (L : Lawful G) (o : ℕ) (t : Table) (P : Plain t) (xs ts : List ℕ)
     (hx : areSecrets t xs ≡ true) (ht : isTape G o t ts ≡ true) where
   pub begun-long : length (encode o xs (take (2 * o * t .inputs) ts)) ≡ sharesOf o * t .inputs
@@ -94,14 +89,11 @@ module _ {G : Gadget} (L : Lawful G) (o : ℕ) (t : Table) (P : Plain t) (xs ts 
       (λ c. getD (drop (2 * o * t .inputs) ts) c 0)
       (λ p. getD (maskedRun G o t xs ts) p 0)
   values-solve =
-      let n = sharesOf o in
-      let w = n * t .inputs in
+      let w = sharesOf o * t .inputs in
       subst
       (λ (vs : List ℕ). Solves w 0 (gatesOf G o t) (λ c. getD (drop (2 * o * t .inputs) ts) c 0) (λ p. getD vs p 0))
       (sym (run-is G o t xs ts))
-      (run-solves w (gatesOf G o t) (drop (2 * o * t .inputs) ts) _ begun-long
-      (sound-earlier w (gatesOf G o t)
-      (masked-sound L n 0 w _ (t .gates) (omega arith) (plain-inputs n t P) (placed-inputs n (t .inputs)))))
+      (run-solves w (gatesOf G o t) (drop (2 * o * t .inputs) ts) _ begun-long (masked-earlier L o t P))
 
   -- an input wire has its share
   pub value-of-input :

@@ -20,12 +20,12 @@ use Rattle.masks.specs.Wires.{inputShares, sharesAfter, outputShares, maskedTab
 use Rattle.masks.specs.Codes.{encode, decode, maskedRun}
 use Rattle.masks.proofs.Sum.{sumOf, sum-cong, up-length, up-at, up-all}
 use Rattle.masks.proofs.Lawful.{Lawful}
-use Rattle.masks.proofs.Placed.{shares-after-length}
+use Rattle.masks.proofs.Placed.{plain-inputs, shares-after-length}
 use Rattle.masks.proofs.Codes.{encode-adds, joined, decode-groups, decode-encode}
 use Rattle.masks.proofs.Shares.{Shared, masked-shares}
 use Rattle.maps.specs.Claims.{isTape, areSecrets, Computes}
 use Rattle.maps.proofs.Bits.{all-bits}
-use Rattle.maps.proofs.Begun.{secrets-are, tape-is, tape-front-long, plain-inputs, begun-long, value-bits, values-solve, value-of-input}
+use Rattle.maps.proofs.Begun.{secrets-are, tape-is, tape-front-long, begun-long, value-bits, values-solve, value-of-input}
 
 read-sum : (vs ws : List ℕ) → sumOf (λ b. b) (readAll vs ws) ≡ sumOf (λ w. getD vs w 0) ws
 unfolding readAll sumOf

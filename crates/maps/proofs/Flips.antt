@@ -18,7 +18,7 @@ use Rattle.masks.specs.Wires.{driverOf, share, firstOn, newWires, newShares, co
 use Rattle.masks.proofs.Rows.{pairs-length, pairs-in}
 use Rattle.masks.proofs.Lawful.{Lawful}
 use Rattle.masks.proofs.Costs.{new-length, new-draws, all-of}
-use Rattle.masks.proofs.Placed.{Placed, share-below, placed-at, placed-step}
+use Rattle.masks.proofs.Placed.{drop-share, Placed, share-below, placed-at, placed-step}
 use Rattle.maps.specs.Maps.{flipped, pairFlip, andFlips, valuesOf, firstNot, gateFlips, mapGates}
 use Rattle.maps.specs.Laws.{gatesFlips}
 use Rattle.maps.proofs.Inputs.{flipped-length, flipped-append, flipped-nil, zero-append}
@@ -81,9 +81,6 @@ pairs-flips-same G n k a b a′ b′ c d c′ d′ ps inside ea eb ea′ eb′ =
 pub first-not-same : {n : ℕ} {a c : ℕ → ℕ} → SameBelow n a c → SameBelow n (firstNot a) (firstNot c)
 first-not-same e zero h = ap (λ (y : ℕ). 1 - y) (e 0 h)
 first-not-same e (suc s) h = e (suc s) h
-
-pub drop-share : (a : List ℕ) (i : ℕ) → share (drop 1 a) i ≡ share a (suc i)
-drop-share a i = getD-drop 1 a i 0 ∙ ap (share a) {x = 1 + i} {y = suc i} (omega arith)
 
 first-not-values :
     (a : List ℕ) (w : ℕ) (v : ℕ → ℕ) → v w ≡ 1 - v (share a 0) → (s : ℕ)

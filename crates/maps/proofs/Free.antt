@@ -9,15 +9,15 @@ use native.Mathlib.Omega.{arith}
 use lib.Dec.{eqb}
 use lib.ListN.{length, length-append}
 use borrow.Author.Tests.{eqb-true, eqb-false, ne-eqb}
+use Rattle.tables.specs.Runs.{ofEach}
 use Rattle.tables.proofs.Tests.{or-false}
 use Rattle.tables.proofs.Lists.{All}
 use Rattle.masks.specs.Shares.{sharesOf}
 use Rattle.masks.specs.Gadgets.{isIn, Gadget}
 use Rattle.masks.specs.Wires.{Part, pair, own, sum, leftNot, rightNot, lastNot, inAnd, Origin, inputShare, notOf, xorShare, andPart}
 use Rattle.masks.specs.Wires.{constantShare, orPart, partMarks, marks}
-use Rattle.masks.specs.Says.{originAt}
 use Rattle.masks.proofs.Lawful.{Lawful}
-use Rattle.maps.specs.Maps.{ofEach, carried, freeFrom}
+use Rattle.maps.specs.Maps.{freeFrom}
 use Rattle.maps.specs.Laws.{Free}
 
 -- how many of the c numbers from k on are in the list
@@ -122,10 +122,10 @@ count-length c k (x ∷ cs) =
 
 -- each probe gives at most m numbers
 each-length :
-    (f : ℕ → List ℕ) (m : ℕ) → ((p : ℕ) → length (f p) ≤ m) → (ps : List ℕ) → length (ofEach f ps) ≤ m * length ps
-unfolding ofEach
-each-length f m few [] = omega arith
-each-length f m few (p ∷ ps) = simp length-append (omega (arith, few p, each-length f m few ps))
+    (f : ℕ → List ℕ) (m : ℕ) (ps : List ℕ) → All (λ p. length (f p) ≤ m) ps → length (ofEach f ps) ≤ m * length ps
+unfolding ofEach All
+each-length f m [] few = omega arith
+each-length f m (p ∷ ps) few = simp length-append (omega (arith, few .0, each-length f m ps (few .1)))
 
 -- a number that no probe gives is given by none of them
 pub uncarried-each :
@@ -161,11 +161,6 @@ free-laws n cs few =
 
 -- t probes with at most two marks each carry at most 2t of the 2t + 1 share numbers
 pub few-carried :
-    (mk : Origin → List ℕ) → ((x : Origin) → length (mk x) ≤ 2) → (os : List Origin) (o : ℕ) (ps : List ℕ)
-    → length ps ≤ o → carriedCount (sharesOf o) 1 (carried mk os ps) < sharesOf o
-few-carried mk two os o ps h =
-    omega (
-      arith,
-      count-length (sharesOf o) 1 (carried mk os ps),
-      each-length (λ p. mk (originAt os p)) 2 (λ p. two (originAt os p)) ps,
-    )
+    (f : ℕ → List ℕ) (o : ℕ) (ps : List ℕ) → All (λ p. length (f p) ≤ 2) ps → length ps ≤ o
+    → carriedCount (sharesOf o) 1 (ofEach f ps) < sharesOf o
+few-carried f o ps two h = omega (arith, count-length (sharesOf o) 1 (ofEach f ps), each-length f 2 ps two)

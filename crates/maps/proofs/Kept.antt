@@ -20,12 +20,13 @@ use Rattle.masks.specs.Codes.{encode, maskedRun}
 use Rattle.masks.proofs.Sum.{up-length, up-at, up-all}
 use Rattle.masks.proofs.Each.{Each, each-append, each-up, each-rows, each-map}
 use Rattle.masks.proofs.Costs.{all-of, input-origins-length}
+use Rattle.masks.proofs.Placed.{plain-inputs}
 use Rattle.maps.specs.Maps.{flipped, inputFlips}
 use Rattle.maps.specs.Laws.{gatesFlips, tapeFlips}
 use Rattle.maps.specs.Claims.{isTape, areSecrets}
 use Rattle.maps.proofs.Inputs.{flipped-take, flipped-drop, flipped-at, input-flips-length, encode-off}
 use Rattle.maps.proofs.Flips.{gates-flips-length}
-use Rattle.maps.proofs.Begun.{secrets-are, tape-is, tape-front-long, rest-long, plain-inputs, value-bits, values-solve, value-of-input}
+use Rattle.maps.proofs.Begun.{secrets-are, tape-is, tape-front-long, rest-long, value-bits, values-solve, value-of-input}
 use Rattle.masks.proofs.Hiding.{Hiding, not-first}
 use Rattle.maps.proofs.Agree.{Alike, Kept, masked-agrees}
 

@@ -10,6 +10,7 @@ pub mod Begun
 pub mod TwoRuns
 pub mod Agree
 pub mod Kept
+pub mod Joins
 pub mod Computing
 pub mod Written
 pub mod Counted

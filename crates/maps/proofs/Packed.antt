@@ -15,10 +15,10 @@ use Rattle.tables.proofs.Tests.{and-true, and-intro}
 use Rattle.tables.proofs.Lists.{All}
 use Rattle.tables.proofs.Packing.{packed-length, tape-packed, packed-tape, packed-bytes, packed-spare, tape-long, tape-bits}
 use Rattle.masks.specs.Gadgets.{Gadget}
-use Rattle.masks.specs.Wires.{Origin, tapeLong}
+use Rattle.masks.specs.Wires.{tapeLong}
 use Rattle.masks.specs.Codes.{maskedRun}
-use Rattle.maps.specs.Maps.{ofEach, mapped}
-use Rattle.maps.specs.Claims.{allBelow, isTape, areSecrets, areProbes, allTapes, same, howMany, Hides}
+use Rattle.maps.specs.Maps.{mapped}
+use Rattle.maps.specs.Claims.{allBelow, isTape, areSecrets, areProbes, allTapes, same, howMany, readBy, Hides}
 use Rattle.maps.specs.Packed.{isPacked, allPacked, Packs, HidesPacked}
 use Rattle.maps.proofs.Bits.{all-bits, bits-all, all-below, below-all, same-both}
 use Rattle.maps.proofs.Count.{BitsOf, of-bits, bits-of, many-map, many-on, many-all, once}
@@ -86,7 +86,9 @@ packs =
     }
 
 -- demand 3 of bits gives that of packed tapes
-module _ {G : Gadget} {mk : Origin → List ℕ} {rd : ℕ → List ℕ} {t : Table} {o : ℕ} (H : Hides G mk rd t o) where
+module _
+    {G : Gadget} {mk : ℕ → Table → ℕ → List ℕ} {rd : Table → ℕ → List ℕ} {t : Table} {o : ℕ} (H : Hides G mk rd t o)
+  where
   abbrev l : ℕ
   l = tapeLong G o t
 
@@ -101,12 +103,12 @@ module _ {G : Gadget} {mk : Origin → List ℕ} {rd : ℕ → List ℕ} {t : Ta
   -- as many packed tapes as tapes of bits give a pattern
   times-packed :
       (xs ps pattern : List ℕ)
-      → howMany (λ s. same (readAll (maskedRun G o t xs (tapeOf l s)) (ofEach rd ps)) pattern) (allPacked l)
-      ≡ howMany (λ bs. same (readAll (maskedRun G o t xs bs) (ofEach rd ps)) pattern) (allTapes l)
+      → howMany (λ s. same (readAll (maskedRun G o t xs (tapeOf l s)) (readBy G rd o t ps)) pattern) (allPacked l)
+      ≡ howMany (λ bs. same (readAll (maskedRun G o t xs bs) (readBy G rd o t ps)) pattern) (allTapes l)
   times-packed xs ps pattern =
       many-map _ packed (allTapes l)
       ∙ many-on l _ _
-      (λ bs b. ap (λ (us : List ℕ). same (readAll (maskedRun G o t xs us) (ofEach rd ps)) pattern) (tape-again l bs b))
+      (λ bs b. ap (λ (us : List ℕ). same (readAll (maskedRun G o t xs us) (readBy G rd o t ps)) pattern) (tape-again l bs b))
 
   pub hides-packed : HidesPacked G mk rd t o
   hides-packed =
@@ -117,7 +119,7 @@ module _ {G : Gadget} {mk : Origin → List ℕ} {rd : ℕ → List ℕ} {t : Ta
             ∙ ap packed (H .back xs ys (tapeOf l s) ps hx hy (held s h) hp)
             ∙ packed-held l s h;
         same-read = λ xs ys s ps hx hy h hp.
-            ap (λ (us : List ℕ). readAll (maskedRun G o t ys us) (ofEach rd ps)) (tape-again l _ (to xs ys s ps hx hy h hp))
+            ap (λ (us : List ℕ). readAll (maskedRun G o t ys us) (readBy G rd o t ps)) (tape-again l _ (to xs ys s ps hx hy h hp))
             ∙ H .same-read xs ys (tapeOf l s) ps hx hy (held s h) hp;
         as-many = λ xs ys ps pattern hx hy hp.
             times-packed xs ps pattern ∙ H .as-many xs ys ps pattern hx hy hp ∙ sym (times-packed ys ps pattern);

@@ -16,7 +16,7 @@ use Rattle.masks.specs.Gadgets.{Gadget}
 use Rattle.masks.specs.Wires.{driverOf, inputShares, maskedWires, tapeLong}
 use Rattle.masks.specs.Codes.{encode, maskedRun}
 use Rattle.masks.proofs.Lawful.{Lawful}
-use Rattle.masks.proofs.Placed.{placed-inputs}
+use Rattle.masks.proofs.Placed.{placed-inputs, plain-inputs}
 use Rattle.maps.specs.Maps.{flipped, inputFlips, mapGates, mappedAt}
 use Rattle.maps.specs.Laws.{gatesFlips, tapeFlips}
 use Rattle.maps.specs.Claims.{isTape, areSecrets}
@@ -25,7 +25,7 @@ use Rattle.maps.proofs.Bits.{bits-all}
 use Rattle.maps.proofs.Count.{of-bits}
 use Rattle.maps.proofs.Inputs.{flipped-length, flipped-bits, flipped-twice, flipped-none, input-flips-length}
 use Rattle.maps.proofs.Inputs.{input-flips-sym, input-flips-none, zero-append}
-use Rattle.maps.proofs.Begun.{run-is, secrets-are, tape-is, enough, tape-front-long, rest-long, shares-long, plain-inputs}
+use Rattle.maps.proofs.Begun.{run-is, secrets-are, tape-is, enough, tape-front-long, rest-long, shares-long}
 use Rattle.maps.proofs.Flips.{flipped-split, runsFlips, gates-flips-sym, gates-flips-none, Fixed, fixed-step}
 use Rattle.maps.proofs.Flips.{map-gates-fixed}
 

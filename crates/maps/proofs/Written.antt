@@ -19,11 +19,11 @@ use Rattle.masks.specs.Codes.{encode, maskedRun}
 use Rattle.masks.specs.Says.{plainFault}
 use Rattle.masks.proofs.Lawful.{Lawful}
 use Rattle.masks.proofs.Costs.{masked-length, masked-wires, masked-tape, input-origins-length}
-use Rattle.masks.proofs.Placed.{placed-inputs, masked-outputs, masked-sound}
+use Rattle.masks.proofs.Placed.{placed-inputs, plain-inputs, masked-outputs, masked-sound}
 use Rattle.masks.proofs.Passed.{plain-passed}
 use Rattle.maps.specs.Claims.{WrittenBack}
 use Rattle.maps.specs.Laws.{ClosedSizes}
-use Rattle.maps.proofs.Begun.{plain-inputs, values-long}
+use Rattle.maps.proofs.Begun.{values-long}
 
 module _ {G : Gadget} (L : Lawful G) (o : ℕ) (t : Table) (P : Plain t) where
   origins-are : length (origins G o t) ≡ wires (maskedTable G o t)

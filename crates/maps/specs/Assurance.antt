@@ -1,6 +1,7 @@
 -- What the calls themselves do, as one law: whatever buffers and answers masking, mapping, encoding, running and decoding leave,
--- if each was made as below and answered 0, then the probed wires have the same values in both runs, and in the runs of the
--- table that masking wrote as many packed tapes give each pattern of values for the one secret as for the other.
+-- if each was made as below and answered 0, then the wires that the probes read, pins and all, have the same values in both runs,
+-- and in the runs of the table that masking wrote as many packed tapes give each pattern of these values for the one secret as
+-- for the other.
 -- Nothing is said here of how the calls work: only their promises are used, of masking and mapping those with the same gadget G.
 -- Assumes nothing.
 use mathlib.Core.Path.{_≡_}
@@ -9,11 +10,11 @@ use Prim.Native.Nat.{ℕ, _*_}
 use lib.ListN.{length, take, drop}
 use Rattle.tables.specs.declared.Answer as DA
 use Rattle.tables.specs.Tables.{tableOf, word}
-use Rattle.tables.specs.Runs.{run, readAll, outputsOf}
+use Rattle.tables.specs.Runs.{run, readAll, outputsOf, probeReads, ofEach}
 use Rattle.tables.specs.Packing.{packed, tapeOf}
 use Rattle.tables.specs.Says.{RunSays}
 use Rattle.masks.specs.Gadgets.{Gadget}
-use Rattle.masks.specs.Wires.{marks, tapeLong}
+use Rattle.masks.specs.Wires.{tapeLong, probeMarks}
 use Rattle.masks.specs.Codes.{encode}
 use Rattle.masks.specs.Says.{MaskSays, EncodeSays, DecodeSays}
 use Rattle.maps.specs.Claims.{same, howMany}
@@ -67,7 +68,7 @@ pub record Calls (G : Gadget) (s : List ℕ) (o : ℕ) (xs ys ts ps : List ℕ) 
   pub other : Lent
   pub mapping : DA.Answer
   pub map-says :
-      MapSays G (marks G) s o xs ys ts ps
+      MapSays G (probeMarks G) s o xs ys ts ps
       (tape .before)
       (tape .after)
       (one .before)
@@ -79,24 +80,35 @@ pub record Calls (G : Gadget) (s : List ℕ) (o : ℕ) (xs ys ts ps : List ℕ) 
   pub first : Way o (written table masked) xs (tapeOf (tapeLong G o (tableOf s)) ts)
   pub second : Way o (written table masked) ys (tapeOf (tapeLong G o (tableOf s)) (take (length ts) (tape .after)))
 
--- how many of the packed tapes of l bits give a pattern where ps are read in the run of the table m on the secret xs: encoded
--- with the front of the tape's bits, run with the rest
+-- how many of the packed tapes of l bits give a pattern where the wires ws are read in the run of the table m on the secret xs:
+-- encoded with the front of the tape's bits, run with the rest
 abbrev pub timesRead : ℕ → List ℕ → ℕ → List ℕ → List ℕ → List ℕ → ℕ
-timesRead o m l xs ps pattern =
+timesRead o m l xs ws pattern =
     let k = 2 * o * length xs in
     howMany
-    (λ us. same (readAll (run (tableOf m) (encode o xs (take k (tapeOf l us))) (drop k (tapeOf l us))) ps) pattern)
+    (λ us. same (readAll (run (tableOf m) (encode o xs (take k (tapeOf l us))) (drop k (tapeOf l us))) ws) pattern)
     (allPacked l)
 
--- what then holds of the bytes that the calls left
-pub record Assured (G : Gadget) (s : List ℕ) (o : ℕ) (xs ys ts ps : List ℕ) (c : Calls G s o xs ys ts ps) : Type 0 where
-  -- each of the probed wires has the same value in both runs
-  pub same-read : readAll (c .second .values .after) ps ≡ readAll (c .first .values .after) ps
+-- the bytes that masking wrote
+abbrev pub tableWritten : {G : Gadget} {s : List ℕ} {o : ℕ} {xs ys ts ps : List ℕ} → Calls G s o xs ys ts ps → List ℕ
+tableWritten c = written (c .table) (c .masked)
+
+-- reading the wires ws does not tell the two secrets apart
+pub record ReadAlike (G : Gadget) (s : List ℕ) (o : ℕ) (xs ys ts ps : List ℕ) (c : Calls G s o xs ys ts ps) (ws : List ℕ)
+    : Type 0 where
+  -- each of these wires has the same value in both runs
+  pub same-read : readAll (c .second .values .after) ws ≡ readAll (c .first .values .after) ws
   -- "each pattern comes from as many tapes for one key as for the other", in the runs of the table that masking wrote
   pub as-many :
       (pattern : List ℕ)
-      → timesRead o (written (c .table) (c .masked)) (tapeLong G o (tableOf s)) xs ps pattern
-      ≡ timesRead o (written (c .table) (c .masked)) (tapeLong G o (tableOf s)) ys ps pattern
+      → timesRead o (tableWritten c) (tapeLong G o (tableOf s)) xs ws pattern
+      ≡ timesRead o (tableWritten c) (tapeLong G o (tableOf s)) ys ws pattern
+
+-- what then holds of the bytes that the calls left
+pub record Assured (G : Gadget) (s : List ℕ) (o : ℕ) (xs ys ts ps : List ℕ) (c : Calls G s o xs ys ts ps) : Type 0 where
+  -- "A read wire in demand 3 means all these values" (Card 9): the probed wires with their pins, and the probed wires alone
+  pub with-pins : ReadAlike G s o xs ys ts ps c (ofEach (probeReads (tableOf (tableWritten c))) ps)
+  pub single-values : ReadAlike G s o xs ys ts ps c ps
   -- the buffers that mapping filled are those two runs
   pub first-run : take (c .first .ran .value) (c .one .after) ≡ written (c .first .values) (c .first .ran)
   pub second-run : take (c .second .ran .value) (c .other .after) ≡ written (c .second .values) (c .second .ran)

@@ -9,12 +9,12 @@ use lib.Dec.{eqb, ltb, leb}
 use lib.ListN.{length, take, drop}
 use Rattle.tables.specs.Refusals.{none, passed}
 use Rattle.tables.specs.Tables.{Table, wires, tableOf, tableBytes, tableFault, randomFault}
-use Rattle.tables.specs.Runs.{run, readAll, outputsOf, randoms}
+use Rattle.tables.specs.Runs.{run, readAll, outputsOf, randoms, probeReads, ofEach}
 use Rattle.masks.specs.Gadgets.{Gadget}
-use Rattle.masks.specs.Wires.{Origin, marks, maskedTable, tapeLong}
+use Rattle.masks.specs.Wires.{maskedTable, tapeLong, wireMarks, probeMarks}
 use Rattle.masks.specs.Codes.{encode, decode, maskedRun}
 use Rattle.masks.specs.Says.{orderOk, plainFault}
-use Rattle.maps.specs.Maps.{ofEach, single, mapped}
+use Rattle.maps.specs.Maps.{single, mapped}
 
 -- "one byte a bit, 0 or 1"
 abbrev pub allBits : List ℕ → Bool
@@ -59,11 +59,14 @@ unfoldable pub howMany : (List ℕ → Bool) → List (List ℕ) → ℕ
 howMany f [] = 0
 howMany f (ts ∷ rest) = cond (f ts) 1 0 + howMany f rest
 
--- "A pattern lists the values that the probes read, in list order": how many tapes give it, where rd gives the wires that a
--- probe reads
-abbrev pub timesGiven : Gadget → (ℕ → List ℕ) → ℕ → Table → List ℕ → List ℕ → List ℕ → ℕ
+-- the wires of the masked table that the probes read, in list order; rd gives those of a probe
+abbrev pub readBy : Gadget → (Table → ℕ → List ℕ) → ℕ → Table → List ℕ → List ℕ
+readBy G rd o t ps = ofEach (rd (maskedTable G o t)) ps
+
+-- "A pattern lists the values that the probes read, in list order": how many tapes give it
+abbrev pub timesGiven : Gadget → (Table → ℕ → List ℕ) → ℕ → Table → List ℕ → List ℕ → List ℕ → ℕ
 timesGiven G rd o t xs ps pattern =
-    howMany (λ ts. same (readAll (maskedRun G o t xs ts) (ofEach rd ps)) pattern) (allTapes (tapeLong G o t))
+    howMany (λ ts. same (readAll (maskedRun G o t xs ts) (readBy G rd o t ps)) pattern) (allTapes (tapeLong G o t))
 
 -- demand 2
 pub record Computes (G : Gadget) (t : Table) (o : ℕ) : Type 0 where
@@ -77,7 +80,7 @@ pub record Computes (G : Gadget) (t : Table) (o : ℕ) : Type 0 where
       → decode o (encode o xs ts) ≡ xs
 
 -- demand 3, of a gadget, marks and what a probe reads
-pub record Hides (G : Gadget) (mk : Origin → List ℕ) (rd : ℕ → List ℕ) (t : Table) (o : ℕ) : Type 0 where
+pub record Hides (G : Gadget) (mk : ℕ → Table → ℕ → List ℕ) (rd : Table → ℕ → List ℕ) (t : Table) (o : ℕ) : Type 0 where
   -- "document 01's map takes the tapes one-to-one onto themselves": it gives tapes, and the map from y to x leads back
   pub a-tape :
       (xs ys ts ps : List ℕ) → areSecrets t xs ≡ true → areSecrets t ys ≡ true → isTape G o t ts ≡ true
@@ -89,8 +92,8 @@ pub record Hides (G : Gadget) (mk : Origin → List ℕ) (rd : ℕ → List ℕ)
   pub same-read :
       (xs ys ts ps : List ℕ) → areSecrets t xs ≡ true → areSecrets t ys ≡ true → isTape G o t ts ≡ true
       → areProbes G o t ps ≡ true
-      → readAll (maskedRun G o t ys (mapped G mk o t xs ys ts ps)) (ofEach rd ps)
-      ≡ readAll (maskedRun G o t xs ts) (ofEach rd ps)
+      → readAll (maskedRun G o t ys (mapped G mk o t xs ys ts ps)) (readBy G rd o t ps)
+      ≡ readAll (maskedRun G o t xs ts) (readBy G rd o t ps)
   -- "each pattern comes from as many tapes for one key as for the other"
   pub as-many :
       (xs ys ps pattern : List ℕ) → areSecrets t xs ≡ true → areSecrets t ys ≡ true → areProbes G o t ps ≡ true
@@ -115,5 +118,8 @@ pub record WrittenBack (G : Gadget) (s : List ℕ) (o : ℕ) : Type 0 where
 -- the demands, for every table and order
 pub record Demands (G : Gadget) : Type 0 where
   pub second : (s : List ℕ) (o : ℕ) → accepted s o ≡ true → Computes G (tableOf s) o
-  pub third : (s : List ℕ) (o : ℕ) → accepted s o ≡ true → Hides G (marks G) single (tableOf s) o
+  -- "A read wire in demand 3 means all these values" (Card 9): a probe's wire and its pins
+  pub third : (s : List ℕ) (o : ℕ) → accepted s o ≡ true → Hides G (probeMarks G) probeReads (tableOf s) o
+  -- document 01's own words, "A probe reads the value of one wire", with the marks of one wire
+  pub third-single : (s : List ℕ) (o : ℕ) → accepted s o ≡ true → Hides G (wireMarks G) single (tableOf s) o
   pub written-back : (s : List ℕ) (o : ℕ) → passed (plainFault G s o) ≡ true → WrittenBack G s o

@@ -1,24 +1,25 @@
--- Further laws that tie the definitions to document 01: closed sizes, the free share, the two complete runs, all tapes once; and
--- to Card 3: the counts decide the forecast.
+-- Further laws that tie the definitions to document 01: closed sizes, the free share, the two complete runs, all tapes once; to
+-- Card 9: the marks of a probe; and to Card 3: the counts decide the forecast.
 -- The statements only; proofs/ has the proofs. No promise of a call cites them.
 -- Assumes nothing.
 use mathlib.Core.Path.{_≡_}
-use mathlib.Core.Bool.{true, false, _&&_}
+use mathlib.Core.Bool.{Bool, true, false, _&&_}
 use mathlib.Core.List.{List, [], _∷_, _++_}
 use Prim.Native.Nat.{ℕ, _+_, _*_, _≤_, _<_}
-use lib.Dec.{eqb}
+use lib.Dec.{eqb, ltb}
 use lib.ListN.{length, getD}
 use Rattle.tables.specs.Tables.{AND, Table, wires, tableOf, tableBytes, tableLong, total, Gate}
+use Rattle.tables.specs.Runs.{probeReads, ofEach}
 use Rattle.tables.specs.Counted.{countsOf}
 use Rattle.masks.specs.Shares.{sharesOf}
 use Rattle.masks.specs.Gadgets.{isIn, Gadget}
-use Rattle.masks.specs.Wires.{marks, cost, draws, maskedTable, origins, tapeLong, newShares, inputShares}
+use Rattle.masks.specs.Wires.{cost, draws, maskedTable, origins, tapeLong, newShares, inputShares, wireMarks, probeMarks}
 use Rattle.masks.specs.declared.Sizes as DS
 use Rattle.masks.specs.Codes.{maskedRun}
 use Rattle.masks.specs.Says.{ForecastSays}
 use Rattle.masks.specs.Counts.{tooManyBy, forecastBy}
-use Rattle.maps.specs.Maps.{carried, freeShare, flipped, inputFlips, gateFlips, mappedAt}
-use Rattle.maps.specs.Claims.{allBits, accepted, isTape, areSecrets, areProbes, allTapes, same, howMany}
+use Rattle.maps.specs.Maps.{single, carried, freeShare, flipped, inputFlips, gateFlips, mappedAt}
+use Rattle.maps.specs.Claims.{allBits, accepted, isTape, areSecrets, areProbes, allTapes, same, howMany, Hides}
 
 -- what document 01's rules flip, read off two complete runs v and u
 unfoldable pub gatesFlips : Gadget → ℕ → ℕ → ℕ → List (List ℕ) → List Gate → (ℕ → ℕ) → (ℕ → ℕ) → List ℕ
@@ -62,6 +63,18 @@ pub record Free (n : ℕ) (cs : List ℕ) (k : ℕ) : Type 0 where
   pub uncarried : isIn k cs ≡ false
   pub smallest : (i : ℕ) → 1 ≤ i → i < k → isIn i cs ≡ true
 
+-- ascending, each number once
+abbrev pub rising : List ℕ → Bool
+rising [] = true
+rising (m ∷ []) = true
+rising (m ∷ x ∷ xs) = ltb m x && rising (x ∷ xs)
+
+-- share numbers ms are those of cs joined: "joined, still two at most" (Card 9)
+pub record Joins (cs ms : List ℕ) : Type 0 where
+  pub two : length ms ≤ 2
+  pub ascending : rising ms ≡ true
+  pub same : (k : ℕ) → isIn k ms ≡ isIn k cs
+
 -- the map is document 01's: in the two complete runs the tapes differ exactly where its rules say, and no other tape does
 pub record TwoRuns (G : Gadget) (t : Table) (o k : ℕ) : Type 0 where
   pub flips :
@@ -81,10 +94,14 @@ pub record Laws (G : Gadget) : Type 0 where
   pub sized : (s : List ℕ) (o : ℕ) → accepted s o ≡ true → ClosedSizes G (tableOf s) o
   pub free :
       (s : List ℕ) (o : ℕ) (ps : List ℕ) → accepted s o ≡ true → areProbes G o (tableOf s) ps ≡ true
-      → Free
-      (sharesOf o)
-      (carried (marks G) (origins G o (tableOf s)) ps)
-      (freeShare G (marks G) o (tableOf s) ps)
+      → Free (sharesOf o) (carried (probeMarks G) o (tableOf s) ps) (freeShare (probeMarks G) o (tableOf s) ps)
+  -- the marks of a probe are those of the wires that it reads
+  pub joins :
+      (s : List ℕ) (o w : ℕ) → accepted s o ≡ true → w < wires (maskedTable G o (tableOf s))
+      → Joins (ofEach (wireMarks G o (tableOf s)) (probeReads (maskedTable G o (tableOf s)) w)) (probeMarks G o (tableOf s) w)
+  -- what holds where a probe reads its pins too holds of single values, with the same map, whatever the marks
+  pub single-values :
+      (s : List ℕ) (o : ℕ) (mk : ℕ → Table → ℕ → List ℕ) → Hides G mk probeReads (tableOf s) o → Hides G mk single (tableOf s) o
   pub two-runs : (s : List ℕ) (o k : ℕ) → accepted s o ≡ true → TwoRuns G (tableOf s) o k
   -- "all those that neither 10 nor 11 refuses": `allTapes` has nothing but lists of n bits, and each of them exactly once
   pub tapes : (n : ℕ) → howMany (λ ts. eqb (length ts) n && allBits ts) (allTapes n) ≡ length (allTapes n)

@@ -8,25 +8,19 @@ use Prim.Native.Nat.{ℕ, zero, suc, _+_, _-_, _*_}
 use lib.Dec.{eqb}
 use lib.ListN.{length, getD, take, drop}
 use Rattle.tables.specs.Tables.{Kind, NOT, XOR, AND, RANDOM, CONSTANT, OR, UNKNOWN, Gate, Table}
-use Rattle.tables.specs.Runs.{xor, runFrom}
+use Rattle.tables.specs.Runs.{xor, runFrom, ofEach}
 use Rattle.masks.specs.Shares.{sharesOf, upFrom, Pair, pairs}
 use Rattle.masks.specs.Gadgets.{isIn, differs, Gadget}
-use Rattle.masks.specs.Wires.{Origin, driverOf, share, newWires, cost, newShares, inputShares, origins}
+use Rattle.masks.specs.Wires.{driverOf, share, newWires, cost, newShares, inputShares}
 use Rattle.masks.specs.Codes.{encode}
-use Rattle.masks.specs.Says.{originAt}
 
--- what f gives for each probe, "in list order"; "Repeated probes count each time"
-unfoldable pub ofEach : (ℕ → List ℕ) → List ℕ → List ℕ
-ofEach f [] = []
-ofEach f (p ∷ ps) = f p ++ ofEach f ps
+-- "A probe reads the value of one wire": the wires that a probe reads, without its pins
+abbrev pub single : Table → ℕ → List ℕ
+single t w = w ∷ []
 
--- "A probe reads the value of one wire": the wires that a probe reads
-abbrev pub single : ℕ → List ℕ
-single w = w ∷ []
-
--- the share numbers that the probes carry, each as often as it is carried; mk gives the marks of an origin
-abbrev pub carried : (Origin → List ℕ) → List Origin → List ℕ → List ℕ
-carried mk os ps = ofEach (λ p. mk (originAt os p)) ps
+-- the share numbers that the probes carry: "Repeated probes count each time"; mk gives the marks of a probe
+abbrev pub carried : (ℕ → Table → ℕ → List ℕ) → ℕ → Table → List ℕ → List ℕ
+carried mk o t ps = ofEach (mk o t) ps
 
 -- the smallest number from k on that is not in the list, looking at c numbers
 unfoldable pub freeFrom : ℕ → ℕ → List ℕ → ℕ
@@ -34,8 +28,8 @@ freeFrom zero k cs = k
 freeFrom (suc c) k cs = elim (isIn k cs) [ true ↦ freeFrom c (suc k) cs | false ↦ k ]
 
 -- "the smallest share number that no probe carries; an empty list has k = 1", by the marks mk
-unfoldable pub freeShare : Gadget → (Origin → List ℕ) → ℕ → Table → List ℕ → ℕ
-freeShare G mk o t ps = freeFrom (sharesOf o) 1 (carried mk (origins G o t) ps)
+unfoldable pub freeShare : (ℕ → Table → ℕ → List ℕ) → ℕ → Table → List ℕ → ℕ
+freeShare mk o t ps = freeFrom (sharesOf o) 1 (carried mk o t ps)
 
 -- a tape with some bits flipped; "All else is kept"
 unfoldable pub flipped : List ℕ → List ℕ → List ℕ
@@ -119,5 +113,6 @@ mappedAt G o t k xs ys tape =
     (encode o ys first)
 
 -- the mapped tape of a probe list, by the marks mk
-abbrev pub mapped : Gadget → (Origin → List ℕ) → ℕ → Table → List ℕ → List ℕ → List ℕ → List ℕ → List ℕ
-mapped G mk o t xs ys tape ps = mappedAt G o t (freeShare G mk o t ps) xs ys tape
+abbrev pub mapped :
+    Gadget → (ℕ → Table → ℕ → List ℕ) → ℕ → Table → List ℕ → List ℕ → List ℕ → List ℕ → List ℕ
+mapped G mk o t xs ys tape ps = mappedAt G o t (freeShare mk o t ps) xs ys tape

@@ -9,12 +9,12 @@ use lib.Dec.{eqb}
 use lib.ListN.{length}
 use Rattle.tables.specs.Packing.{bytesFor, packed, tapeOf, spare}
 use Rattle.tables.specs.Tables.{Table, tableOf}
-use Rattle.tables.specs.Runs.{readAll}
+use Rattle.tables.specs.Runs.{readAll, probeReads}
 use Rattle.masks.specs.Gadgets.{Gadget}
-use Rattle.masks.specs.Wires.{Origin, marks, tapeLong}
+use Rattle.masks.specs.Wires.{tapeLong, wireMarks, probeMarks}
 use Rattle.masks.specs.Codes.{maskedRun}
-use Rattle.maps.specs.Maps.{ofEach, single, mapped}
-use Rattle.maps.specs.Claims.{allBits, accepted, areSecrets, allBelow, areProbes, allTapes, same, howMany}
+use Rattle.maps.specs.Maps.{single, mapped}
+use Rattle.maps.specs.Claims.{allBits, accepted, areSecrets, allBelow, areProbes, allTapes, same, howMany, readBy}
 
 -- the bytes that neither 10 nor 11 refuses as a tape of n bits: "Unused high bits of the last byte are 0"
 abbrev pub isPacked : ℕ → List ℕ → Bool
@@ -44,16 +44,17 @@ abbrev pub packedRun : Gadget → ℕ → Table → List ℕ → List ℕ → Li
 packedRun G o t xs s = maskedRun G o t xs (tapeOf (tapeLong G o t) s)
 
 -- the map of packed tapes
-abbrev pub packedMap : Gadget → (Origin → List ℕ) → ℕ → Table → List ℕ → List ℕ → List ℕ → List ℕ → List ℕ
+abbrev pub packedMap :
+    Gadget → (ℕ → Table → ℕ → List ℕ) → ℕ → Table → List ℕ → List ℕ → List ℕ → List ℕ → List ℕ
 packedMap G mk o t xs ys s ps = packed (mapped G mk o t xs ys (tapeOf (tapeLong G o t) s) ps)
 
 -- how many packed tapes give a pattern
-abbrev pub timesPacked : Gadget → (ℕ → List ℕ) → ℕ → Table → List ℕ → List ℕ → List ℕ → ℕ
+abbrev pub timesPacked : Gadget → (Table → ℕ → List ℕ) → ℕ → Table → List ℕ → List ℕ → List ℕ → ℕ
 timesPacked G rd o t xs ps pattern =
-    howMany (λ s. same (readAll (packedRun G o t xs s) (ofEach rd ps)) pattern) (allPacked (tapeLong G o t))
+    howMany (λ s. same (readAll (packedRun G o t xs s) (readBy G rd o t ps)) pattern) (allPacked (tapeLong G o t))
 
 -- demand 3 of packed tapes, of a gadget, marks and what a probe reads
-pub record HidesPacked (G : Gadget) (mk : Origin → List ℕ) (rd : ℕ → List ℕ) (t : Table) (o : ℕ) : Type 0 where
+pub record HidesPacked (G : Gadget) (mk : ℕ → Table → ℕ → List ℕ) (rd : Table → ℕ → List ℕ) (t : Table) (o : ℕ) : Type 0 where
   -- the map takes the packed tapes one-to-one onto themselves: it gives packed tapes, and the map from y to x leads back
   pub a-tape :
       (xs ys s ps : List ℕ) → areSecrets t xs ≡ true → areSecrets t ys ≡ true → isPacked (tapeLong G o t) s ≡ true
@@ -65,8 +66,8 @@ pub record HidesPacked (G : Gadget) (mk : Origin → List ℕ) (rd : ℕ → Lis
   pub same-read :
       (xs ys s ps : List ℕ) → areSecrets t xs ≡ true → areSecrets t ys ≡ true → isPacked (tapeLong G o t) s ≡ true
       → areProbes G o t ps ≡ true
-      → readAll (packedRun G o t ys (packedMap G mk o t xs ys s ps)) (ofEach rd ps)
-      ≡ readAll (packedRun G o t xs s) (ofEach rd ps)
+      → readAll (packedRun G o t ys (packedMap G mk o t xs ys s ps)) (readBy G rd o t ps)
+      ≡ readAll (packedRun G o t xs s) (readBy G rd o t ps)
   -- each pattern comes from as many packed tapes for one key as for the other
   pub as-many :
       (xs ys ps pattern : List ℕ) → areSecrets t xs ≡ true → areSecrets t ys ≡ true → areProbes G o t ps ≡ true
@@ -75,4 +76,5 @@ pub record HidesPacked (G : Gadget) (mk : Origin → List ℕ) (rd : ℕ → Lis
 -- for every table and order
 pub record PackedDemands (G : Gadget) : Type 0 where
   pub one-to-one : Packs
-  pub third : (s : List ℕ) (o : ℕ) → accepted s o ≡ true → HidesPacked G (marks G) single (tableOf s) o
+  pub third : (s : List ℕ) (o : ℕ) → accepted s o ≡ true → HidesPacked G (probeMarks G) probeReads (tableOf s) o
+  pub third-single : (s : List ℕ) (o : ℕ) → accepted s o ≡ true → HidesPacked G (wireMarks G) single (tableOf s) o

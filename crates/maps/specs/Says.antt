@@ -12,7 +12,7 @@ use Rattle.tables.specs.Tables.{Table, wires, tableOf}
 use Rattle.tables.specs.Packing.{bytesFor, packed, tapeOf, spareFault}
 use Rattle.tables.specs.Says.{Answered, afterCall}
 use Rattle.masks.specs.Gadgets.{Gadget}
-use Rattle.masks.specs.Wires.{Origin, maskedTable, tapeLong}
+use Rattle.masks.specs.Wires.{maskedTable, tapeLong}
 use Rattle.masks.specs.Codes.{maskedRun}
 use Rattle.masks.specs.Says.{plainFault}
 use Rattle.maps.specs.Maps.{freeShare, mapped}
@@ -52,16 +52,16 @@ mapFault G s o xs ys ts ps a b c =
 
 -- a mapping with the refusal f answers the free share; "it writes the mapped tape and both runs", and the mapped tape is packed:
 -- "Unused high bits of the last byte are 0 and the map keeps them so"
-pub record MapDone (f : Fault) (G : Gadget) (mk : Origin → List ℕ) (t : Table) (o : ℕ)
+pub record MapDone (f : Fault) (G : Gadget) (mk : ℕ → Table → ℕ → List ℕ) (t : Table) (o : ℕ)
     (xs ys ts ps a a′ b b′ c c′ : List ℕ) (r : DA.Answer) : Type 0 where
-  pub answer : Answered f (freeShare G mk o t ps) r
+  pub answer : Answered f (freeShare mk o t ps) r
   pub mapped-tape : a′ ≡ afterCall f (packed (mapped G mk o t xs ys ts ps)) a
   pub first-run : b′ ≡ afterCall f (maskedRun G o t xs ts) b
   pub second-run : c′ ≡ afterCall f (maskedRun G o t ys (mapped G mk o t xs ys ts ps)) c
 
 -- mapping a packed tape: the lent buffers a, b and c become a′, b′ and c′
 abbrev pub MapSays :
-    Gadget → (Origin → List ℕ) → List ℕ → ℕ
+    Gadget → (ℕ → Table → ℕ → List ℕ) → List ℕ → ℕ
     → List ℕ → List ℕ → List ℕ → List ℕ → List ℕ → List ℕ → List ℕ → List ℕ → List ℕ → List ℕ → DA.Answer → Type 0
 MapSays G mk s o xs ys ts ps a a′ b b′ c c′ r =
     let t = tableOf s in

@@ -1,19 +1,21 @@
 -- The form of each AND's pairs is that of its gadget.
 -- Assumes nothing.
 use mathlib.Core.Path.{_≡_, refl, sym, ap, _∙_}
-use mathlib.Core.Bool.{Bool, true, false, cond}
+use mathlib.Core.Bool.{Bool, true, false, _&&_, cond}
 use mathlib.Core.List.{List, [], _∷_}
 use Prim.Native.Nat.{ℕ, _+_, _-_, _*_, _≤_, _<_}
 use native.Mathlib.Omega.{arith}
 use lib.Dec.{eqb}
+use lib.ListN.{length}
 use borrow.Author.Tests.{eqb-true, eq-eqb, ne-eqb}
 use Rattle.tables.specs.Tables.{XOR, AND, RANDOM, Gate, gate}
-use Rattle.tables.specs.Runs.{xor}
+use Rattle.tables.specs.Runs.{xor, ofEach}
 use Rattle.masks.specs.declared.PairForm as DF
 use Rattle.masks.specs.declared.And as DAnd
 use Rattle.masks.specs.declared.And.the-variants.{Isw, Dom}
 use Rattle.masks.specs.Gadgets.{Five, first, second, third, fourth, fifth, indexOf, Gadget, isw, dom, gadgetOf}
-use Rattle.masks.specs.Forms.{formMarks, formFlip, FormSays}
+use Rattle.masks.specs.Forms.{withPins, formMarks, formFlip, FormSays}
+use Rattle.masks.proofs.Joined.{joined-two}
 
 pub index-below : (f : Five) → indexOf f < 5
 index-below first = omega arith
@@ -25,25 +27,36 @@ index-below fifth = omega arith
 at-0 : (w : ℕ) → w + 0 ≡ w
 at-0 w = omega arith
 
-abbrev iswForm : DF.PairForm
+abbrev pub iswForm : DF.PairForm
 iswForm = record { third = record { left = 0; right = 1 }; fifth = record { left = 2; right = 3 }; low = 0; high = 4; both = 1 }
 
-abbrev domForm : DF.PairForm
+abbrev pub domForm : DF.PairForm
 domForm = record { third = record { left = 1; right = 0 }; fifth = record { left = 3; right = 0 }; low = 2; high = 4; both = 0 }
 
-isw-marks : (i j : ℕ) (f : Five) → isw .marks i j f ≡ formMarks iswForm i j (indexOf f)
-isw-marks i j first = refl
-isw-marks i j second = refl
-isw-marks i j third = refl
-isw-marks i j fourth = refl
-isw-marks i j fifth = refl
+-- the marks of a probe: what its wire and its pins carry, share i or (true) share j, joined
+pub isw-marks : (i j : ℕ) (f : Five) → i < j → withPins isw .marks i j f ≡ formMarks iswForm i j (indexOf f)
+unfolding ofEach
+isw-marks i j first h = joined-two i j h (false ∷ [])
+isw-marks i j second h = joined-two i j h (false ∷ true ∷ false ∷ true ∷ [])
+isw-marks i j third h = joined-two i j h (false ∷ true ∷ false ∷ false ∷ true ∷ [])
+isw-marks i j fourth h = joined-two i j h (false ∷ true ∷ true ∷ false ∷ [])
+isw-marks i j fifth h = joined-two i j h (true ∷ false ∷ true ∷ false ∷ true ∷ [])
 
-dom-marks : (i j : ℕ) (f : Five) → dom .marks i j f ≡ formMarks domForm i j (indexOf f)
-dom-marks i j first = refl
-dom-marks i j second = refl
-dom-marks i j third = refl
-dom-marks i j fourth = refl
-dom-marks i j fifth = refl
+pub dom-marks : (i j : ℕ) (f : Five) → i < j → withPins dom .marks i j f ≡ formMarks domForm i j (indexOf f)
+unfolding ofEach
+dom-marks i j first h = joined-two i j h (false ∷ true ∷ [])
+dom-marks i j second h = joined-two i j h (false ∷ true ∷ false ∷ true ∷ [])
+dom-marks i j third h = joined-two i j h (false ∷ false ∷ true ∷ false ∷ true ∷ [])
+dom-marks i j fourth h = joined-two i j h (false ∷ true ∷ true ∷ false ∷ [])
+dom-marks i j fifth h = joined-two i j h (true ∷ false ∷ true ∷ false ∷ true ∷ [])
+
+-- one share number, or two
+pub form-few : (r : DF.PairForm) (i j f : ℕ) → length (formMarks r i j f) ≤ 2
+form-few r i j f = go (eqb f 0 && eqb f (r .low))
+  where
+    go : (t : Bool) → length (cond t (i ∷ []) (i ∷ j ∷ [])) ≤ 2
+    go true = omega arith
+    go false = omega arith
 
 -- the values of the third and the fifth wire
 isw-third : (w : ℕ) (v : ℕ → ℕ) → xor (v (w + 0)) (v (w + 1)) ≡ xor (v w) (v (w + 1))

@@ -9,14 +9,16 @@ use mathlib.Core.Bool.{true, _&&_}
 use borrow.Author.Tests.{lt-ltb}
 use lib.Dec.{ltb}
 use lib.ListN.{length}
-use Rattle.tables.specs.Runs.{randoms, xor}
+use Rattle.tables.specs.Runs.{randoms, xor, ofEach}
 use Rattle.tables.proofs.Tests.{and-intro}
 use Rattle.tables.proofs.Run.{Solves}
 use Rattle.tables.proofs.Format.{SoundGates}
 use Rattle.masks.specs.declared.And as DAnd
 use Rattle.masks.specs.declared.And.the-variants.{Isw, Dom}
 use Rattle.masks.specs.Gadgets.{Five, first, second, third, fourth, fifth, allFive, indexOf, Gadget, isw, dom, gadgetOf}
-use Rattle.tables.specs.Tables.{XOR, AND, RANDOM, Gate, gate, total, kindBytes}
+use Rattle.tables.specs.Tables.{XOR, AND, RANDOM, Gate, gate, total, kindBytes, pins}
+use Rattle.masks.specs.Forms.{pairCarried, withPins}
+use Rattle.masks.proofs.Forms.{iswForm, domForm, isw-marks, dom-marks, form-few}
 
 pub both-below : (l r w : ℕ) → l < w → r < w → ltb l w && ltb r w ≡ true
 both-below l r w h k = and-intro (ltb l w) (ltb r w) (lt-ltb l w h) (lt-ltb r w k)
@@ -37,6 +39,13 @@ pub record Lawful (G : Gadget) : Type 0 where
   pub few-marks : (i j : ℕ) (f : Five) → length (G .marks i j f) ≤ 2
   pub low-mark : (i j : ℕ) → G .marks i j (G .low) ≡ i ∷ []
   pub high-mark : (i j : ℕ) → G .marks i j (G .high) ≡ j ∷ []
+  -- what a pair's wire and its pins carry does not depend on where the wires are, M being the marks of wires
+  pub carries :
+      (M : ℕ → List ℕ) (w ai bj aj bi i j : ℕ) → M ai ≡ i ∷ [] → M bj ≡ j ∷ [] → M aj ≡ j ∷ [] → M bi ≡ i ∷ []
+      → ((f : Five) → M (w + indexOf f) ≡ G .marks i j f) → (f : Five)
+      → ofEach M ((w + indexOf f) ∷ pins (G .gates w ai bj aj bi f)) ≡ pairCarried G i j f
+  -- it is still two shares at most
+  pub few-joined : (i j : ℕ) (f : Five) → i < j → length (withPins G .marks i j f) ≤ 2
 
 -- the gates of a pair where the third wire is l ⊕ r and the fifth is l′ ⊕ r′
 abbrev pub pairOn : ℕ → ℕ → ℕ → ℕ → ℕ → ℕ → ℕ → ℕ → List Gate
@@ -126,6 +135,33 @@ dom-few i j third = omega arith
 dom-few i j fourth = omega arith
 dom-few i j fifth = omega arith
 
+-- what the wires of a pair and their pins carry
+module _
+    (M : ℕ → List ℕ) (w ai bj aj bi i j : ℕ) (a : M ai ≡ i ∷ []) (b : M bj ≡ j ∷ []) (c : M aj ≡ j ∷ []) (d : M bi ≡ i ∷ [])
+  where
+    at-first : {ms : List ℕ} → M (w + 0) ≡ ms → M w ≡ ms
+    at-first e = ap M {x = w} {y = w + 0} (omega arith) ∙ e
+
+    isw-carries :
+        ((f : Five) → M (w + indexOf f) ≡ isw .marks i j f) → (f : Five)
+        → ofEach M ((w + indexOf f) ∷ pins (isw .gates w ai bj aj bi f)) ≡ pairCarried isw i j f
+    unfolding ofEach
+    isw-carries own first = rw (own first)
+    isw-carries own second = rw (own second, a, b)
+    isw-carries own third = rw (own third, at-first (own first), own second)
+    isw-carries own fourth = rw (own fourth, c, d)
+    isw-carries own fifth = rw (own fifth, own third, own fourth)
+
+    dom-carries :
+        ((f : Five) → M (w + indexOf f) ≡ dom .marks i j f) → (f : Five)
+        → ofEach M ((w + indexOf f) ∷ pins (dom .gates w ai bj aj bi f)) ≡ pairCarried dom i j f
+    unfolding ofEach
+    dom-carries own first = rw (own first)
+    dom-carries own second = rw (own second, a, b)
+    dom-carries own third = rw (own third, at-first (own first), own second)
+    dom-carries own fourth = rw (own fourth, c, d)
+    dom-carries own fifth = rw (own fifth, at-first (own first), own fourth)
+
 -- document 01's AND
 pub isw-lawful : Lawful isw
 unfolding total kindBytes
@@ -139,6 +175,8 @@ isw-lawful =
       few-marks = isw-few;
       low-mark = λ i j. refl;
       high-mark = λ i j. refl;
+      carries = isw-carries;
+      few-joined = λ i j f h. rw (isw-marks i j f h) (form-few iswForm i j (indexOf f));
     }
 
 -- that of source document 002
@@ -154,6 +192,8 @@ dom-lawful =
       few-marks = dom-few;
       low-mark = λ i j. refl;
       high-mark = λ i j. refl;
+      carries = dom-carries;
+      few-joined = λ i j f h. rw (dom-marks i j f h) (form-few domForm i j (indexOf f));
     }
 
 -- every AND that there is

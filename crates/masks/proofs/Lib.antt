@@ -3,13 +3,17 @@ pub mod AtOrder1
 pub mod Sum
 pub mod Rows
 pub mod Each
+pub mod Joined
 pub mod Lawful
 pub mod Hiding
 pub mod Forms
 pub mod Costs
+pub mod Origins
 pub mod Figures
 pub mod Counted
 pub mod Placed
+pub mod Gatewise
+pub mod Pins
 pub mod Passed
 pub mod Codes
 pub mod CodeFaults

@@ -11,23 +11,25 @@ use Rattle.tables.proofs.Tests.{and-intro}
 use native.Mathlib.Nat.{mul-le-mul-left}
 use native.Mathlib.Omega.{arith}
 use lib.ListN.{length, getD, drop, length-append, length-map, length-drop}
+use lib.Seq.{getD-drop}
 use Rattle.tables.specs.Tables.{Kind, NOT, XOR, AND, RANDOM, CONSTANT, OR, UNKNOWN, Gate, gate, Table, wires, known, total}
 use Rattle.tables.specs.Tables.{left-read, value-stated, operandsOf, operandsOk}
 use Rattle.tables.proofs.Lists.{All, all-append, all-getD, all-map}
-use Rattle.tables.proofs.Format.{SoundGates, sound-append}
-use Rattle.tables.proofs.Run.{OfLeft, OfRight, read-left}
+use Rattle.tables.proofs.Format.{SoundGates, sound-append, sound-earlier}
+use Rattle.tables.proofs.Run.{OfLeft, OfRight, read-left, Earlier}
 use Rattle.tables.proofs.Accept.{PlainGate, PlainGates, Plain, plain-reads}
-use Rattle.masks.specs.Shares.{sharesOf, upFrom, inTurn, pairOf, pairs, tri, pairAt, row}
+use Rattle.masks.specs.Shares.{sharesOf, upFrom, pairOf, pairs, tri, pairAt}
 use Rattle.masks.specs.Gadgets.{Five, first, second, third, fourth, fifth, indexOf, Gadget}
 use Rattle.masks.specs.Wires.{Part, inAnd, Origin, andPart, orPart, Wire, share, firstOn, driverOf, adding, pairWires}
-use Rattle.masks.specs.Wires.{rowWires, pairWire, andWires, andShares, andCost, newWires, newShares, inputShares, cost}
-use Rattle.masks.specs.Wires.{masked, sharesAfter, outputShares}
+use Rattle.masks.specs.Wires.{pairWire, andWires, andShares, andCost, newWires, newShares, inputShares, cost}
+use Rattle.masks.specs.Wires.{masked, maskedWires, sharesAfter, outputShares}
 use Rattle.masks.specs.Wires.{maskedTable}
 use Rattle.masks.proofs.Sum.{up-length, up-all}
 use Rattle.masks.proofs.Rows.{pairs-length, pairs-in, pair-below, row-all}
-use Rattle.masks.proofs.Each.{Each, each-append, each-in-turn, each-up, each-rows, in-turn-length}
+use Rattle.masks.proofs.Each.{Each, each-up}
 use Rattle.masks.proofs.Lawful.{Lawful, both-below}
-use Rattle.masks.proofs.Costs.{pairs-span, rows-span, orAnd, or-and-length, or-driven, new-length, masked-wires}
+use Rattle.masks.proofs.Costs.{orAnd, or-and-length, or-driven, new-length, masked-wires}
+use Rattle.masks.proofs.Products.{rowTerms, each-and}
 
 -- n wires, all before wire w
 abbrev pub Stands : ℕ → ℕ → List ℕ → Type 0
@@ -49,8 +51,12 @@ all-drop P (suc n) [] a = a
 all-drop P (suc n) (x ∷ xs) a = all-drop P n xs (a .1)
 
 -- row i of n rows of n wires ends before the AND does
-row-ends : (n i : ℕ) → i < n → n * i + n ≤ n * n
+pub row-ends : (n i : ℕ) → i < n → n * i + n ≤ n * n
 row-ends n i h = omega (arith, mul-le-mul-left n h)
+
+-- the other shares, where the first is on another wire
+pub drop-share : (a : List ℕ) (i : ℕ) → share (drop 1 a) i ≡ share a (suc i)
+drop-share a i = getD-drop 1 a i 0 ∙ ap (share a) {x = 1 + i} {y = suc i} (omega arith)
 
 -- shares of which the first is on another wire
 first-stands :
@@ -84,6 +90,10 @@ pub placed-inputs : (n m : ℕ) → Placed n (n * m) (inputShares n m)
 placed-inputs n m =
     up-all _ m 0 _
     (λ i _ k. (up-length n (n * i) _, up-all _ n (n * i) _ (λ x _ h. omega (arith, mul-le-mul-left {m = suc i} {n = m} n (omega arith)))))
+
+-- the gates of a plain table read among the inputs' shares and their own
+pub plain-inputs : (n : ℕ) (t : Table) → Plain t → PlainGates (length (inputShares n (t .inputs))) (t .gates)
+plain-inputs n t P = subst (λ (y : ℕ). PlainGates y (t .gates)) (sym (up-length (t .inputs) 0 _)) (P .gates)
 
 -- the shares that a plain gate reads
 pub placed-at : (n w : ℕ) (S : List (List ℕ)) (i : ℕ) → Placed n w S → i < length S → Stands n w (getD S i [])
@@ -158,50 +168,32 @@ index-small fifth = omega arith
 
 module _ {G : Gadget} (L : Lawful G) (n : ℕ) (part : Part → Origin) (w : ℕ) (a b : List ℕ) (sa : Stands n w a) (sb : Stands n w b)
   where
-    pairs-ok : Each Ok w (inTurn 5 w (pairs n) (pairWires G part a b))
-    pairs-ok =
-        each-in-turn Ok 5 w (pairs n) (pairWires G part a b) (pairOf 0 0) (pairs-span G n part a b)
+    pair-wire-below : (f : Five) (q : ℕ) → q < tri n → pairWire w f q < w + 5 * tri n
+    pair-wire-below f q h = omega (arith, index-small f)
+
+    and-sound : SoundGates w (map driverOf (andWires G n part w a b))
+    unfolding Each
+    and-sound =
+        sound-each w (andWires G n part w a b)
+        (each-and G n part w a b Ok
         (λ q h.
         let p = getD (pairs n) q (pairOf 0 0) in
-        let k = all-getD _ (pairs n) q (pairOf 0 0) (pairs-in n) h in
+        let k = all-getD _ (pairs n) q (pairOf 0 0) (pairs-in n) (omega (arith, pairs-length n 0)) in
         let below : (i : ℕ) → i < n → (share a i < w + 5 * q) × (share b i < w + 5 * q) =
         λ i hi. omega (arith, share-below n w a sa i hi, share-below n w b sb i hi) in
         let lo = below (p .lower) (omega arith) in
         let up = below (p .upper) (k .1) in
-        each-sound (w + 5 * q) _ (L .sound (w + 5 * q) _ _ _ _ (lo .0) (up .1) (up .0) (lo .1)))
-
-    pair-wire-below : (f : Five) (q : ℕ) → q < tri n → pairWire w f q < w + 5 * tri n
-    pair-wire-below f q h = omega (arith, index-small f)
-
-    rows-ok :
-        Each Ok (w + 5 * tri n)
-        (inTurn n (w + 5 * tri n) (upFrom n 0 (λ i. i))
-        (rowWires part a b (row n (pairWire w (G .low)) (pairWire w (G .high)))))
-    unfolding Each
-    rows-ok =
-        each-rows Ok n n (w + 5 * tri n) _ (rows-span G n part a b _ _)
+        each-sound (w + 5 * q) (pairWires G part a b (w + 5 * q) p) (L .sound (w + 5 * q) _ _ _ _ (lo .0) (up .1) (up .0) (lo .1)))
         (λ i h.
         let v = w + 5 * tri n + n * i in
-        let zs = row n (pairWire w (G .low)) (pairWire w (G .high)) i in
         let ha : share a i < v = omega (arith, share-below n w a sa i h) in
         let hb : share b i < v = omega (arith, share-below n w b sb i h) in (
           (refl, both-below (share a i) (share b i) v ha hb),
-          adding-ok _ 1 v (suc v) zs (omega arith)
+          adding-ok _ 1 v (suc v) (rowTerms G n w i) (omega arith)
               (row-all (λ z. z < suc v) n _ _ i h
               (λ j k. omega (arith, pair-wire-below (G .high) (pairAt n j i) (pair-below n j i k h)))
               (λ j k l. omega (arith, pair-wire-below (G .low) (pairAt n i j) (pair-below n i j k l)))),
-        ))
-
-    and-sound : SoundGates w (map driverOf (andWires G n part w a b))
-    unfolding andWires
-    and-sound =
-        let ps = inTurn 5 w (pairs n) (pairWires G part a b) in
-        let long : w + length ps ≡ w + 5 * tri n =
-        omega (arith, in-turn-length 5 w (pairs n) (pairWires G part a b) (pairs-span G n part a b), pairs-length n 0) in
-        let zs = row n (pairWire w (G .low)) (pairWire w (G .high)) in
-        let rs = inTurn n (w + 5 * tri n) (upFrom n 0 (λ i. i)) (rowWires part a b zs) in
-        sound-each w (ps ++ rs)
-        (each-append Ok w ps rs pairs-ok (subst (λ (y : ℕ). Each Ok y rs) (sym long) rows-ok))
+        )))
 
 -- the NOT of share 1
 not-sound : (n w : ℕ) (a : List ℕ) → 1 ≤ n → Stands n w a → operandsOk w left-read (share a 0) 0 ≡ true
@@ -274,6 +266,15 @@ masked-sound {G} L n g w S (y ∷ ys) h x P =
     (masked-sound L n (suc g) (w + cost k n) T ys h
     (subst (λ (z : ℕ). PlainGates z ys) one (x .1))
     (placed-step k n w (y .left) (y .right) S h (x .0) P))))
+
+-- the gates of the masked table of a plain one read earlier wires
+pub masked-earlier :
+    {G : Gadget} (L : Lawful G) (o : ℕ) (t : Table) → Plain t
+    → Earlier (sharesOf o * t .inputs) (map driverOf (maskedWires G o t))
+masked-earlier L o t P =
+    let n = sharesOf o in
+    sound-earlier (n * t .inputs) _
+    (masked-sound L n 0 (n * t .inputs) _ (t .gates) (omega arith) (plain-inputs n t P) (placed-inputs n (t .inputs)))
 
 -- once the gates are masked, every plain wire's shares stand among the wires
 pub placed-after :

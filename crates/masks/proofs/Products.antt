@@ -1,20 +1,20 @@
--- What the wires of a masked AND satisfy, for every lawful gadget: its equations fall apart into those of its pairs and
--- of its rows, and the last wires of the rows add up to the product of the sums.
+-- What the wires of a masked AND satisfy, for every lawful gadget: what holds of each wire of its pairs and rows holds of all, its
+-- equations fall apart into those of its pairs and of its rows, and the last wires of the rows add up to the product of the sums.
 -- Assumes nothing.
-use mathlib.Core.Path.{_≡_, refl, ap, _∙_, subst₂}
-use mathlib.Core.List.{List, [], _∷_, map, map-append}
+use mathlib.Core.Path.{_≡_, refl, ap, _∙_, subst, subst₂}
+use mathlib.Core.List.{List, [], _∷_, _++_, map, map-append}
 use Prim.Native.Nat.{ℕ, suc, _+_, _-_, _*_, _%_, _≤_, _<_}
 use native.Mathlib.Omega.{arith}
 use lib.ListN.{length, getD, length-map}
 use Rattle.tables.specs.Runs.{randoms}
 use Rattle.tables.proofs.Run.{Solves, solves-append}
 use Rattle.masks.specs.Shares.{upFrom, inTurn, Pair, pairOf, pairs, tri, row}
-use Rattle.masks.specs.Gadgets.{allFive, Gadget}
-use Rattle.masks.specs.Wires.{Part, Origin, sum, driverOf, share, pairWires, adding, rowWires, pairWire}
+use Rattle.masks.specs.Gadgets.{Five, first, second, third, fourth, fifth, allFive, indexOf, Gadget}
+use Rattle.masks.specs.Wires.{Part, pair, sum, Origin, Wire, wire, driverOf, share, pairWires, adding, rowWires, pairWire}
 use Rattle.masks.specs.Wires.{andWires, andShares}
 use Rattle.masks.proofs.Sum.{sumOf, sum-add, sum-parity, up-length, up-at, up-all, up-ids, sum-by-index, square}
 use Rattle.masks.proofs.Rows.{pairs-length, row-length, rows-sum}
-use Rattle.masks.proofs.Each.{in-turn-length, in-turn-draws, solves-in-turn}
+use Rattle.masks.proofs.Each.{Each, each-append, each-in-turn, each-rows, in-turn-length, in-turn-draws, solves-in-turn}
 use Rattle.masks.proofs.Lawful.{Lawful}
 use Rattle.masks.proofs.Costs.{pairs-span, rows-span, pairs-draw, rows-draw}
 
@@ -34,6 +34,49 @@ adding-adds o m last next c (z ∷ zs) r v e s =
 -- what row i adds, where the AND's first wire is w
 abbrev pub rowTerms : Gadget → ℕ → ℕ → ℕ → List ℕ
 rowTerms G n w = row n (pairWire w (G .low)) (pairWire w (G .high))
+
+-- one of the five wires of a pair, from wire w on
+abbrev pub fiveWire : Gadget → (Part → Origin) → List ℕ → List ℕ → ℕ → Pair → Five → Wire
+fiveWire G part a b w p f =
+    let i = p .lower in
+    let j = p .upper in
+    wire (G .gates w (share a i) (share b j) (share a j) (share b i) f) (part (pair f i j))
+
+-- what holds of each of the five wires
+pub each-five :
+    (P : ℕ → Wire → Type 0) (w : ℕ) (x : Five → Wire) → ((f : Five) → P (w + indexOf f) (x f)) → Each P w (map x allFive)
+unfolding Each
+each-five P w x h = (
+  subst (λ (y : ℕ). P y (x first)) (omega arith) (h first),
+  (
+    subst (λ (y : ℕ). P y (x second)) (omega arith) (h second),
+    (
+      subst (λ (y : ℕ). P y (x third)) (omega arith) (h third),
+      (
+        subst (λ (y : ℕ). P y (x fourth)) (omega arith) (h fourth),
+        (subst (λ (y : ℕ). P y (x fifth)) (omega arith) (h fifth), tt),
+      ),
+    ),
+  ),
+)
+
+-- what holds of the wires of each pair and of each row holds of the AND's
+pub each-and :
+    (G : Gadget) (n : ℕ) (part : Part → Origin) (w : ℕ) (a b : List ℕ) (P : ℕ → Wire → Type 0)
+    → ((q : ℕ) → q < tri n → Each P (w + 5 * q) (pairWires G part a b (w + 5 * q) (getD (pairs n) q (pairOf 0 0))))
+    → ((i : ℕ) → i < n
+    → Each P (w + 5 * tri n + n * i) (rowWires part a b (rowTerms G n w) (w + 5 * tri n + n * i) i))
+    → Each P w (andWires G n part w a b)
+unfolding andWires
+each-and G n part w a b P pair-holds row-holds =
+    let ps = inTurn 5 w (pairs n) (pairWires G part a b) in
+    let rs = inTurn n (w + 5 * tri n) (upFrom n 0 (λ i. i)) (rowWires part a b (rowTerms G n w)) in
+    let long : w + 5 * tri n ≡ w + length ps =
+    omega (arith, in-turn-length 5 w (pairs n) (pairWires G part a b) (pairs-span G n part a b), pairs-length n 0) in
+    each-append P w ps rs
+    (each-in-turn P 5 w (pairs n) (pairWires G part a b) (pairOf 0 0) (pairs-span G n part a b)
+    (λ q h. pair-holds q (omega (arith, pairs-length n 0))))
+    (subst (λ (y : ℕ). Each P y rs) long (each-rows P n n (w + 5 * tri n) _ (rows-span G n part a b _ _) row-holds))
 
 module _
     {G : Gadget} (L : Lawful G) (n : ℕ) (part : Part → Origin) (w c : ℕ) (a b : List ℕ) (r v : ℕ → ℕ)

@@ -1,16 +1,18 @@
 -- For contracts inside the library only: no promise of a call cites this.
 -- What sets one AND apart from another, as the code keeps it: wires of a pair by their place among the five, from 0, and whether the
--- fifth adds both products.
+-- fifth adds both products; and the marks of probes on a pair's wires.
 -- Assumes nothing.
 use mathlib.Core.Path.{_≡_}
-use mathlib.Core.Bool.{cond}
+use mathlib.Core.Bool.{_&&_, cond}
 use mathlib.Core.List.{List, [], _∷_, map}
 use Prim.Native.Nat.{ℕ, _+_, _-_, _*_, _≤_, _<_}
 use lib.Dec.{eqb}
-use Rattle.tables.specs.Tables.{XOR, AND, RANDOM, Gate, gate}
-use Rattle.tables.specs.Runs.{xor}
+use lib.ListN.{getD}
+use Rattle.tables.specs.Tables.{XOR, AND, RANDOM, Gate, gate, pins}
+use Rattle.tables.specs.Runs.{xor, ofEach}
 use Rattle.masks.specs.declared.PairForm as DF
 use Rattle.masks.specs.Gadgets.{Five, allFive, indexOf, Gadget}
+use Rattle.masks.specs.Wires.{joined}
 
 -- the five gates of a pair, from wire w on, by the operands of its third and fifth
 abbrev pub formGates : DF.PairForm → ℕ → ℕ → ℕ → ℕ → ℕ → List Gate
@@ -22,9 +24,30 @@ formGates r w ai bj aj bi =
     ∷ gate XOR (w + r .fifth .left) (w + r .fifth .right)
     ∷ []
 
--- the marks of the wire at place f of a pair of shares i and j: those that the rows add carry their row's share alone
+-- the marks of the wires that a pair of shares i and j reads and drives, where a_i, b_j, a_j and b_i are wires 0 to 3 and the pair's
+-- own are wires 4 to 8
+abbrev pub nineMarks : Gadget → ℕ → ℕ → ℕ → List ℕ
+nineMarks G i j w = getD ((i ∷ []) ∷ (j ∷ []) ∷ (j ∷ []) ∷ (i ∷ []) ∷ map (G .marks i j) allFive) w []
+
+-- the share numbers that a pair's wire and its pins carry, each as often as it is carried
+abbrev pub pairCarried : Gadget → ℕ → ℕ → Five → List ℕ
+pairCarried G i j f = ofEach (nineMarks G i j) ((4 + indexOf f) ∷ pins (G .gates 4 0 1 2 3 f))
+
+-- the same AND, each of its pairs' wires with the marks of a probe on it
+abbrev pub withPins : Gadget → Gadget
+withPins G =
+    record {
+      gates = G .gates;
+      marks = λ i j f. joined (pairCarried G i j f);
+      low = G .low;
+      high = G .high;
+      flip = G .flip;
+    }
+
+-- the marks of a probe on the wire at place f of a pair of shares i and j: the first wire has no pins, and carries i alone where row i
+-- adds it; every other one carries both
 abbrev pub formMarks : DF.PairForm → ℕ → ℕ → ℕ → List ℕ
-formMarks r i j f = cond (eqb f (r .low)) (i ∷ []) (cond (eqb f (r .high)) (j ∷ []) (i ∷ j ∷ []))
+formMarks r i j f = cond (eqb f 0 && eqb f (r .low)) (i ∷ []) (i ∷ j ∷ [])
 
 -- what a pair of shares i and j flips, p and q being whether a_i·b_j and a_j·b_i differ
 abbrev pub formFlip : DF.PairForm → ℕ → ℕ → ℕ → ℕ → ℕ → ℕ
@@ -37,7 +60,7 @@ pub record FormSays (G : Gadget) (r : DF.PairForm) : Type 0 where
   pub gates : (w ai bj aj bi : ℕ) → formGates r w ai bj aj bi ≡ map (G .gates w ai bj aj bi) allFive
   pub low : r .low ≡ indexOf (G .low)
   pub high : r .high ≡ indexOf (G .high)
-  pub marks : (i j : ℕ) (f : Five) → G .marks i j f ≡ formMarks r i j (indexOf f)
+  pub marks : (i j : ℕ) (f : Five) → i < j → withPins G .marks i j f ≡ formMarks r i j (indexOf f)
   pub both : r .both ≤ 1
   -- whatever the values are, the third wire adds the first two, the fifth the first, the fourth and, where `both` is 1, the second
   pub third-adds :

@@ -1,5 +1,5 @@
 -- What forecasting, masking, encoding, decoding and the marks call promise (document 01, "What each call takes and writes",
--- "Refusals" and "What a contract says"). G is the AND that masking uses, mk the marks of a wire by where it comes from.
+-- "Refusals" and "What a contract says"). G is the AND that masking uses, mk the marks of a probe by order, table and wire.
 -- Assumes nothing.
 use mathlib.Core.Path.{_≡_}
 use mathlib.Core.Bool.{Bool, _&&_, _||_, not, cond}
@@ -16,7 +16,7 @@ use Rattle.tables.specs.Packing.{bytesFor, tapeOf, spareFault}
 use Rattle.tables.specs.Says.{Writes}
 use Rattle.masks.specs.Shares.{sharesOf}
 use Rattle.masks.specs.Gadgets.{Gadget}
-use Rattle.masks.specs.Wires.{Origin, inputShare, maskedTable, origins, tapeLong}
+use Rattle.masks.specs.Wires.{maskedTable, tapeLong}
 use Rattle.masks.specs.Codes.{encode, decode}
 
 -- "6 order not 1 to 15"
@@ -98,10 +98,6 @@ decodeFault o bs room =
 abbrev pub DecodeSays : ℕ → List ℕ → List ℕ → List ℕ → DA.Answer → Type 0
 DecodeSays o bs b b′ r = Writes (decodeFault o bs (length b)) (decode o bs) b b′ r
 
--- the origin of a wire of the masked table
-abbrev pub originAt : List Origin → ℕ → Origin
-originAt os w = getD os w (inputShare 0 0)
-
 -- marks: 1 to 8, then 13 with place 0
 unfoldable pub marksFault : Gadget → List ℕ → ℕ → ℕ → Fault
 marksFault G s o w = orElse (plainFault G s o) (refusedIf (leb (wires (maskedTable G o (tableOf s))) w) 13)
@@ -113,6 +109,6 @@ pub record Marked (f : Fault) (ms : List ℕ) (r : DM.Marks) : Type 0 where
   pub first : r .first ≡ cond (passed f) (getD ms 0 0) 0
   pub second : r .second ≡ cond (passed f) (getD ms 1 0) 0
 
--- the marks call answers the marks of a wire's origin
-abbrev pub MarksSay : Gadget → (Origin → List ℕ) → List ℕ → ℕ → ℕ → DM.Marks → Type 0
-MarksSay G mk s o w r = Marked (marksFault G s o w) (mk (originAt (origins G o (tableOf s)) w)) r
+-- the marks call answers the marks of a probe on a wire
+abbrev pub MarksSay : Gadget → (ℕ → Table → ℕ → List ℕ) → List ℕ → ℕ → ℕ → DM.Marks → Type 0
+MarksSay G mk s o w r = Marked (marksFault G s o w) (mk o (tableOf s) w) r

@@ -1,13 +1,14 @@
 -- Masking at order t (document 01, "Masking at order t" and "Marks and the mapped tape"): the masked table's wires in order,
--- each with its gate and its origin, the wires that carry each plain wire's shares, and the marks of a wire.
+-- each with its gate and its origin, the wires that carry each plain wire's shares, the marks of a wire, and those of a probe
+-- (Card 9).
 -- Assumes nothing.
 use mathlib.Core.Bool.{cond}
 use mathlib.Core.List.{List, [], _∷_, _++_, map}
 use Prim.Native.Nat.{ℕ, suc, _+_, _-_, _*_}
-use lib.Dec.{eqb}
+use lib.Dec.{eqb, ltb}
 use lib.ListN.{getD, drop}
 use Rattle.tables.specs.Tables.{Kind, NOT, XOR, AND, RANDOM, CONSTANT, OR, UNKNOWN, Gate, gate, Table}
-use Rattle.tables.specs.Runs.{randoms}
+use Rattle.tables.specs.Runs.{randoms, probeReads, ofEach}
 use Rattle.masks.specs.Shares.{sharesOf, upFrom, inTurn, Pair, pairs, tri, row}
 use Rattle.masks.specs.Gadgets.{Five, allFive, indexOf, Gadget}
 
@@ -214,3 +215,25 @@ origins G o t = inputOrigins (sharesOf o) (t .inputs) ++ map originOf (maskedWir
 -- "The tape holds 2t bits for each input in order, then one for each random gate in wire order"
 unfoldable pub tapeLong : Gadget → ℕ → Table → ℕ
 tapeLong G o t = 2 * o * t .inputs + randoms (maskedTable G o t .gates)
+
+-- the origin of a wire of the masked table
+abbrev pub originAt : List Origin → ℕ → Origin
+originAt os w = getD os w (inputShare 0 0)
+
+-- the marks of one wire of the table that masking t at order o gives: "single-wire marks" (Card 9)
+abbrev pub wireMarks : Gadget → ℕ → Table → ℕ → List ℕ
+wireMarks G o t w = marks G (originAt (origins G o t) w)
+
+-- a number put among ascending ones, if it is not there
+unfoldable pub insert : ℕ → List ℕ → List ℕ
+insert m [] = m ∷ []
+insert m (x ∷ xs) = cond (eqb m x) (x ∷ xs) (cond (ltb m x) (m ∷ x ∷ xs) (x ∷ insert m xs))
+
+-- share numbers joined: each once, ascending
+unfoldable pub joined : List ℕ → List ℕ
+joined [] = []
+joined (m ∷ ms) = insert m (joined ms)
+
+-- "the marks of a probe on a gate are the single-wire marks of its output and of each pin joined" (Card 9)
+unfoldable pub probeMarks : Gadget → ℕ → Table → ℕ → List ℕ
+probeMarks G o t w = joined (ofEach (wireMarks G o t) (probeReads (maskedTable G o t) w))

@@ -20,7 +20,7 @@ use Rattle.sizing.specs.Plans.{PlanReady}
 use Rattle.sizing.proofs.Planning.{plan-passed}
 use Rattle.maps.specs.Maps.{flipped, gateFlips, mapGates}
 use Rattle.maps.specs.Both.{BothFlip, BothReady, flipsAt}
-use Rattle.maps.proofs.Begun.{plain-inputs}
+use Rattle.masks.proofs.Placed.{plain-inputs}
 use Rattle.maps.proofs.Flips.{gate-flips-read}
 use Rattle.maps.proofs.Both.{left-long}
 use Rattle.maps.proofs.MapGates.{GatesLeft, gates-start, gates-ready, gates-more, gates-end}

@@ -3,6 +3,7 @@ pub mod Tests
 pub mod Lists
 pub mod Packing
 pub mod Run
+pub mod Pins
 pub mod Accept
 pub mod Format
 pub mod Put

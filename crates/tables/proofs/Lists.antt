@@ -18,6 +18,11 @@ unfolding All
 all-append P [] ys a b = b
 all-append P (x ∷ xs) ys a b = (a .0, all-append P xs ys (a .1) b)
 
+pub all-back : {A : Type 0} (P : A → Type 0) (xs ys : List A) → All P (xs ++ ys) → All P ys
+unfolding All
+all-back P [] ys a = a
+all-back P (x ∷ xs) ys a = all-back P xs ys (a .1)
+
 pub all-getD : {A : Type 0} (P : A → Type 0) (xs : List A) (i : ℕ) (d : A) → All P xs → i < length xs → P (getD xs i d)
 unfolding All
 all-getD P [] i d a h = absurd (omega arith)

@@ -1,10 +1,12 @@
--- Running a gate table (document 01, "Tape, encoding, decoding"): "Running any gate table writes one value for each wire;
+-- Running a gate table, and what a probe reads (document 01, "Tape, encoding, decoding", and Card 9): "Running any gate table writes one value for each wire;
 -- it takes exactly I inputs and one bit for each random gate." A bit is a byte, 0 or 1.
 -- Assumes nothing.
+use mathlib.Core.Bool.{cond}
 use mathlib.Core.List.{List, [], _∷_, _++_}
 use Prim.Native.Nat.{ℕ, _+_, _-_, _*_, _%_, _≤_}
+use lib.Dec.{ltb}
 use lib.ListN.{getD, drop}
-use Rattle.tables.specs.Tables.{Kind, NOT, XOR, AND, RANDOM, CONSTANT, OR, UNKNOWN, Gate, Table, total}
+use Rattle.tables.specs.Tables.{Kind, NOT, XOR, AND, RANDOM, CONSTANT, OR, UNKNOWN, Gate, Table, gateOf, pins, total}
 
 -- bits, past the list's end too: "one byte a bit, 0 or 1"
 abbrev pub Bits : List ℕ → Type 0
@@ -53,6 +55,16 @@ readAll vs (w ∷ ws) = getD vs w 0 ∷ readAll vs ws
 -- the values of a table's outputs
 abbrev pub outputsOf : Table → List ℕ → List ℕ
 outputsOf t vs = readAll vs (t .outputs)
+
+-- "one probe on a gate as reading its output and the wires on its operands" (Card 9): the wires that a probe on wire w reads, in
+-- order: the wire, the left pin, the right pin. An input wire has no pins
+abbrev pub probeReads : Table → ℕ → List ℕ
+probeReads t w = w ∷ cond (ltb w (t .inputs)) [] (pins (gateOf t (w - t .inputs)))
+
+-- what f gives for each of a list, "in list order"
+unfoldable pub ofEach : (ℕ → List ℕ) → List ℕ → List ℕ
+ofEach f [] = []
+ofEach f (p ∷ ps) = f p ++ ofEach f ps
 
 -- "one bit for each random gate"
 abbrev pub randoms : List Gate → ℕ

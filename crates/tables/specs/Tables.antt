@@ -142,6 +142,17 @@ operandsOf CONSTANT = value-stated
 operandsOf OR = both-read
 operandsOf (UNKNOWN k) = none-read
 
+-- the pins of a gate: "the wires on its operands. An unused operand or a constant's value is no pin" (Card 9)
+abbrev pub pinsOf : Operands → ℕ → ℕ → List ℕ
+pinsOf none-read l r = []
+pinsOf left-read l r = l ∷ []
+pinsOf both-read l r = l ∷ r ∷ []
+pinsOf value-stated l r = []
+
+-- those of a gate, left pin first
+abbrev pub pins : Gate → List ℕ
+pins g = pinsOf (operandsOf (g .kind)) (g .left) (g .right)
+
 -- "An operand is an earlier wire. The unused right operand of NOT and both of a random gate are 0"; a constant: "left operand 0
 -- or 1 is its value, right is 0" (Card 6)
 abbrev pub operandsOk : ℕ → Operands → ℕ → ℕ → Bool
