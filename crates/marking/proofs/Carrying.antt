@@ -1,7 +1,7 @@
--- The share numbers that wires carry, for each case that the code tells apart.
+-- The share numbers that probes carry, for each case that the code tells apart.
 -- Assumes nothing.
 use mathlib.Core.Path.{_≡_, refl, sym, ap, _∙_}
-use mathlib.Core.Bool.{Bool, true, false, _||_, cond}
+use mathlib.Core.Bool.{Bool, true, false, _&&_, _||_, cond}
 use mathlib.Core.List.{List, [], _∷_}
 use Prim.Native.Nat.{ℕ, zero, suc, _+_, _-_, _*_, _%_, _≤_, _<_}
 use native.Mathlib.Numerals.{add-one}
@@ -10,7 +10,7 @@ use borrow.Author.Tests.{ltb-true, ltb-false, eqb-true, eqb-false, eq-eqb, ne-eq
 use Rattle.tables.proofs.Tests.{or-false}
 use lib.Dec.{eqb, ltb, leb}
 use Rattle.tables.specs.Refusals.{fault, none}
-use Rattle.tables.specs.Tables.{XOR, AND, CONSTANT, OR, kindOf, gate, wires, tableOf}
+use Rattle.tables.specs.Tables.{XOR, AND, CONSTANT, OR, kindOf, gate, Table, wires, tableOf}
 use Rattle.tables.specs.declared.Refusal as DR
 use Rattle.sizing.specs.declared.Plan as DP
 use Rattle.marking.specs.declared.NewWire as DW
@@ -21,16 +21,19 @@ use Rattle.masks.specs.Shares.{sharesOf}
 use Rattle.masks.specs.declared.And as DAnd
 use Rattle.masks.specs.declared.PairForm as DF
 use Rattle.masks.specs.Gadgets.{indexOf, Gadget, gadgetOf}
-use Rattle.masks.specs.Forms.{formMarks, FormSays}
+use Rattle.masks.specs.Forms.{withPins, formMarks, FormSays}
 use Rattle.masks.specs.Wires.{inAnd, xorShare, andPart, constantShare, orPart, partMarks, marks, share, firstOn, andCost, cost}
-use Rattle.masks.specs.Wires.{maskedTable, origins}
-use Rattle.masks.specs.Says.{plainFault, originAt, marksFault, MarksSay}
+use Rattle.masks.specs.Wires.{maskedTable, origins, originAt, probeMarks}
+use Rattle.masks.specs.Says.{plainFault, marksFault, MarksSay}
 use Rattle.sizing.specs.declared.Planned.the-variants as Planned
 use Rattle.sizing.specs.Plans.{PlanReady, PlanSays}
 use Rattle.sizing.proofs.Planning.{Planned-Ready, planned-refused}
 use Rattle.tables.proofs.Answers.{refused-fails, first-of}
 use Rattle.marking.specs.Origins.{fiveOf, partOf, Among, PartSays, CarriedSays, PartMarksSay, GateMarksSay, NewWireSays}
-use Rattle.marking.proofs.Origins.{origins-input, not-origin, share-origin, first-origin, last-origin, inner-origin}
+use Rattle.masks.proofs.Lawful.{lawful}
+use Rattle.masks.proofs.Passed.{plain-passed}
+use Rattle.masks.proofs.Pins.{probe-marks}
+use Rattle.masks.proofs.Origins.{origins-input, not-origin, share-origin, first-origin, last-origin, inner-origin}
 
 -- one share number, or two
 abbrev pub one : ℕ → DC.Carried
@@ -61,24 +64,21 @@ pair-among f i j e a = rw e at a
 
 -- a wire of a pair, by the form of the AND's pairs
 module _
-    {G : Gadget} {r : DF.PairForm} (F : FormSays G r) {p : DA.AndPart} (f i j : ℕ) (e : p ≡ Pair f i j) (small : f < 5)
+    {G : Gadget} {r : DF.PairForm} (F : FormSays G r) {p : DA.AndPart} (f i j : ℕ) (e : p ≡ Pair f i j) (A : Among 31 p)
   where
-    marks-are : partMarks G (partOf p) ≡ formMarks r (suc i) (suc j) f
+    marks-are : partMarks (withPins G) (partOf p) ≡ formMarks r (suc i) (suc j) f
     marks-are =
+        let among = pair-among f i j e A in
         rw e
-        (F .marks (suc i) (suc j) (fiveOf f) ∙ ap (formMarks r (suc i) (suc j)) (index-five f small))
+        (F .marks (suc i) (suc j) (fiveOf f) (omega arith) ∙ ap (formMarks r (suc i) (suc j)) (index-five f (among .0)))
 
-    -- what row i adds
-    pub low-marks : f ≡ r .low → PartMarksSay G p (one i)
-    low-marks h = is-one i (marks-are ∙ rw (eq-eqb f (r .low) h))
-
-    -- what row j adds
-    pub high-marks : (f ≡ r .low → ⊥) → f ≡ r .high → PartMarksSay G p (one j)
-    high-marks h k = is-one j (marks-are ∙ rw (ne-eqb f (r .low) h, eq-eqb f (r .high) k))
+    -- the first one, where row i adds it
+    pub alone-marks : eqb f 0 && eqb f (r .low) ≡ true → PartMarksSay (withPins G) p (one i)
+    alone-marks h = is-one i (marks-are ∙ rw h)
 
     -- any other
-    pub cross-marks : (f ≡ r .low → ⊥) → (f ≡ r .high → ⊥) → PartMarksSay G p (both i j)
-    cross-marks h k = is-both i j (marks-are ∙ rw (ne-eqb f (r .low) h, ne-eqb f (r .high) k))
+    pub cross-marks : eqb f 0 && eqb f (r .low) ≡ false → PartMarksSay (withPins G) p (both i j)
+    cross-marks h = is-both i j (marks-are ∙ rw h)
 
 module _ {p : DA.AndPart} (i : ℕ) (e : p ≡ Own i) where
   pub own-among : {n : ℕ} → Among n p → i < n
@@ -100,12 +100,12 @@ first-alone e = rw e (record { first = refl; second = refl })
 
 -- new wire d of an OR, whose last one is number e
 module _ (n d : ℕ) {e : ℕ} (last : e ≡ 2 + andCost n) where
-  pub or-not-marks : {G : Gadget} → ltb d 2 || eqb d e ≡ true → GateMarksSay G OR n d (record { first = 1; second = 0 })
-  or-not-marks {G} h = go (ltb d 2) refl h
+  pub or-not-marks : {H : Gadget} → ltb d 2 || eqb d e ≡ true → GateMarksSay H OR n d (record { first = 1; second = 0 })
+  or-not-marks {H} h = go (ltb d 2) refl h
     where
-      go : (t : Bool) → ltb d 2 ≡ t → t || eqb d e ≡ true → GateMarksSay G OR n d (record { first = 1; second = 0 })
-      go true t h = record { carried = λ l g w a b. first-alone (first-origin G l n g w a b d (ltb-true d 2 t)) }
-      go false t h = record { carried = λ l g w a b. first-alone (last-origin G l n g w a b d (eqb-true d e h ∙ last)) }
+      go : (t : Bool) → ltb d 2 ≡ t → t || eqb d e ≡ true → GateMarksSay H OR n d (record { first = 1; second = 0 })
+      go true t h = record { carried = λ G l g w a b. first-alone (first-origin G l n g w a b H d (ltb-true d 2 t)) }
+      go false t h = record { carried = λ G l g w a b. first-alone (last-origin G l n g w a b H d (eqb-true d e h ∙ last)) }
 
   -- a wire of the AND
   module _ (h : ltb d 2 || eqb d e ≡ false) (below : d < cost OR n) where
@@ -116,20 +116,20 @@ module _ (n d : ℕ) {e : ℕ} (last : e ≡ 2 + andCost n) where
         (ltb-false d 2 (both .0), omega (arith, other, last))
 
     pub or-and-marks :
-        {G : Gadget} {p : DA.AndPart} {r : DC.Carried} → PartSays n (d - 2) p → PartMarksSay G p r → GateMarksSay G OR n d r
-    or-and-marks {G} P M =
+        {H : Gadget} {p : DA.AndPart} {r : DC.Carried} → PartSays n (d - 2) p → PartMarksSay H p r → GateMarksSay H OR n d r
+    or-and-marks P M =
         record {
-          carried = λ l g w a b.
+          carried = λ G l g w a b.
               rw (inner-origin G l n g w a b d (inner .0) (inner .1), P .origin G (λ p. orPart g (inAnd p)) (suc (suc w)) (firstOn w a) (firstOn (suc w) b))
               (M .carried);
         }
 
 -- new wire d of the gate of kind k
 module _ (k n d : ℕ) (h : d < cost (kindOf k) n) where
-  pub not-marks : {G : Gadget} → k ≡ 0 → GateMarksSay G (kindOf k) n d (record { first = 1; second = 0 })
-  not-marks {G} e =
+  pub not-marks : {H : Gadget} → k ≡ 0 → GateMarksSay H (kindOf k) n d (record { first = 1; second = 0 })
+  not-marks e =
       let small : d < 1 = rw e at h in
-      rw e (record { carried = λ l g w a b. rw (not-origin G l n g w a b d small) (record { first = refl; second = refl }) })
+      rw e (record { carried = λ G l g w a b. rw (not-origin G l n g w a b d small) (record { first = refl; second = refl }) })
 
   -- an XOR or a constant
   pub share-below : eqb k 1 || eqb k 4 ≡ true → d < n
@@ -139,20 +139,20 @@ module _ (k n d : ℕ) (h : d < cost (kindOf k) n) where
       go true t e = rw (eqb-true k 1 t) at h
       go false t e = rw (eqb-true k 4 e) at h
 
-  pub share-marks : {G : Gadget} → eqb k 1 || eqb k 4 ≡ true → GateMarksSay G (kindOf k) n d (one d)
-  share-marks {G} e = go (eqb k 1) refl e (share-below e)
+  pub share-marks : {H : Gadget} → eqb k 1 || eqb k 4 ≡ true → GateMarksSay H (kindOf k) n d (one d)
+  share-marks {H} e = go (eqb k 1) refl e (share-below e)
     where
-      go : (t : Bool) → eqb k 1 ≡ t → t || eqb k 4 ≡ true → d < n → GateMarksSay G (kindOf k) n d (one d)
+      go : (t : Bool) → eqb k 1 ≡ t → t || eqb k 4 ≡ true → d < n → GateMarksSay H (kindOf k) n d (one d)
       go true t e below =
           rw (eqb-true k 1 t)
           (record {
-            carried = λ l g w a b.
+            carried = λ G l g w a b.
                 rw (share-origin n (λ s. gate XOR (share a s) (share b s)) (xorShare g) d below) (record { first = add-one d; second = refl });
           })
       go false t e below =
           rw (eqb-true k 4 e)
           (record {
-            carried = λ l g w a b.
+            carried = λ G l g w a b.
                 rw (share-origin n (λ s. gate CONSTANT (cond (eqb s 0) l 0) 0) (constantShare g) d below)
                 (record { first = add-one d; second = refl });
           })
@@ -161,8 +161,8 @@ module _ (k n d : ℕ) (h : d < cost (kindOf k) n) where
   and-below e = rw e at h
 
   pub and-marks :
-      {G : Gadget} {p : DA.AndPart} {r : DC.Carried} → k ≡ 2 → PartSays n d p → PartMarksSay G p r → GateMarksSay G (kindOf k) n d r
-  and-marks {G} e P M = rw e (record { carried = λ l g w a b. rw (P .origin G (andPart g) w a b) (M .carried) })
+      {H : Gadget} {p : DA.AndPart} {r : DC.Carried} → k ≡ 2 → PartSays n d p → PartMarksSay H p r → GateMarksSay H (kindOf k) n d r
+  and-marks e P M = rw e (record { carried = λ G l g w a b. rw (P .origin G (andPart g) w a b) (M .carried) })
 
   -- a gate with new wires of no other kind
   pub is-or : (k ≡ 0 → ⊥) → eqb k 1 || eqb k 4 ≡ false → (k ≡ 2 → ⊥) → kindOf k ≡ OR
@@ -179,7 +179,7 @@ module _ (k n d : ℕ) (h : d < cost (kindOf k) n) where
       go (suc (suc (suc (suc (suc zero))))) p q r s h = refl
       go (suc (suc (suc (suc (suc (suc k)))))) p q r s h = absurd (omega arith)
 
-  pub or-marks : {G : Gadget} {r : DC.Carried} → kindOf k ≡ OR → GateMarksSay G OR n d r → GateMarksSay G (kindOf k) n d r
+  pub or-marks : {H : Gadget} {r : DC.Carried} → kindOf k ≡ OR → GateMarksSay H OR n d r → GateMarksSay H (kindOf k) n d r
   or-marks e M = rw e M
 
 pub among-more : {n m : ℕ} (p : DA.AndPart) → n ≤ m → Among n p → Among m p
@@ -188,29 +188,38 @@ among-more (Own i) h a = omega arith
 among-more (Sum i m) h a = omega arith
 
 -- the wires of a planned table: an input share, and a new wire of a gate
-module _ (G : Gadget) {s : List ℕ} {p : DP.Plan} {w : ℕ} (R : PlanReady s p) where
+module _ (a : DAnd.And) {s : List ℕ} {p : DP.Plan} {w : ℕ} (R : PlanReady s p) (inside : w < p .wires) where
+  abbrev G : Gadget
+  G = gadgetOf a
+
+  abbrev t : Table
+  t = tableOf s
+
+  -- the marks of a probe, by where its wire comes from
+  by-origin : probeMarks G (p .order) t w ≡ marks (withPins G) (originAt (origins G (p .order) t) w)
+  by-origin =
+      probe-marks (lawful a) (p .order) t (plain-passed G s (p .order) (rw (R .none a)) .plain) w (omega (arith, R .wires a)) .0
+
   pub input-carried :
-      w < p .shares * p .inputs
-      → CarriedSays (marks G (originAt (origins G (p .order) (tableOf s)) w)) (one (w % p .shares))
+      w < p .shares * p .inputs → CarriedSays (probeMarks G (p .order) t w) (one (w % p .shares))
   input-carried h =
-      let shares : p .shares * p .inputs ≡ sharesOf (p .order) * tableOf s .inputs = rw (R .shares, R .inputs) in
-      rw (R .shares, origins-input G (p .order) (tableOf s) w (omega arith))
+      let shares : p .shares * p .inputs ≡ sharesOf (p .order) * t .inputs = rw (R .shares, R .inputs) in
+      rw (R .shares, by-origin, origins-input G (p .order) t w (omega arith))
       (record { first = add-one (w % sharesOf (p .order)); second = refl })
 
-  pub new-below : {x : DW.NewWire} → NewWireSays G (tableOf s) (p .order) w x → x .place < cost (kindOf (x .kind)) (p .shares)
+  pub new-below : {x : DW.NewWire} → NewWireSays G t (p .order) w x → x .place < cost (kindOf (x .kind)) (p .shares)
   new-below N = rw (R .shares) (N .below)
 
   pub new-carried :
-      {x : DW.NewWire} {r : DC.Carried} → NewWireSays G (tableOf s) (p .order) w x
-      → GateMarksSay G (kindOf (x .kind)) (p .shares) (x .place) r
-      → CarriedSays (marks G (originAt (origins G (p .order) (tableOf s)) w)) r
+      {x : DW.NewWire} {r : DC.Carried} → NewWireSays G t (p .order) w x
+      → GateMarksSay (withPins G) (kindOf (x .kind)) (p .shares) (x .place) r → CarriedSays (probeMarks G (p .order) t w) r
   new-carried {x} N M =
-      rw (N .origin) ((rw (R .shares) at M) .carried (N .operand) (x .gate) (N .start) (N .left) (N .right))
+      rw (by-origin, N .origin) ((rw (R .shares) at M) .carried G (N .operand) (x .gate) (N .start) (N .left) (N .right))
 
 -- the marks call: 1 to 8, 13, and the share numbers
 pub marks-refused :
     (G : Gadget) {s : List ℕ} {o : ℕ} {r : DR.Refusal} (w : ℕ) → PlanSays (plainFault G s o) s o (Planned.Refused r)
-    → MarksSay G (marks G) s o w (record { number = r .number; place = r .place; first = 0; second = 0 })
+    → MarksSay G (probeMarks G) s o w (record { number = r .number; place = r .place; first = 0; second = 0 })
 unfolding marksFault
 marks-refused G w P =
     let R = planned-refused P in
@@ -224,7 +233,7 @@ module _ (a : DAnd.And) {s : List ℕ} {o : ℕ} {p : DP.Plan} (P : Planned-Read
 
   pub marks-outside :
       (w : ℕ) → p .wires ≤ w
-      → MarksSay (gadgetOf a) (marks (gadgetOf a)) s o w (record { number = 13; place = 0; first = 0; second = 0 })
+      → MarksSay (gadgetOf a) (probeMarks (gadgetOf a)) s o w (record { number = 13; place = 0; first = 0; second = 0 })
   unfolding marksFault
   marks-outside w h =
       let past : leb (wires (maskedTable (gadgetOf a) o (tableOf s))) w ≡ true = le-leb _ w (omega (arith, masked-wires-are)) in
@@ -232,8 +241,8 @@ module _ (a : DAnd.And) {s : List ℕ} {o : ℕ} {p : DP.Plan} (P : Planned-Read
       record { number = rw e; place = rw e; first = rw e; second = rw e }
 
   pub marks-inside :
-      (w : ℕ) {c : DC.Carried} → w < p .wires → CarriedSays (marks (gadgetOf a) (originAt (origins (gadgetOf a) (p .order) (tableOf s)) w)) c
-      → MarksSay (gadgetOf a) (marks (gadgetOf a)) s o w (record { number = 0; place = 0; first = c .first; second = c .second })
+      (w : ℕ) {c : DC.Carried} → w < p .wires → CarriedSays (probeMarks (gadgetOf a) (p .order) (tableOf s) w) c
+      → MarksSay (gadgetOf a) (probeMarks (gadgetOf a)) s o w (record { number = 0; place = 0; first = c .first; second = c .second })
   unfolding marksFault
   marks-inside w h C =
       let before : leb (wires (maskedTable (gadgetOf a) o (tableOf s))) w ≡ false = lt-leb _ w (omega (arith, masked-wires-are)) in

@@ -13,14 +13,13 @@ use Rattle.sizing.specs.declared.Plan as DP
 use Rattle.masks.specs.Shares.{sharesOf, upFrom, pairOf, pairsFrom, pairs, tri}
 use Rattle.masks.specs.declared.And.the-variants.{Isw}
 use Rattle.masks.specs.Gadgets.{Gadget, isw}
-use Rattle.masks.specs.Wires.{originOf, inputShare, cost, newShares, inputShares, inputOrigins, masked}
-use Rattle.masks.specs.Wires.{origins}
-use Rattle.masks.specs.Says.{originAt}
+use Rattle.masks.specs.Wires.{originOf, cost, newShares, inputShares, masked}
+use Rattle.masks.specs.Wires.{origins, originAt}
 use Rattle.sizing.specs.Plans.{PlanReady}
 use Rattle.marking.specs.Origins.{NewWireSays}
 use Rattle.masks.proofs.Sum.{up-length, up-at}
-use Rattle.masks.proofs.Costs.{input-origins-length, masked-wires}
-use Rattle.marking.proofs.Origins.{masked-here, masked-past}
+use Rattle.masks.proofs.Costs.{masked-wires}
+use Rattle.masks.proofs.Origins.{origins-gate, masked-here, masked-past}
 
 -- the pair at place q of n shares is at place `left` of those from share `lower` on, which has `after` shares after it
 pub record PairLeft (n q lower left after : ℕ) : Type 0 where
@@ -85,23 +84,18 @@ pub record Seeking (t : Table) (n wire g start : ℕ) : Type 0 where
 pub seek-start :
     {s : List ℕ} {p : DP.Plan} {wire : ℕ} → PlanReady s p → p .shares * p .inputs ≤ wire → wire < p .wires
     → Seeking (tableOf s) (p .shares) wire 0 (p .shares * p .inputs)
-unfolding origins
 seek-start {s} {p} {wire} R h k =
     let n = p .shares in
     let m = tableOf s .inputs in
     let long = masked-wires isw (p .order) (tableOf s) in
-    let past : wire ≡ length (inputOrigins n m) + (wire - n * m) =
-    omega (arith, input-origins-length n m, rw (R .inputs) at h) in
     rw (R .inputs)
     (record {
       shares = inputShares n m;
       past = rw (R .inputs) at h;
       ahead = omega (arith, R .wires Isw, rw (← R .shares) at long);
       same = λ G o e.
-          let ws = map originOf (masked G n 0 (n * m) (inputShares n m) (tableOf s .gates)) in
-          rw (← e)
-          (ap (λ (y : ℕ). getD (inputOrigins n m ++ ws) y (inputShare 0 0)) past
-          ∙ getD-append-add (inputOrigins n m) ws (wire - n * m) (inputShare 0 0));
+          let past : wire ≡ sharesOf o * m + (wire - sharesOf o * m) = omega (arith, rw (R .inputs, e) at h) in
+          rw e (ap (originAt (origins G o (tableOf s))) past ∙ origins-gate G o (tableOf s) (wire - sharesOf o * m));
     })
 
 module _ {t : Table} {n wire g start : ℕ} (S : Seeking t n wire g start) where

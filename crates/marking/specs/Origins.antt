@@ -14,8 +14,7 @@ use Rattle.marking.specs.declared.AndPart as DA
 use Rattle.marking.specs.declared.AndPart.the-variants.{Pair, Own, Sum}
 use Rattle.masks.specs.Shares.{sharesOf, pairOf, pairs}
 use Rattle.masks.specs.Gadgets.{Five, first, second, third, fourth, fifth, Gadget}
-use Rattle.masks.specs.Wires.{Part, pair, own, sum, Origin, originOf, partMarks, marks, andWires, newWires, cost, origins}
-use Rattle.masks.specs.Says.{originAt}
+use Rattle.masks.specs.Wires.{Part, pair, own, sum, Origin, originOf, originAt, partMarks, marks, andWires, newWires, cost, origins}
 
 -- the pair at place q among the pairs of n shares
 pub record PairSays (n q : ℕ) (r : DP.SharePair) : Type 0 where
@@ -55,14 +54,15 @@ pub record CarriedSays (ms : List ℕ) (r : DC.Carried) : Type 0 where
   pub first : r .first ≡ getD ms 0 0
   pub second : r .second ≡ getD ms 1 0
 
--- those of a part of an AND, inside an OR too
-pub record PartMarksSay (G : Gadget) (p : DA.AndPart) (r : DC.Carried) : Type 0 where
-  pub carried : CarriedSays (partMarks G (partOf p)) r
+-- those of a part of an AND, inside an OR too, by the marks of H
+pub record PartMarksSay (H : Gadget) (p : DA.AndPart) (r : DC.Carried) : Type 0 where
+  pub carried : CarriedSays (partMarks H (partOf p)) r
 
--- those of new wire d of a plain gate, whichever gate it is
-pub record GateMarksSay (G : Gadget) (k : Kind) (n d : ℕ) (r : DC.Carried) : Type 0 where
+-- those of new wire d of a plain gate, whichever gate it is, and whichever AND masks it
+pub record GateMarksSay (H : Gadget) (k : Kind) (n d : ℕ) (r : DC.Carried) : Type 0 where
   pub carried :
-      (l g w : ℕ) (a b : List ℕ) → CarriedSays (marks G (originAt (map originOf (newWires G k l n g w a b)) d)) r
+      (G : Gadget) (l g w : ℕ) (a b : List ℕ)
+      → CarriedSays (marks H (originAt (map originOf (newWires G k l n g w a b)) d)) r
 
 -- the plain gate that a wire past the input shares is a new wire of, and which of them, where the gate's first new wire is
 -- `start`, its left operand is `operand`, and its operands' shares are on the wires `left` and `right`

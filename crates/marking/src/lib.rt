@@ -1,14 +1,16 @@
-// The marks of a wire: which plain gate it belongs to, which part of an AND it is, and the shares that it carries.
+// The marks of a probe on a wire: which plain gate the wire belongs to, which part of an AND it is, and the shares that it carries
+// together with the pins of its gate.
 ghost use Prim.Native.Nat.{_*_, _≤_, _<_};
 ghost use Rattle.tables.specs.Tables.{kindOf, tableOf, AND, OR};
 ghost use Rattle.masks.specs.Shares.{tri};
-ghost use Rattle.masks.specs.Wires.{marks, cost, origins};
-ghost use Rattle.masks.specs.Says.{originAt, MarksSay};
+ghost use Rattle.masks.specs.Wires.{cost, probeMarks};
+ghost use Rattle.masks.specs.Forms.{withPins};
+ghost use Rattle.masks.specs.Says.{MarksSay};
 ghost use Rattle.sizing.specs.Plans.{PlanReady};
 ghost use Rattle.masks.specs.Gadgets.{Gadget, gadgetOf};
 ghost use Rattle.marking.specs.Origins.{PairSays, Among, PartSays, CarriedSays, PartMarksSay, GateMarksSay, NewWireSays};
 
-// The share numbers that a wire carries, ascending, 0 for none.
+// The share numbers that a probe carries, ascending, 0 for none.
 pub struct Carried {
     pub first: u8,
     pub second: u8,
@@ -79,23 +81,19 @@ pub fn and_part(n: usize, d: usize) -> AndPart
     }
 }
 
-// The share numbers that a part of a masked AND carries.
+// The share numbers that a probe on a part of a masked AND carries. The random gate of a pair has no pins, and carries share i alone
+// where row i adds it; any other wire of a pair carries both shares, itself or by a pin.
 pub fn part_marks(and: masks::And, part: AndPart) -> Carried
     requires { ⌜ Among 31 part ⌝ }
-    ensures { λ r. ⌜ PartMarksSay (gadgetOf and) part r ⌝ }
+    ensures { λ r. ⌜ PartMarksSay (withPins (gadgetOf and)) part r ⌝ }
 {
     match part {
         AndPart::Pair { wire, lower, upper } => {
             let form = masks::pair_form(and);
-            if wire as usize == form.low {
+            let at = wire as usize;
+            if (at == 0) & (at == form.low) {
                 return Carried {
                     first: lower + 1,
-                    second: 0,
-                };
-            }
-            if wire as usize == form.high {
-                return Carried {
-                    first: upper + 1,
                     second: 0,
                 };
             }
@@ -115,10 +113,10 @@ pub fn part_marks(and: masks::And, part: AndPart) -> Carried
     }
 }
 
-// The share numbers that new wire d of an OR carries: its NOTs share 1, the others what those of an AND carry.
+// The share numbers that a probe on new wire d of an OR carries: its NOTs share 1, the others what those of an AND carry.
 fn or_marks(and: masks::And, n: usize, d: usize) -> Carried
     requires { ⌜ (n ≤ 31) × (d < cost OR n) ⌝ }
-    ensures { λ r. ⌜ GateMarksSay (gadgetOf and) OR n d r ⌝ }
+    ensures { λ r. ⌜ GateMarksSay (withPins (gadgetOf and)) OR n d r ⌝ }
 {
     if (d < 2) | (d == 2 + masks::and_cost(n)) {
         return Carried {
@@ -129,10 +127,10 @@ fn or_marks(and: masks::And, n: usize, d: usize) -> Carried
     part_marks(and, and_part(n, d - 2))
 }
 
-// The share numbers that new wire d of a plain gate carries.
+// The share numbers that a probe on new wire d of a plain gate carries.
 fn gate_marks(and: masks::And, kind: u8, n: usize, d: usize) -> Carried
     requires { ⌜ (n ≤ 31) × (d < cost (kindOf kind) n) ⌝ }
-    ensures { λ r. ⌜ GateMarksSay (gadgetOf and) (kindOf kind) n d r ⌝ }
+    ensures { λ r. ⌜ GateMarksSay (withPins (gadgetOf and)) (kindOf kind) n d r ⌝ }
 {
     if kind == 0 {
         return Carried {
@@ -178,10 +176,10 @@ pub fn find_gate(table: &[u8], p: sizing::Plan, wire: usize) -> NewWire
     }
 }
 
-// The share numbers that a wire of the masked table carries.
+// The share numbers that a probe on a wire of the masked table carries.
 pub fn marks_at(and: masks::And, table: &[u8], p: sizing::Plan, wire: usize) -> Carried
     requires { ⌜ PlanReady (now table) p × (wire < p .wires) ⌝ }
-    ensures { λ r. ⌜ CarriedSays (marks (gadgetOf and) (originAt (origins (gadgetOf and) (p .order) (tableOf (now (table .entry)))) wire)) r ⌝ }
+    ensures { λ r. ⌜ CarriedSays (probeMarks (gadgetOf and) (p .order) (tableOf (now (table .entry))) wire) r ⌝ }
 {
     let n = p.shares;
     if wire < n * p.inputs {
@@ -194,9 +192,9 @@ pub fn marks_at(and: masks::And, table: &[u8], p: sizing::Plan, wire: usize) -> 
     gate_marks(and, x.kind, n, x.place)
 }
 
-// The share numbers that a wire of the masked table of a plain table carries, or the refusal.
+// The share numbers that a probe on a wire of the masked table of a plain table carries, or the refusal.
 pub fn wire_marks(and: masks::And, table: &[u8], order: u8, wire: u32) -> masks::Marks
-    ensures { λ r. ⌜ MarksSay (gadgetOf and) (marks (gadgetOf and)) (now (table .entry)) order wire r ⌝ }
+    ensures { λ r. ⌜ MarksSay (gadgetOf and) (probeMarks (gadgetOf and)) (now (table .entry)) order wire r ⌝ }
 {
     match sizing::plan_table(table, order) {
         sizing::Planned::Refused(r) => masks::Marks {

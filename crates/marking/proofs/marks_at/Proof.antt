@@ -30,7 +30,7 @@ cast-t11 c =
     record { fits = omega (arith, below, plan-fits R .shares) }
 
 returns : tie.Need-returns
-returns c = let s = c .before .before .before in input-carried (gadgetOf (s .args .and)) (s .pre .0) (c .if1 .taken)
+returns c = let s = c .before .before .before in input-carried (s .args .and) (s .pre .0) (s .pre .1) (c .if1 .taken)
 
 find-gate-requires : tie.Need-find-gate-requires
 find-gate-requires c κs = (c .before .before .before .pre .0, c .if1 .left, c .before .before .before .pre .1)
@@ -39,13 +39,13 @@ gate-marks-requires : tie.Need-gate-marks-requires
 gate-marks-requires c κs =
     let s = c .before .before .before .before in
     let G = gadgetOf (s .args .and) in
-    (plan-fits (s .pre .0) .shares, new-below G (s .pre .0) (c .find-gate .ensures G))
+    (plan-fits (s .pre .0) .shares, new-below (s .args .and) (s .pre .0) (s .pre .1) (c .find-gate .ensures G))
 
 returns-2 : tie.Need-returns-2
 returns-2 c =
     let s = c .before .before .before .before .before in
     let G = gadgetOf (s .args .and) in
-    new-carried G (s .pre .0) (c .before .find-gate .ensures G) (c .gate-marks .ensures)
+    new-carried (s .args .and) (s .pre .0) (s .pre .1) (c .before .find-gate .ensures G) (c .gate-marks .ensures)
 
 pub marks-at-spec : {M : Type 1} → statement M
 marks-at-spec =

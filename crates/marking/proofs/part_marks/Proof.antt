@@ -2,7 +2,7 @@
 -- Assumes nothing.
 use native.Mathlib.Omega.{arith}
 use borrow.Author.Needs.{needs}
-use Rattle.marking.proofs.Carrying.{pair-among, low-marks, high-marks, cross-marks, own-among, own-marks, sum-among, sum-marks}
+use Rattle.marking.proofs.Carrying.{pair-among, alone-marks, cross-marks, own-among, own-marks, sum-among, sum-marks}
 use Rattle.marking.proofs.part_marks.Statement.{statement}
 use Rattle.marking.proofs.part_marks.Tie as tie
 
@@ -12,11 +12,11 @@ enum-known-part c = search needs
 pair-form-requires : tie.Need-pair-form-requires
 pair-form-requires c κs = tt
 
-cast-if1 : tie.Need-cast-if1
-cast-if1 c = search needs
+cast-at : tie.Need-cast-at
+cast-at c = search needs
 
-add-t12 : tie.Need-add-t12
-add-t12 c =
+add-t14 : tie.Need-add-t14
+add-t14 c =
     let read = c .before .before .before .before in
     omega (arith, pair-among _ _ _ (read .part .given .1) (read .before .before .pre))
 
@@ -24,58 +24,41 @@ returns : tie.Need-returns
 returns c =
     let form = c .before .before in
     let read = form .before .before in
-    let small = pair-among _ _ _ (read .part .given .1) (read .before .before .pre) .0 in
-    low-marks (form .pair-form .ensures) _ _ _ (read .part .given .1) small (c .if1 .taken)
-
-cast-if2 : tie.Need-cast-if2
-cast-if2 c = search needs
-
-add-t13 : tie.Need-add-t13
-add-t13 c =
-    let read = c .before .before .before .before .before .before in
-    omega (arith, pair-among _ _ _ (read .part .given .1) (read .before .before .pre))
-
-returns-2 : tie.Need-returns-2
-returns-2 c =
-    let form = c .before .before .before .before in
-    let read = form .before .before in
-    let small = pair-among _ _ _ (read .part .given .1) (read .before .before .pre) .0 in
-    high-marks (form .pair-form .ensures) _ _ _ (read .part .given .1) small (c .before .before .if1 .left) (c .if2 .taken)
-
-add-t14 : tie.Need-add-t14
-add-t14 c =
-    let read = c .before .before .before .before .before .before in
-    omega (arith, pair-among _ _ _ (read .part .given .1) (read .before .before .pre))
+    alone-marks (form .pair-form .ensures) _ _ _ (read .part .given .1) (read .before .before .pre) (c .if1 .taken)
 
 add-t15 : tie.Need-add-t15
 add-t15 c =
-    let read = c .before .before .before .before .before .before in
+    let read = c .before .before .before .before in
+    omega (arith, pair-among _ _ _ (read .part .given .1) (read .before .before .pre))
+
+add-t16 : tie.Need-add-t16
+add-t16 c =
+    let read = c .before .before .before .before in
     omega (arith, pair-among _ _ _ (read .part .given .1) (read .before .before .pre))
 
 enum-known-part-2 : tie.Need-enum-known-part-2
 enum-known-part-2 c = search needs
 
-add-t16 : tie.Need-add-t16
-add-t16 c = omega (arith, own-among _ (c .before .part2 .given .1) (c .before .before .before .pre))
+add-t17 : tie.Need-add-t17
+add-t17 c = omega (arith, own-among _ (c .before .part2 .given .1) (c .before .before .before .pre))
 
 enum-known-part-3 : tie.Need-enum-known-part-3
 enum-known-part-3 c = search needs
 
-add-t17 : tie.Need-add-t17
-add-t17 c = omega (arith, sum-among _ _ (c .before .part3 .given .1) (c .before .before .before .pre))
+add-t18 : tie.Need-add-t18
+add-t18 c = omega (arith, sum-among _ _ (c .before .part3 .given .1) (c .before .before .before .pre))
+
+returns-2 : tie.Need-returns-2
+returns-2 c =
+    let form = c .before .before in
+    let read = form .before .before in
+    cross-marks (form .pair-form .ensures) _ _ _ (read .part .given .1) (read .before .before .pre) (c .if1 .left)
 
 returns-3 : tie.Need-returns-3
-returns-3 c =
-    let form = c .before .before .before .before in
-    let read = form .before .before in
-    let small = pair-among _ _ _ (read .part .given .1) (read .before .before .pre) .0 in
-    cross-marks (form .pair-form .ensures) _ _ _ (read .part .given .1) small (c .before .before .if1 .left) (c .if2 .left)
+returns-3 c = own-marks _ (c .before .part2 .given .1)
 
 returns-4 : tie.Need-returns-4
-returns-4 c = own-marks _ (c .before .part2 .given .1)
-
-returns-5 : tie.Need-returns-5
-returns-5 c = sum-marks _ _ (c .before .part3 .given .1)
+returns-4 c = sum-marks _ _ (c .before .part3 .given .1)
 
 pub part-marks-spec : {M : Type 1} → statement M
 part-marks-spec =
@@ -83,18 +66,15 @@ part-marks-spec =
     (tie.spec
     enum-known-part
     pair-form-requires
-    cast-if1
-    add-t12
-    returns
-    cast-if2
-    add-t13
-    returns-2
+    cast-at
     add-t14
+    returns
     add-t15
-    enum-known-part-2
     add-t16
-    enum-known-part-3
+    enum-known-part-2
     add-t17
+    enum-known-part-3
+    add-t18
+    returns-2
     returns-3
-    returns-4
-    returns-5)
+    returns-4)
