@@ -11,16 +11,16 @@ use borrow.Author.Tests.{le-ltb}
 use Rattle.tables.specs.Refusals.{fault, badBit}
 use Rattle.tables.specs.Tables.{tableOf, tableFault, gatesFrom, wordsFrom, gatesFault, outputsFault, randomFault, total}
 use Rattle.tables.specs.Tables.{kindBytes, pairBytes, wordBytes, tableBytes}
-use Rattle.tables.specs.Runs.{run, runFrom, readAll}
+use Rattle.tables.specs.Runs.{run, runFrom, readAll, ofEach}
 use Rattle.tables.specs.Packing.{numberOf, digitsOf, packFrom, packed, unpacked, tapeOf, spare, spareFault}
 use Rattle.masks.specs.Shares.{upFrom, inTurn, pairsFrom, tri, pairAt, row}
 use Rattle.masks.specs.Wires.{adding, andWires, inputOrigins, masked}
-use Rattle.masks.specs.Wires.{sharesAfter, outputShares, maskedTable, origins, tapeLong}
+use Rattle.masks.specs.Wires.{sharesAfter, outputShares, maskedTable, origins, tapeLong, insert, joined, probeMarks}
 use Rattle.masks.specs.Codes.{xorAll, encode, decodeFrom, decode, maskedRun}
 use Rattle.masks.specs.Says.{plainFault, encodeFault}
 use Rattle.text.specs.Text.{digits, lineOf}
 use Rattle.forecasting.specs.Lines.{lineFault, forecastLine}
-use Rattle.maps.specs.Maps.{ofEach, freeFrom, freeShare, flipped, inputFlips, mapGates, mappedAt}
+use Rattle.maps.specs.Maps.{freeFrom, freeShare, flipped, inputFlips, mapGates, mappedAt}
 use Rattle.maps.specs.Says.{badProbe, supplyFault, probesFault, roomFault, mapFault}
 use Rattle.cases.specs.Cases.{MCases}
 
@@ -38,7 +38,7 @@ unfolding badBit tableOf tableFault gatesFrom wordsFrom gatesFault outputsFault 
     inputOrigins masked sharesAfter outputShares maskedTable origins tapeLong xorAll encode decodeFrom decode
     maskedRun plainFault digits lineOf lineFault forecastLine ofEach freeFrom freeShare flipped inputFlips
     mapGates mappedAt badProbe supplyFault probesFault roomFault mapFault numberOf digitsOf packFrom packed unpacked
-    tapeOf spare spareFault encodeFault
+    tapeOf spare spareFault encodeFault insert joined probeMarks
 m-cases =
     record {
       cost-at-1 = refl;
@@ -86,4 +86,19 @@ m-cases =
       no-byte = refl;
       unused-bit = refl;
       whole-tape-encoded = refl;
+      reads-22 = refl;
+      reads-10 = refl;
+      reads-7 = refl;
+      reads-6 = refl;
+      reads-5 = refl;
+      reads-not = refl;
+      reads-constant = refl;
+      marks-10 = refl;
+      single-10 = refl;
+      dom-marks-8 = refl;
+      dom-single-8 = refl;
+      marks-22 = refl;
+      marks-6 = refl;
+      free-10 = refl;
+      single-free-10 = refl;
     }

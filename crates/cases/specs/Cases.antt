@@ -1,5 +1,6 @@
 -- The M cases of document 01, "Table of examples", as one table of statements about the definitions, with the costs of an AND,
--- the forecast line, the table without gates and a masked NOT; and those with tapes in packed form too (Card 4).
+-- the forecast line, the table without gates and a masked NOT; those with tapes in packed form too (Card 4); and what probes read
+-- and carry with their pins (Card 9).
 -- Assumes nothing.
 use mathlib.Core.Path.{_≡_}
 use mathlib.Core.List.{List, [], _∷_}
@@ -7,11 +8,11 @@ use Prim.Native.Nat.{ℕ, _-_}
 use lib.ListN.{getD, take, drop}
 use Rattle.tables.specs.Refusals.{Fault, none, fault}
 use Rattle.tables.specs.Tables.{gate, NOT, XOR, AND, RANDOM, Table, tableOf, tableFault}
-use Rattle.tables.specs.Runs.{outputsOf}
+use Rattle.tables.specs.Runs.{outputsOf, probeReads}
 use Rattle.tables.specs.Packing.{packed, tapeOf}
 use Rattle.masks.specs.Shares.{sharesOf, tri}
-use Rattle.masks.specs.Gadgets.{isw}
-use Rattle.masks.specs.Wires.{marks, cost, maskedTable}
+use Rattle.masks.specs.Gadgets.{isw, dom}
+use Rattle.masks.specs.Wires.{cost, maskedTable, wireMarks, probeMarks}
 use Rattle.masks.specs.Codes.{decode, maskedRun}
 use Rattle.masks.specs.Says.{plainFault, encodeFault}
 use Rattle.forecasting.specs.Lines.{forecastLine}
@@ -34,6 +35,10 @@ noGates = tableOf (1 ∷ 0 ∷ 0 ∷ 0 ∷ 1 ∷ 0 ∷ 0 ∷ 0 ∷ [])
 abbrev pub theNot : Table
 theNot = tableOf (1 ∷ 0 ∷ 1 ∷ 0 ∷ 1 ∷ 0 ∷ 0 ∷ 0 ∷ 0 ∷ 0 ∷ 0 ∷ 1 ∷ 0 ∷ [])
 
+-- one input, the constant 1, output
+abbrev pub theConstant : Table
+theConstant = tableOf (1 ∷ 0 ∷ 1 ∷ 0 ∷ 1 ∷ 0 ∷ 4 ∷ 1 ∷ 0 ∷ 0 ∷ 0 ∷ 1 ∷ 0 ∷ [])
+
 -- "secrets 1 1, tape 1 0 0 1 1 0 1" and "to secrets 0 1"
 abbrev pub secrets : List ℕ
 secrets = 1 ∷ 1 ∷ []
@@ -51,8 +56,12 @@ valuesOf xs ts = maskedRun isw 1 theAnd xs ts
 abbrev pub sharesOut : List ℕ → List ℕ → List ℕ
 sharesOut xs ts = outputsOf (maskedTable isw 1 theAnd) (valuesOf xs ts)
 
+-- the wires that a probe on a wire of the AND masked at 1 reads
+abbrev pub readsAt : ℕ → List ℕ
+readsAt w = probeReads (maskedTable isw 1 theAnd) w
+
 abbrev pub tapeTo : List ℕ → List ℕ → List ℕ
-tapeTo ys ps = mapped isw (marks isw) 1 theAnd secrets ys tape ps
+tapeTo ys ps = mapped isw (probeMarks isw) 1 theAnd secrets ys tape ps
 
 -- "The tape 1 0 0 1 1 0 1 becomes the byte 59 in hexadecimal"
 abbrev pub tapeByte : List ℕ
@@ -63,7 +72,7 @@ abbrev pub packedOut : List ℕ → List ℕ → List ℕ
 packedOut xs s = outputsOf (maskedTable isw 1 theAnd) (packedRun isw 1 theAnd xs s)
 
 abbrev pub packedTo : List ℕ → List ℕ → List ℕ
-packedTo ys ps = packedMap isw (marks isw) 1 theAnd secrets ys tapeByte ps
+packedTo ys ps = packedMap isw (probeMarks isw) 1 theAnd secrets ys tapeByte ps
 
 -- mapping with the order 1, a packed tape and the probes ps, into buffers of just the right length
 abbrev pub mappedFault : List ℕ → List ℕ → Fault
@@ -93,13 +102,13 @@ pub record MCases : Type 0 where
   -- M: "decoded 1"
   pub run-decoded : decode 1 (sharesOut secrets tape) ≡ 1 ∷ []
   -- M: "probe 7, to secrets 0 1: k = 3"
-  pub free-7 : freeShare isw (marks isw) 1 theAnd (7 ∷ []) ≡ 3
+  pub free-7 : freeShare (probeMarks isw) 1 theAnd (7 ∷ []) ≡ 3
   -- M: "tape unchanged"
   pub tape-7 : tapeTo toSecrets (7 ∷ []) ≡ tape
   -- M: "outputs 1 1 0"
   pub outputs-7 : sharesOut toSecrets (tapeTo toSecrets (7 ∷ [])) ≡ 1 ∷ 1 ∷ 0 ∷ []
   -- M: "probe 29, to secrets 0 1: k = 1"
-  pub free-29 : freeShare isw (marks isw) 1 theAnd (29 ∷ []) ≡ 1
+  pub free-29 : freeShare (probeMarks isw) 1 theAnd (29 ∷ []) ≡ 1
   -- M: "tape 0 0 0 1 0 0 1"
   pub tape-29 : tapeTo toSecrets (29 ∷ []) ≡ 0 ∷ 0 ∷ 0 ∷ 1 ∷ 0 ∷ 0 ∷ 1 ∷ []
   -- M: "wire 29 stays 1"
@@ -147,3 +156,25 @@ pub record MCases : Type 0 where
   pub no-byte : mappedFault [] [] ≡ fault 10 0
   pub unused-bit : mappedFault (217 ∷ []) [] ≡ fault 11 4
   pub whole-tape-encoded : encodeFault 1 secrets tapeByte 6 ≡ fault 11 2
+  -- Card 9: "one probe on a gate as reading its output and the wires on its operands": a sum, z(2,1), a product, and z(1,2), which is
+  -- random
+  pub reads-22 : readsAt 22 ≡ 22 ∷ 21 ∷ 6 ∷ []
+  pub reads-10 : readsAt 10 ≡ 10 ∷ 8 ∷ 9 ∷ []
+  pub reads-7 : readsAt 7 ≡ 7 ∷ 0 ∷ 4 ∷ []
+  pub reads-6 : readsAt 6 ≡ 6 ∷ []
+  -- an input wire
+  pub reads-5 : readsAt 5 ≡ 5 ∷ []
+  -- "An unused operand or a constant's value is no pin"
+  pub reads-not : probeReads (maskedTable isw 1 theNot) 3 ≡ 3 ∷ 0 ∷ []
+  pub reads-constant : probeReads (maskedTable isw 1 theConstant) 3 ≡ 3 ∷ []
+  -- "A probe on z(j,i) then carries {i,j}", by itself {j}; and the third wire of the DOM AND, by itself {i}
+  pub marks-10 : probeMarks isw 1 theAnd 10 ≡ 1 ∷ 2 ∷ []
+  pub single-10 : wireMarks isw 1 theAnd 10 ≡ 2 ∷ []
+  pub dom-marks-8 : probeMarks dom 1 theAnd 8 ≡ 1 ∷ 2 ∷ []
+  pub dom-single-8 : wireMarks dom 1 theAnd 8 ≡ 1 ∷ []
+  -- the others as before
+  pub marks-22 : probeMarks isw 1 theAnd 22 ≡ 1 ∷ []
+  pub marks-6 : probeMarks isw 1 theAnd 6 ≡ 1 ∷ []
+  -- so the free share of a probe on z(2,1) is another
+  pub free-10 : freeShare (probeMarks isw) 1 theAnd (10 ∷ []) ≡ 3
+  pub single-free-10 : freeShare (wireMarks isw) 1 theAnd (10 ∷ []) ≡ 1

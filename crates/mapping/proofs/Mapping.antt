@@ -6,7 +6,6 @@ use mathlib.Core.List.{List}
 use Prim.Native.Nat.{ℕ, _≤_, _<_}
 use native.Mathlib.Omega.{arith}
 use lib.Dec.{leb}
-use borrow.Author.Tests.{leb-true}
 use lib.ListN.{length}
 use Rattle.tables.specs.declared.Answer as DA
 use Rattle.tables.specs.declared.Refusal as DR
@@ -17,8 +16,10 @@ use Rattle.tables.proofs.Answers.{refused-fails, answered-refused, answered-non
 use Rattle.masks.specs.Shares.{sharesOf}
 use Rattle.masks.specs.declared.And as DAnd
 use Rattle.masks.specs.Gadgets.{gadgetOf}
-use Rattle.masks.specs.Wires.{marks, origins, maskedTable, tapeLong}
+use Rattle.masks.specs.Wires.{maskedTable, tapeLong, probeMarks}
 use Rattle.masks.proofs.Lawful.{lawful}
+use Rattle.masks.proofs.Hiding.{hiding}
+use Rattle.masks.proofs.Passed.{plain-passed}
 use Rattle.sizing.specs.declared.Plan as DP
 use Rattle.sizing.specs.declared.Planned as DN
 use Rattle.sizing.specs.declared.Planned.the-variants as Planned
@@ -30,7 +31,7 @@ use Rattle.maps.specs.Laws.{Free}
 use Rattle.maps.specs.Says.{mapFault, MapDone}
 use Rattle.maps.proofs.Faults.{MapGood, map-good}
 use Rattle.maps.proofs.Begun.{secrets-are}
-use Rattle.maps.proofs.Free.{marks-two, few-carried, free-laws}
+use Rattle.maps.proofs.Whole.{covers-pins, free-of}
 use Rattle.rerunning.specs.Working.{WorkReady, WorkSays}
 
 -- a call that is refused; a, b and c are the lengths lent
@@ -38,7 +39,7 @@ pub map-refused :
     (A : DAnd.And) (s : List ℕ) (o : ℕ) (xs ys ts ps : List ℕ) (a b c : ℕ) {x y z : List ℕ} {r : DN.Planned} {f : DR.Refusal} {q : DA.Answer}
     → PlanSays (mapFault (gadgetOf A) s o xs ys ts ps a b c) s o r → r ≡ Planned.Refused f
     → q ≡ record { number = f .number; place = f .place; value = 0 }
-    → MapDone (mapFault (gadgetOf A) s o xs ys ts ps a b c) (gadgetOf A) (marks (gadgetOf A)) (tableOf s) o xs ys (tapeOf (tapeLong (gadgetOf A) o (tableOf s)) ts) ps
+    → MapDone (mapFault (gadgetOf A) s o xs ys ts ps a b c) (gadgetOf A) (probeMarks (gadgetOf A)) (tableOf s) o xs ys (tapeOf (tapeLong (gadgetOf A) o (tableOf s)) ts) ps
     x x y y z z q
 map-refused A s o xs ys ts ps a b c P is e =
     let R = planned-refused (planned-as P is) in
@@ -74,15 +75,14 @@ module _ (A : DAnd.And) (s : List ℕ) (o : ℕ) (xs ys ts ps : List ℕ) (a b c
   free-ready = (plan .ready, rw wires-are (probes .1))
 
   free :
-      Free (sharesOf o) (carried (marks (gadgetOf A)) (origins (gadgetOf A) o (tableOf s)) ps) (freeShare (gadgetOf A) (marks (gadgetOf A)) o (tableOf s) ps)
-  unfolding freeShare
+      Free (sharesOf o) (carried (probeMarks (gadgetOf A)) o (tableOf s) ps) (freeShare (probeMarks (gadgetOf A)) o (tableOf s) ps)
   free =
-      free-laws (sharesOf o) _
-      (few-carried (marks (gadgetOf A)) (marks-two (lawful A)) (origins (gadgetOf A) o (tableOf s)) o ps (leb-true (length ps) o (probes .0)))
+      let table = plain-passed (gadgetOf A) s o (good .plain) .plain in
+      free-of (hiding A) (tableOf s) o (covers-pins (lawful A) (tableOf s) o table) table ps (good .probes)
 
-  module _ {k : ℕ} (e : k ≡ freeShare (gadgetOf A) (marks (gadgetOf A)) (p .order) (tableOf s) ps) where
-    free-is : k ≡ freeShare (gadgetOf A) (marks (gadgetOf A)) o (tableOf s) ps
-    free-is = e ∙ ap (λ (y : ℕ). freeShare (gadgetOf A) (marks (gadgetOf A)) y (tableOf s) ps) (plan .order)
+  module _ {k : ℕ} (e : k ≡ freeShare (probeMarks (gadgetOf A)) (p .order) (tableOf s) ps) where
+    free-is : k ≡ freeShare (probeMarks (gadgetOf A)) o (tableOf s) ps
+    free-is = e ∙ ap (λ (y : ℕ). freeShare (probeMarks (gadgetOf A)) y (tableOf s) ps) (plan .order)
 
     free-few : k ≤ p .shares
     free-few = omega (arith, free-is, free .to-n, plan .ready .shares, plan .order)
@@ -111,7 +111,7 @@ module _ (A : DAnd.And) (s : List ℕ) (o : ℕ) (xs ys ts ps : List ℕ) (a b c
 
     pub map-done :
         {x x′ y y′ z z′ : List ℕ} → WorkSays (gadgetOf A) s (p .order) k xs ys ts x x′ y y′ z z′
-        → MapDone (mapFault (gadgetOf A) s o xs ys ts ps a b c) (gadgetOf A) (marks (gadgetOf A)) (tableOf s) o xs ys
+        → MapDone (mapFault (gadgetOf A) s o xs ys ts ps a b c) (gadgetOf A) (probeMarks (gadgetOf A)) (tableOf s) o xs ys
         (tapeOf (tapeLong (gadgetOf A) o (tableOf s)) ts) ps x x′ y y′ z z′
         (record { number = 0; place = 0; value = k })
     map-done W =

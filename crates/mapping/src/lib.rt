@@ -1,6 +1,6 @@
 // Mapping a tape from one secret to another: the free share of the probes, the mapped tape and both runs.
 ghost use Rattle.masks.specs.Gadgets.{gadgetOf};
-ghost use Rattle.masks.specs.Wires.{marks};
+ghost use Rattle.masks.specs.Wires.{probeMarks};
 ghost use Rattle.maps.specs.Says.{MapSays};
 
 // Maps a tape from the first secret to the second so that every probe keeps its value: the mapped tape, both runs' values, and
@@ -17,7 +17,7 @@ pub fn map_tape(
     one: &mut [u8],
     other: &mut [u8],
 ) -> tables::Answer
-    ensures { λ r. ⌜ MapSays (gadgetOf and) (marks (gadgetOf and)) (now (table .entry)) order
+    ensures { λ r. ⌜ MapSays (gadgetOf and) (probeMarks (gadgetOf and)) (now (table .entry)) order
         (now (first .entry))
         (now (second .entry))
         (now (tape .entry))

@@ -9,6 +9,7 @@ use native.Mathlib.Omega.{arith}
 use borrow.Author.Tests.{ltb-true, ltb-false, eqb-true, eqb-false, eq-eqb, ne-eqb, le-leb, lt-leb}
 use Rattle.tables.proofs.Tests.{or-false}
 use lib.Dec.{eqb, ltb, leb}
+use lib.ListN.{length}
 use Rattle.tables.specs.Refusals.{fault, none}
 use Rattle.tables.specs.Tables.{XOR, AND, CONSTANT, OR, kindOf, gate, Table, wires, tableOf}
 use Rattle.tables.specs.declared.Refusal as DR
@@ -195,16 +196,21 @@ module _ (a : DAnd.And) {s : List ℕ} {p : DP.Plan} {w : ℕ} (R : PlanReady s 
   abbrev t : Table
   t = tableOf s
 
-  -- the marks of a probe, by where its wire comes from
-  by-origin : probeMarks G (p .order) t w ≡ marks (withPins G) (originAt (origins G (p .order) t) w)
-  by-origin =
-      probe-marks (lawful a) (p .order) t (plain-passed G s (p .order) (rw (R .none a)) .plain) w (omega (arith, R .wires a)) .0
+  -- the marks of a probe, by where its wire comes from; they are two at most
+  joined-marks :
+      (probeMarks G (p .order) t w ≡ marks (withPins G) (originAt (origins G (p .order) t) w))
+      × (length (probeMarks G (p .order) t w) ≤ 2)
+  joined-marks =
+      probe-marks (lawful a) (p .order) t (plain-passed G s (p .order) (rw (R .none a)) .plain) w (omega (arith, R .wires a))
+
+  pub two-carried : length (probeMarks G (p .order) t w) ≤ 2
+  two-carried = joined-marks .1
 
   pub input-carried :
       w < p .shares * p .inputs → CarriedSays (probeMarks G (p .order) t w) (one (w % p .shares))
   input-carried h =
       let shares : p .shares * p .inputs ≡ sharesOf (p .order) * t .inputs = rw (R .shares, R .inputs) in
-      rw (R .shares, by-origin, origins-input G (p .order) t w (omega arith))
+      rw (R .shares, joined-marks .0, origins-input G (p .order) t w (omega arith))
       (record { first = add-one (w % sharesOf (p .order)); second = refl })
 
   pub new-below : {x : DW.NewWire} → NewWireSays G t (p .order) w x → x .place < cost (kindOf (x .kind)) (p .shares)
@@ -214,7 +220,7 @@ module _ (a : DAnd.And) {s : List ℕ} {p : DP.Plan} {w : ℕ} (R : PlanReady s 
       {x : DW.NewWire} {r : DC.Carried} → NewWireSays G t (p .order) w x
       → GateMarksSay (withPins G) (kindOf (x .kind)) (p .shares) (x .place) r → CarriedSays (probeMarks G (p .order) t w) r
   new-carried {x} N M =
-      rw (by-origin, N .origin) ((rw (R .shares) at M) .carried G (N .operand) (x .gate) (N .start) (N .left) (N .right))
+      rw (joined-marks .0, N .origin) ((rw (R .shares) at M) .carried G (N .operand) (x .gate) (N .start) (N .left) (N .right))
 
 -- the marks call: 1 to 8, 13, and the share numbers
 pub marks-refused :

@@ -1,7 +1,7 @@
 // The calls for C and Rust programs, under the names of include/masks.h. Each is the proved call with the same promise.
 ghost use Rattle.tables.specs.Says.{CheckSays, RunSays};
 ghost use Rattle.masks.specs.Gadgets.{isw, dom};
-ghost use Rattle.masks.specs.Wires.{marks};
+ghost use Rattle.masks.specs.Wires.{probeMarks};
 ghost use Rattle.masks.specs.Says.{ForecastSays, MaskSays, EncodeSays, DecodeSays, MarksSay};
 ghost use Rattle.maps.specs.Says.{MapSays};
 
@@ -65,7 +65,7 @@ pub extern "C" fn masks_run(
 
 #[no_mangle]
 pub extern "C" fn masks_marks_of(table: &[u8], order: u8, wire: u32) -> masks::Marks
-    ensures { λ r. ⌜ MarksSay isw (marks isw) (now (table .entry)) order wire r ⌝ }
+    ensures { λ r. ⌜ MarksSay isw (probeMarks isw) (now (table .entry)) order wire r ⌝ }
 {
     marking::wire_marks(masks::And::Isw, table, order, wire)
 }
@@ -82,7 +82,7 @@ pub extern "C" fn masks_map(
     one: &mut [u8],
     other: &mut [u8],
 ) -> tables::Answer
-    ensures { λ r. ⌜ MapSays isw (marks isw) (now (table .entry)) order
+    ensures { λ r. ⌜ MapSays isw (probeMarks isw) (now (table .entry)) order
         (now (first .entry))
         (now (second .entry))
         (now (tape .entry))
@@ -118,7 +118,7 @@ pub extern "C" fn masks_mask_dom(table: &[u8], order: u8, out: &mut [u8]) -> tab
 
 #[no_mangle]
 pub extern "C" fn masks_marks_of_dom(table: &[u8], order: u8, wire: u32) -> masks::Marks
-    ensures { λ r. ⌜ MarksSay dom (marks dom) (now (table .entry)) order wire r ⌝ }
+    ensures { λ r. ⌜ MarksSay dom (probeMarks dom) (now (table .entry)) order wire r ⌝ }
 {
     marking::wire_marks(masks::And::Dom, table, order, wire)
 }
@@ -135,7 +135,7 @@ pub extern "C" fn masks_map_dom(
     one: &mut [u8],
     other: &mut [u8],
 ) -> tables::Answer
-    ensures { λ r. ⌜ MapSays dom (marks dom) (now (table .entry)) order
+    ensures { λ r. ⌜ MapSays dom (probeMarks dom) (now (table .entry)) order
         (now (first .entry))
         (now (second .entry))
         (now (tape .entry))

@@ -10,13 +10,13 @@ use lib.ListN.{length, getD, drop, set, length-set, drop-of-length-le, replicate
 use lib.Seq.{getD-set-same, getD-set-other, drop-cons}
 use borrow.Author.Tests.{eqb-true, eqb-false}
 use Rattle.tables.specs.Tables.{tableOf}
+use Rattle.tables.specs.Runs.{ofEach}
 use Rattle.tables.proofs.Lists.{all-getD}
 use Rattle.masks.specs.Gadgets.{isIn, Gadget}
-use Rattle.masks.specs.Wires.{Origin, marks, origins}
-use Rattle.masks.specs.Says.{originAt}
+use Rattle.masks.specs.Wires.{probeMarks}
 use Rattle.sizing.specs.declared.Plan as DP
 use Rattle.sizing.specs.Plans.{PlanReady}
-use Rattle.maps.specs.Maps.{ofEach, carried, freeFrom, freeShare}
+use Rattle.maps.specs.Maps.{carried, freeFrom, freeShare}
 use Rattle.maps.specs.Claims.{allBelow}
 use Rattle.maps.proofs.Bits.{all-below}
 use Rattle.maps.proofs.Free.{free-past, free-here, isIn-join}
@@ -103,41 +103,39 @@ mark-both seen (a ∷ b ∷ []) i few h l =
     (mark-one (set seen a 1) b i (simp length-set l))
 mark-both seen (a ∷ b ∷ c ∷ ms) i few h l = absurd (omega arith)
 
--- before probe j: the numbers of the probes from j on are left to mark
-pub record Marking (mk : Origin → List ℕ) (os : List Origin) (ps seen : List ℕ) (j : ℕ) : Type 0 where
+-- before probe j: the numbers of the probes from j on are left to mark; f gives those of a probe
+pub record Marking (f : ℕ → List ℕ) (ps seen : List ℕ) (j : ℕ) : Type 0 where
   pub within : j ≤ length ps
   pub long : length seen ≡ 256
   pub rest :
       (i : ℕ) → 1 ≤ i → i < 256
-      → cond (isIn i (carried mk os (drop j ps))) 1 (getD seen i 0)
-      ≡ cond (isIn i (carried mk os ps)) 1 0
+      → cond (isIn i (ofEach f (drop j ps))) 1 (getD seen i 0) ≡ cond (isIn i (ofEach f ps)) 1 0
 
 pub marking-start :
-    (mk : Origin → List ℕ) (os : List Origin) (ps seen : List ℕ) → length seen ≡ 256 → ((i : ℕ) → i < 256 → getD seen i 0 ≡ 0)
-    → Marking mk os ps seen 0
-marking-start mk os ps seen l z =
+    (f : ℕ → List ℕ) (ps seen : List ℕ) → length seen ≡ 256 → ((i : ℕ) → i < 256 → getD seen i 0 ≡ 0) → Marking f ps seen 0
+marking-start f ps seen l z =
     record { within = omega arith; long = l; rest = λ i h k. rw (z i k) }
 
-module _ {mk : Origin → List ℕ} {os : List Origin} {ps seen : List ℕ} {j : ℕ} (M : Marking mk os ps seen j) where
+module _ {f : ℕ → List ℕ} {ps seen : List ℕ} {j : ℕ} (M : Marking f ps seen j) where
   pub marking-turn :
-      {f s : ℕ} → ((o : Origin) → length (mk o) ≤ 2) → j < length ps → f ≡ getD (mk (originAt os (getD ps j 0))) 0 0
-      → s ≡ getD (mk (originAt os (getD ps j 0))) 1 0 → Marking mk os ps (set (set seen f 1) s 1) (suc j)
+      {a b : ℕ} → length (f (getD ps j 0)) ≤ 2 → j < length ps → a ≡ getD (f (getD ps j 0)) 0 0 → b ≡ getD (f (getD ps j 0)) 1 0
+      → Marking f ps (set (set seen a 1) b 1) (suc j)
   unfolding ofEach
-  marking-turn {f} {s} two h ef es =
-      let ms = mk (originAt os (getD ps j 0)) in
-      let rest = carried mk os (drop (suc j) ps) in
-      let next : carried mk os (drop j ps) ≡ ms ++ rest = rw (drop-cons ps j 0 h) in
+  marking-turn {a} {b} two h ea eb =
+      let ms = f (getD ps j 0) in
+      let rest = ofEach f (drop (suc j) ps) in
+      let next : ofEach f (drop j ps) ≡ ms ++ rest = rw (drop-cons ps j 0 h) in
       record {
         within = omega arith;
         long = simp length-set (M .long);
         rest = λ i l k.
-            let all : ℕ = cond (isIn i (carried mk os ps)) 1 0 in
+            let all : ℕ = cond (isIn i (ofEach f ps)) 1 0 in
             let before : cond (isIn i (ms ++ rest)) 1 (getD seen i 0) ≡ all = rw next at (M .rest i l k) in
-            let both = mark-both seen ms i (two (originAt os (getD ps j 0))) l (omega (arith, M .long)) in
-            rw (ef, es, both, ← cond-or (isIn i ms) (isIn i rest) (getD seen i 0), ← isIn-join i ms rest) before;
+            let both = mark-both seen ms i two l (omega (arith, M .long)) in
+            rw (ea, eb, both, ← cond-or (isIn i ms) (isIn i rest) (getD seen i 0), ← isIn-join i ms rest) before;
       }
 
-  pub marking-end : length ps ≤ j → Seen (carried mk os ps) seen
+  pub marking-end : length ps ≤ j → Seen (ofEach f ps) seen
   unfolding ofEach
   marking-end h =
       record {
@@ -159,8 +157,8 @@ mark-ready ps w h =
 -- what is found in the numbers that the probes carry is the free share
 pub free-share-is :
     (G : Gadget) {s : List ℕ} {p : DP.Plan} (ps : List ℕ) {seen : List ℕ} {r : ℕ} → PlanReady s p
-    → Seen (carried (marks G) (origins G (p .order) (tableOf s)) ps) seen
+    → Seen (carried (probeMarks G) (p .order) (tableOf s) ps) seen
     → ((cs : List ℕ) → Seen cs seen → r ≡ freeFrom (p .shares) 1 cs)
-    → r ≡ freeShare G (marks G) (p .order) (tableOf s) ps
+    → r ≡ freeShare (probeMarks G) (p .order) (tableOf s) ps
 unfolding freeShare
 free-share-is G ps R S f = rw (R .shares) at (f _ S)

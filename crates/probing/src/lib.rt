@@ -5,7 +5,7 @@ ghost use mathlib.Core.Bool.{true};
 ghost use mathlib.Core.List.{List};
 ghost use Rattle.tables.specs.Tables.{tableOf};
 ghost use Rattle.masks.specs.Gadgets.{gadgetOf};
-ghost use Rattle.masks.specs.Wires.{marks, origins};
+ghost use Rattle.masks.specs.Wires.{probeMarks};
 ghost use Rattle.sizing.specs.Plans.{PlanReady};
 ghost use Rattle.maps.specs.Maps.{carried, freeFrom, freeShare};
 ghost use Rattle.maps.specs.Claims.{allBelow};
@@ -30,7 +30,7 @@ fn free_of(seen: &[u8; 256], n: usize) -> usize
 fn mark_probes(and: masks::And, table: &[u8], p: sizing::Plan, probes: &[u32], seen: &mut [u8; 256])
     requires { ⌜ PlanReady (now table) p × MarkReady (now probes) (p .wires) (now seen) ⌝ }
     ensures { λ _. ⌜ Seen
-        (carried (marks (gadgetOf and)) (origins (gadgetOf and) (p .order) (tableOf (now (table .entry)))) (now (probes .entry)))
+        (carried (probeMarks (gadgetOf and)) (p .order) (tableOf (now (table .entry))) (now (probes .entry)))
         (now (seen .exit)) ⌝ }
 {
     let mut j = 0;
@@ -47,7 +47,7 @@ fn mark_probes(and: masks::And, table: &[u8], p: sizing::Plan, probes: &[u32], s
 // The smallest share number that no probe carries.
 pub fn free_share(and: masks::And, table: &[u8], p: sizing::Plan, probes: &[u32]) -> usize
     requires { ⌜ PlanReady (now table) p × (allBelow (p .wires) (now probes) ≡ true) ⌝ }
-    ensures { λ r. ⌜ r ≡ freeShare (gadgetOf and) (marks (gadgetOf and)) (p .order) (tableOf (now (table .entry))) (now (probes .entry)) ⌝ }
+    ensures { λ r. ⌜ r ≡ freeShare (probeMarks (gadgetOf and)) (p .order) (tableOf (now (table .entry))) (now (probes .entry)) ⌝ }
 {
     let mut seen = [0u8; 256];
     mark_probes(and, table, p, probes, &mut seen);

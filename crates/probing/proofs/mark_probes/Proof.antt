@@ -6,9 +6,8 @@ use native.Mathlib.Omega.{arith}
 use lib.ListN.{length}
 use Rattle.tables.specs.Tables.{tableOf}
 use Rattle.masks.specs.Gadgets.{gadgetOf}
-use Rattle.masks.specs.Wires.{marks, origins}
-use Rattle.masks.proofs.Lawful.{lawful}
-use Rattle.maps.proofs.Free.{marks-two}
+use Rattle.masks.specs.Wires.{probeMarks}
+use Rattle.marking.proofs.Carrying.{two-carried}
 use Rattle.probing.proofs.Seeing.{probe-below, Marking, marking-start, marking-turn, marking-end}
 use borrow.Author.Needs.{needs}
 use Rattle.probing.proofs.mark_probes.Statement.{statement}
@@ -16,7 +15,7 @@ use Rattle.probing.proofs.mark_probes.Tie as tie
 
 abbrev Inv-loop : tie.InvT-loop
 Inv-loop and table p probes seen₀ j₀ seen j =
-    Marking (marks (gadgetOf and)) (origins (gadgetOf and) (p .order) (tableOf table)) probes seen j
+    Marking (probeMarks (gadgetOf and) (p .order) (tableOf table)) probes seen j
 
 abbrev μ-loop : tie.MeasureT-loop
 μ-loop and table p probes seen₀ j₀ seen j = length probes - j
@@ -24,7 +23,7 @@ abbrev μ-loop : tie.MeasureT-loop
 loop-holds : tie.Need-loop-holds Inv-loop μ-loop
 loop-holds c =
     let ready = c .before .before .pre .1 in
-    marking-start _ _ _ _ (ready .long) (ready .none)
+    marking-start _ _ _ (ready .long) (ready .none)
 
 mul-marks-at : tie.Need-mul-marks-at Inv-loop μ-loop
 mul-marks-at c = search needs
@@ -60,10 +59,11 @@ loop-less c = search needs
 
 loop-again : tie.Need-loop-again Inv-loop μ-loop
 loop-again c =
+    let start = c .before .before .before .before .before .before .before .before in
+    let some = c .before .before .before .before .loop-test .taken in
     rw add-one (marking-turn (c .before .before .before .before .before .loop .inv)
-    (marks-two (lawful (c .before .before .before .before .before .before .before .before .args .and)))
-    (c .before .before .before .before .loop-test .taken) (c .before .before .marks-at .ensures .first)
-    (c .before .before .marks-at .ensures .second))
+    (two-carried (start .args .and) (start .pre .0) (probe-below (start .pre .1) some)) some
+    (c .before .before .marks-at .ensures .first) (c .before .before .marks-at .ensures .second))
 
 returns : tie.Need-returns Inv-loop μ-loop
 returns c = marking-end (c .before .loop .inv) (c .loop-test .left)
