@@ -101,4 +101,7 @@ m-cases =
       marks-6 = refl;
       free-10 = refl;
       single-free-10 = refl;
+      pins-10 = refl;
+      single-pins-10 = refl;
+      joined-pins-10 = refl;
     }

@@ -8,7 +8,7 @@ use Prim.Native.Nat.{ℕ, _-_}
 use lib.ListN.{getD, take, drop}
 use Rattle.tables.specs.Refusals.{Fault, none, fault}
 use Rattle.tables.specs.Tables.{gate, NOT, XOR, AND, RANDOM, Table, tableOf, tableFault}
-use Rattle.tables.specs.Runs.{outputsOf, probeReads}
+use Rattle.tables.specs.Runs.{readAll, outputsOf, probeReads}
 use Rattle.tables.specs.Packing.{packed, tapeOf}
 use Rattle.masks.specs.Shares.{sharesOf, tri}
 use Rattle.masks.specs.Gadgets.{isw, dom}
@@ -62,6 +62,15 @@ readsAt w = probeReads (maskedTable isw 1 theAnd) w
 
 abbrev pub tapeTo : List ℕ → List ℕ → List ℕ
 tapeTo ys ps = mapped isw (probeMarks isw) 1 theAnd secrets ys tape ps
+
+-- what a probe on wire 10 reads after the map from secrets 1 1 to 1 0, of another tape, by the marks mk
+abbrev pub pinTape : List ℕ
+pinTape = 1 ∷ 1 ∷ 0 ∷ 1 ∷ 1 ∷ 0 ∷ 1 ∷ []
+
+abbrev pub pinsAfter : (ℕ → Table → ℕ → List ℕ) → List ℕ
+pinsAfter mk =
+    let ys : List ℕ = 1 ∷ 0 ∷ [] in
+    readAll (valuesOf ys (mapped isw mk 1 theAnd secrets ys pinTape (10 ∷ []))) (readsAt 10)
 
 -- "The tape 1 0 0 1 1 0 1 becomes the byte 59 in hexadecimal"
 abbrev pub tapeByte : List ℕ
@@ -178,3 +187,7 @@ pub record MCases : Type 0 where
   -- so the free share of a probe on z(2,1) is another
   pub free-10 : freeShare (probeMarks isw) 1 theAnd (10 ∷ []) ≡ 3
   pub single-free-10 : freeShare (wireMarks isw) 1 theAnd (10 ∷ []) ≡ 1
+  -- with the marks of single wires, the map to secrets 1 0 keeps z(2,1) and changes its pins; with joined marks it keeps all three
+  pub pins-10 : readAll (valuesOf secrets pinTape) (readsAt 10) ≡ 0 ∷ 0 ∷ 0 ∷ []
+  pub single-pins-10 : pinsAfter (wireMarks isw) ≡ 0 ∷ 1 ∷ 1 ∷ []
+  pub joined-pins-10 : pinsAfter (probeMarks isw) ≡ 0 ∷ 0 ∷ 0 ∷ []

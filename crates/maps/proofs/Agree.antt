@@ -7,25 +7,25 @@ use mathlib.Core.List.{List, [], _∷_, _++_, map, map-append}
 use Prim.Native.Nat.{ℕ, zero, suc, _+_, _-_, _*_, _≤_, _<_}
 use native.Mathlib.Omega.{arith}
 use lib.Dec.{eqb}
-use lib.ListN.{length, getD, drop, length-append, length-map, length-drop, List·getD-append}
+use lib.ListN.{length, getD, drop, length-map, length-drop, List·getD-append}
 use lib.Seq.{getD-append-add}
 use borrow.Author.Tests.{ne-eqb}
 use Rattle.tables.specs.Tables.{Kind, NOT, XOR, AND, RANDOM, CONSTANT, OR, UNKNOWN, Gate, gate, operandsOf, total}
 use Rattle.tables.specs.Runs.{xor, randoms}
 use Rattle.tables.proofs.Tests.{or-intro}
-use Rattle.tables.proofs.Lists.{All, all-append, all-getD}
-use Rattle.tables.proofs.Run.{Solves, solves-append, OfLeft, OfRight, read-left, read-right}
-use Rattle.tables.proofs.Accept.{PlainGate, PlainGates, plain-reads}
-use Rattle.masks.specs.Shares.{upFrom, inTurn, Pair, pairOf, pairs, tri, pairAt}
-use Rattle.masks.specs.Gadgets.{isIn, Five, first, second, third, fourth, fifth, allFive, indexOf, Gadget}
+use Rattle.tables.proofs.Lists.{All, all-getD}
+use Rattle.tables.proofs.Run.{Solves, solves-append, OfLeft, OfRight}
+use Rattle.tables.proofs.Accept.{PlainGate, PlainGates}
+use Rattle.masks.specs.Shares.{upFrom, Pair, pairOf, pairs, tri, pairAt}
+use Rattle.masks.specs.Gadgets.{isIn, Five, Gadget}
 use Rattle.masks.specs.Wires.{Part, pair, own, sum, inAnd, lastNot, Origin, andPart, xorShare, constantShare, orPart, partMarks}
-use Rattle.masks.specs.Wires.{marks, Wire, wire, driverOf, share, firstOn, adding, pairWires, rowWires, pairWire, andWires, andShares}
+use Rattle.masks.specs.Wires.{marks, Wire, wire, driverOf, share, firstOn, adding, rowWires, pairWire, andWires, andShares}
 use Rattle.masks.specs.Wires.{andCost, newWires, newShares, cost, draws, masked, sharesAfter}
 use Rattle.masks.proofs.Sum.{up-length, up-at}
 use Rattle.masks.proofs.Rows.{pairs-length, pairs-in, pair-at, row-length, row-all}
-use Rattle.masks.proofs.Each.{Each, each-append, each-at, each-in-turn, each-up, each-rows, in-turn-length}
+use Rattle.masks.proofs.Each.{Each, each-append, each-at, each-up}
 use Rattle.masks.proofs.Lawful.{Lawful}
-use Rattle.masks.proofs.Costs.{adding-length, pairs-span, rows-span, and-length, orAnd, new-length, new-draws}
+use Rattle.masks.proofs.Costs.{adding-length, and-length, orAnd, new-length, new-draws}
 use Rattle.masks.proofs.Shares.{share-values, or-solves}
 use Rattle.masks.proofs.Products.{rowTerms, fiveWire, each-five, each-and, and-pair, and-row}
 use Rattle.masks.proofs.Placed.{drop-share}

@@ -14,12 +14,11 @@ use Rattle.tables.specs.Runs.{run, runFrom, Bits}
 use Rattle.tables.proofs.Tests.{and-true}
 use Rattle.tables.proofs.Lists.{bits-take, bits-drop}
 use Rattle.tables.proofs.Run.{Solves, run-length, run-keep, run-solves, run-bits}
-use Rattle.tables.proofs.Accept.{PlainGates, Plain}
+use Rattle.tables.proofs.Accept.{Plain}
 use Rattle.masks.specs.Shares.{sharesOf}
 use Rattle.masks.specs.Gadgets.{Gadget}
-use Rattle.masks.specs.Wires.{driverOf, inputShares, draws, maskedWires, maskedTable, tapeLong}
+use Rattle.masks.specs.Wires.{driverOf, draws, maskedWires, maskedTable, tapeLong}
 use Rattle.masks.specs.Codes.{encode, maskedRun}
-use Rattle.masks.proofs.Sum.{up-length}
 use Rattle.masks.proofs.Lawful.{Lawful}
 use Rattle.masks.proofs.Costs.{masked-tape}
 use Rattle.masks.proofs.Placed.{masked-earlier}

@@ -6,7 +6,7 @@ use mathlib.Core.List.{List, [], _∷_, _++_, map, map-append}
 use Prim.Native.Nat.{ℕ, zero, suc, _+_, _-_, _≤_, _<_}
 use native.Mathlib.Omega.{arith}
 use lib.ListN.{length, getD, take, drop, length-append, length-map, length-drop, take-append-drop}
-use lib.Seq.{length-take-le, take-at, drop-at, getD-drop}
+use lib.Seq.{length-take-le, take-at, drop-at}
 use Rattle.tables.specs.Tables.{Kind, NOT, XOR, AND, RANDOM, CONSTANT, OR, UNKNOWN, Gate, operandsOf, total}
 use Rattle.tables.specs.Runs.{runFrom, randoms}
 use Rattle.tables.proofs.Lists.{All, all-map}

@@ -2,7 +2,7 @@
 -- Assumes nothing.
 use mathlib.Core.Path.{_≡_, refl, sym, ap, _∙_, subst}
 use mathlib.Core.Bool.{true, _&&_}
-use mathlib.Core.List.{List, map}
+use mathlib.Core.List.{List}
 use Prim.Native.Nat.{ℕ, _<_}
 use native.Mathlib.Omega.{arith}
 use borrow.Author.Tests.{eqb-true, eq-eqb}
@@ -89,38 +89,38 @@ packs =
 module _
     {G : Gadget} {mk : ℕ → Table → ℕ → List ℕ} {rd : Table → ℕ → List ℕ} {t : Table} {o : ℕ} (H : Hides G mk rd t o)
   where
-  abbrev l : ℕ
-  l = tapeLong G o t
+    abbrev l : ℕ
+    l = tapeLong G o t
 
-  held : (s : List ℕ) → isPacked l s ≡ true → isTape G o t (tapeOf l s) ≡ true
-  held s h = of-bits G o t (tapeOf l s) (tape-held l s h)
+    held : (s : List ℕ) → isPacked l s ≡ true → isTape G o t (tapeOf l s) ≡ true
+    held s h = of-bits G o t (tapeOf l s) (tape-held l s h)
 
-  to :
-      (xs ys s ps : List ℕ) → areSecrets t xs ≡ true → areSecrets t ys ≡ true → isPacked l s ≡ true
-      → areProbes G o t ps ≡ true → BitsOf l (mapped G mk o t xs ys (tapeOf l s) ps)
-  to xs ys s ps hx hy h hp = bits-of G o t (mapped G mk o t xs ys (tapeOf l s) ps) (H .a-tape xs ys (tapeOf l s) ps hx hy (held s h) hp)
+    to :
+        (xs ys s ps : List ℕ) → areSecrets t xs ≡ true → areSecrets t ys ≡ true → isPacked l s ≡ true
+        → areProbes G o t ps ≡ true → BitsOf l (mapped G mk o t xs ys (tapeOf l s) ps)
+    to xs ys s ps hx hy h hp = bits-of G o t (mapped G mk o t xs ys (tapeOf l s) ps) (H .a-tape xs ys (tapeOf l s) ps hx hy (held s h) hp)
 
-  -- as many packed tapes as tapes of bits give a pattern
-  times-packed :
-      (xs ps pattern : List ℕ)
-      → howMany (λ s. same (readAll (maskedRun G o t xs (tapeOf l s)) (readBy G rd o t ps)) pattern) (allPacked l)
-      ≡ howMany (λ bs. same (readAll (maskedRun G o t xs bs) (readBy G rd o t ps)) pattern) (allTapes l)
-  times-packed xs ps pattern =
-      many-map _ packed (allTapes l)
-      ∙ many-on l _ _
-      (λ bs b. ap (λ (us : List ℕ). same (readAll (maskedRun G o t xs us) (readBy G rd o t ps)) pattern) (tape-again l bs b))
+    -- as many packed tapes as tapes of bits give a pattern
+    times-packed :
+        (xs ps pattern : List ℕ)
+        → howMany (λ s. same (readAll (maskedRun G o t xs (tapeOf l s)) (readBy G rd o t ps)) pattern) (allPacked l)
+        ≡ howMany (λ bs. same (readAll (maskedRun G o t xs bs) (readBy G rd o t ps)) pattern) (allTapes l)
+    times-packed xs ps pattern =
+        many-map _ packed (allTapes l)
+        ∙ many-on l _ _
+        (λ bs b. ap (λ (us : List ℕ). same (readAll (maskedRun G o t xs us) (readBy G rd o t ps)) pattern) (tape-again l bs b))
 
-  pub hides-packed : HidesPacked G mk rd t o
-  hides-packed =
-      record {
-        a-tape = λ xs ys s ps hx hy h hp. packed-accepted l _ (to xs ys s ps hx hy h hp);
-        back = λ xs ys s ps hx hy h hp.
-            ap (λ (us : List ℕ). packed (mapped G mk o t ys xs us ps)) (tape-again l _ (to xs ys s ps hx hy h hp))
-            ∙ ap packed (H .back xs ys (tapeOf l s) ps hx hy (held s h) hp)
-            ∙ packed-held l s h;
-        same-read = λ xs ys s ps hx hy h hp.
-            ap (λ (us : List ℕ). readAll (maskedRun G o t ys us) (readBy G rd o t ps)) (tape-again l _ (to xs ys s ps hx hy h hp))
-            ∙ H .same-read xs ys (tapeOf l s) ps hx hy (held s h) hp;
-        as-many = λ xs ys ps pattern hx hy hp.
-            times-packed xs ps pattern ∙ H .as-many xs ys ps pattern hx hy hp ∙ sym (times-packed ys ps pattern);
-      }
+    pub hides-packed : HidesPacked G mk rd t o
+    hides-packed =
+        record {
+          a-tape = λ xs ys s ps hx hy h hp. packed-accepted l _ (to xs ys s ps hx hy h hp);
+          back = λ xs ys s ps hx hy h hp.
+              ap (λ (us : List ℕ). packed (mapped G mk o t ys xs us ps)) (tape-again l _ (to xs ys s ps hx hy h hp))
+              ∙ ap packed (H .back xs ys (tapeOf l s) ps hx hy (held s h) hp)
+              ∙ packed-held l s h;
+          same-read = λ xs ys s ps hx hy h hp.
+              ap (λ (us : List ℕ). readAll (maskedRun G o t ys us) (readBy G rd o t ps)) (tape-again l _ (to xs ys s ps hx hy h hp))
+              ∙ H .same-read xs ys (tapeOf l s) ps hx hy (held s h) hp;
+          as-many = λ xs ys ps pattern hx hy hp.
+              times-packed xs ps pattern ∙ H .as-many xs ys ps pattern hx hy hp ∙ sym (times-packed ys ps pattern);
+        }

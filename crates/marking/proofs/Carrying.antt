@@ -6,7 +6,7 @@ use mathlib.Core.List.{List, [], _∷_}
 use Prim.Native.Nat.{ℕ, zero, suc, _+_, _-_, _*_, _%_, _≤_, _<_}
 use native.Mathlib.Numerals.{add-one}
 use native.Mathlib.Omega.{arith}
-use borrow.Author.Tests.{ltb-true, ltb-false, eqb-true, eqb-false, eq-eqb, ne-eqb, le-leb, lt-leb}
+use borrow.Author.Tests.{ltb-true, ltb-false, eqb-true, eqb-false, le-leb, lt-leb}
 use Rattle.tables.proofs.Tests.{or-false}
 use lib.Dec.{eqb, ltb, leb}
 use lib.ListN.{length}
@@ -71,7 +71,7 @@ module _
     marks-are =
         let among = pair-among f i j e A in
         rw e
-        (F .marks (suc i) (suc j) (fiveOf f) (omega arith) ∙ ap (formMarks r (suc i) (suc j)) (index-five f (among .0)))
+        (F .marks (suc i) (suc j) (omega arith) (fiveOf f) ∙ ap (formMarks r (suc i) (suc j)) (index-five f (among .0)))
 
     -- the first one, where row i adds it
     pub alone-marks : eqb f 0 && eqb f (r .low) ≡ true → PartMarksSay (withPins G) p (one i)

@@ -1,15 +1,16 @@
--- Runs of masked tables at order 1, computed: an AND, and two ANDs; and the DOM AND, gate by gate. A construction that only decodes
--- well has other values.
+-- Runs of masked tables at order 1, computed: an AND, and two ANDs; the DOM AND, gate by gate; and the marks of probes whose pins
+-- carry more than their wires. A construction that only decodes well has other values.
 -- Assumes nothing.
 use mathlib.Core.Path.{_≡_, refl}
 use mathlib.Core.List.{List, [], _∷_}
 use Prim.Native.Nat.{ℕ}
 use lib.ListN.{take, drop}
 use Rattle.tables.specs.Tables.{XOR, AND, RANDOM, Gate, gate, Table, total}
-use Rattle.tables.specs.Runs.{run, runFrom, readAll}
+use Rattle.tables.specs.Runs.{run, runFrom, readAll, ofEach}
 use Rattle.masks.specs.Shares.{upFrom, inTurn, pairsFrom, tri, pairAt, row}
 use Rattle.masks.specs.Gadgets.{isw, dom}
-use Rattle.masks.specs.Wires.{adding, andWires, masked, sharesAfter, outputShares, maskedTable}
+use Rattle.masks.specs.Wires.{adding, andWires, inputOrigins, masked, sharesAfter, outputShares, maskedTable, origins}
+use Rattle.masks.specs.Wires.{insert, joined, probeMarks}
 use Rattle.masks.specs.Codes.{xorAll, encode, maskedRun}
 
 -- a table of so many inputs, gates and outputs
@@ -61,3 +62,11 @@ dom-rows :
     × (t .outputs ≡ 23 ∷ 26 ∷ 29 ∷ [])
 unfolding upFrom inTurn pairsFrom tri pairAt row adding andWires masked sharesAfter outputShares maskedTable
 dom-rows = (refl, refl)
+
+-- "A probe on z(j,i) then carries {i,j}" (Card 9): z(2,1), and the third wire of shares 1 and 2 in the DOM AND
+pins-carry :
+    let t = table 2 (gate AND 0 1 ∷ []) (2 ∷ []) in
+    (probeMarks isw 1 t 10 ≡ 1 ∷ 2 ∷ []) × (probeMarks dom 1 t 8 ≡ 1 ∷ 2 ∷ [])
+unfolding ofEach upFrom inTurn pairsFrom tri pairAt row adding andWires inputOrigins masked sharesAfter outputShares maskedTable
+    origins insert joined probeMarks
+pins-carry = (refl, refl)

@@ -2,20 +2,19 @@
 -- Assumes nothing.
 use mathlib.Core.Path.{_≡_, refl, sym, ap, _∙_}
 use mathlib.Core.Bool.{Bool, true, false, _&&_, cond}
-use mathlib.Core.List.{List, [], _∷_}
+use mathlib.Core.List.{[], _∷_}
 use Prim.Native.Nat.{ℕ, _+_, _-_, _*_, _≤_, _<_}
 use native.Mathlib.Omega.{arith}
-use lib.Dec.{eqb}
+use lib.Dec.{eqb, ltb}
 use lib.ListN.{length}
-use borrow.Author.Tests.{eqb-true, eq-eqb, ne-eqb}
-use Rattle.tables.specs.Tables.{XOR, AND, RANDOM, Gate, gate}
+use borrow.Author.Tests.{eqb-true, eq-eqb, ne-eqb, lt-ltb, le-ltb}
 use Rattle.tables.specs.Runs.{xor, ofEach}
 use Rattle.masks.specs.declared.PairForm as DF
 use Rattle.masks.specs.declared.And as DAnd
 use Rattle.masks.specs.declared.And.the-variants.{Isw, Dom}
 use Rattle.masks.specs.Gadgets.{Five, first, second, third, fourth, fifth, indexOf, Gadget, isw, dom, gadgetOf}
 use Rattle.masks.specs.Forms.{withPins, formMarks, formFlip, FormSays}
-use Rattle.masks.proofs.Joined.{joined-two}
+use Rattle.masks.specs.Wires.{joined, insert}
 
 pub index-below : (f : Five) → indexOf f < 5
 index-below first = omega arith
@@ -33,22 +32,41 @@ iswForm = record { third = record { left = 0; right = 1 }; fifth = record { left
 abbrev pub domForm : DF.PairForm
 domForm = record { third = record { left = 1; right = 0 }; fifth = record { left = 3; right = 0 }; low = 2; high = 4; both = 0 }
 
--- the marks of a probe: what its wire and its pins carry, share i or (true) share j, joined
-pub isw-marks : (i j : ℕ) (f : Five) → i < j → withPins isw .marks i j f ≡ formMarks iswForm i j (indexOf f)
-unfolding ofEach
-isw-marks i j first h = joined-two i j h (false ∷ [])
-isw-marks i j second h = joined-two i j h (false ∷ true ∷ false ∷ true ∷ [])
-isw-marks i j third h = joined-two i j h (false ∷ true ∷ false ∷ false ∷ true ∷ [])
-isw-marks i j fourth h = joined-two i j h (false ∷ true ∷ true ∷ false ∷ [])
-isw-marks i j fifth h = joined-two i j h (true ∷ false ∷ true ∷ false ∷ true ∷ [])
+-- the marks of a probe on a wire of a pair i < j: what the wire and its pins carry, joined
+module _ (i j : ℕ) (h : i < j) where
+  same-i : eqb i i ≡ true
+  same-i = eq-eqb i i refl
 
-pub dom-marks : (i j : ℕ) (f : Five) → i < j → withPins dom .marks i j f ≡ formMarks domForm i j (indexOf f)
-unfolding ofEach
-dom-marks i j first h = joined-two i j h (false ∷ true ∷ [])
-dom-marks i j second h = joined-two i j h (false ∷ true ∷ false ∷ true ∷ [])
-dom-marks i j third h = joined-two i j h (false ∷ false ∷ true ∷ false ∷ true ∷ [])
-dom-marks i j fourth h = joined-two i j h (false ∷ true ∷ true ∷ false ∷ [])
-dom-marks i j fifth h = joined-two i j h (true ∷ false ∷ true ∷ false ∷ true ∷ [])
+  same-j : eqb j j ≡ true
+  same-j = eq-eqb j j refl
+
+  other-i : eqb i j ≡ false
+  other-i = ne-eqb i j (λ e. omega arith)
+
+  other-j : eqb j i ≡ false
+  other-j = ne-eqb j i (λ e. omega arith)
+
+  lower : ltb i j ≡ true
+  lower = lt-ltb i j h
+
+  upper : ltb j i ≡ false
+  upper = le-ltb j i (omega arith)
+
+  pub isw-marks : (f : Five) → withPins isw .marks i j f ≡ formMarks iswForm i j (indexOf f)
+  unfolding ofEach joined insert
+  isw-marks first = refl
+  isw-marks second = simp (same-i, same-j, other-i, other-j, lower, upper)
+  isw-marks third = simp (same-i, same-j, other-i, other-j, lower, upper)
+  isw-marks fourth = simp (same-i, same-j, other-i, other-j, lower, upper)
+  isw-marks fifth = simp (same-i, same-j, other-i, other-j, lower, upper)
+
+  pub dom-marks : (f : Five) → withPins dom .marks i j f ≡ formMarks domForm i j (indexOf f)
+  unfolding ofEach joined insert
+  dom-marks first = simp (same-i, same-j, other-i, other-j, lower, upper)
+  dom-marks second = simp (same-i, same-j, other-i, other-j, lower, upper)
+  dom-marks third = simp (same-i, same-j, other-i, other-j, lower, upper)
+  dom-marks fourth = simp (same-i, same-j, other-i, other-j, lower, upper)
+  dom-marks fifth = simp (same-i, same-j, other-i, other-j, lower, upper)
 
 -- one share number, or two
 pub form-few : (r : DF.PairForm) (i j f : ℕ) → length (formMarks r i j f) ≤ 2

@@ -1,7 +1,7 @@
 -- What a gadget must satisfy for its masked AND to compute. Facts about rows, shares and tables are proved of every such
 -- gadget; another AND enters by its laws alone.
 -- Assumes nothing.
-use mathlib.Core.Path.{_≡_, refl, sym, ap, _∙_}
+use mathlib.Core.Path.{_≡_, refl, ap, _∙_}
 use mathlib.Core.List.{List, [], _∷_, map}
 use Prim.Native.Nat.{ℕ, suc, _+_, _*_, _%_, _≤_, _<_}
 use native.Mathlib.Omega.{arith}
@@ -45,7 +45,7 @@ pub record Lawful (G : Gadget) : Type 0 where
       → ((f : Five) → M (w + indexOf f) ≡ G .marks i j f) → (f : Five)
       → ofEach M ((w + indexOf f) ∷ pins (G .gates w ai bj aj bi f)) ≡ pairCarried G i j f
   -- it is still two shares at most
-  pub few-joined : (i j : ℕ) (f : Five) → i < j → length (withPins G .marks i j f) ≤ 2
+  pub few-joined : (i j : ℕ) → i < j → (f : Five) → length (withPins G .marks i j f) ≤ 2
 
 -- the gates of a pair where the third wire is l ⊕ r and the fifth is l′ ⊕ r′
 abbrev pub pairOn : ℕ → ℕ → ℕ → ℕ → ℕ → ℕ → ℕ → ℕ → List Gate
@@ -176,7 +176,7 @@ isw-lawful =
       low-mark = λ i j. refl;
       high-mark = λ i j. refl;
       carries = isw-carries;
-      few-joined = λ i j f h. rw (isw-marks i j f h) (form-few iswForm i j (indexOf f));
+      few-joined = λ i j h f. rw (isw-marks i j h f) (form-few iswForm i j (indexOf f));
     }
 
 -- that of source document 002
@@ -193,7 +193,7 @@ dom-lawful =
       low-mark = λ i j. refl;
       high-mark = λ i j. refl;
       carries = dom-carries;
-      few-joined = λ i j f h. rw (dom-marks i j f h) (form-few domForm i j (indexOf f));
+      few-joined = λ i j h f. rw (dom-marks i j h f) (form-few domForm i j (indexOf f));
     }
 
 -- every AND that there is

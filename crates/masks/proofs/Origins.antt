@@ -8,7 +8,7 @@ use native.Mathlib.Nat.{zero-add, mod-lt, div-add-mod, div-lt-iff-lt-mul, mul-le
 use native.Mathlib.Omega.{arith}
 use lib.ListN.{length, getD, length-map, List·getD-append, List·getD-map}
 use lib.Seq.{getD-append-add}
-use Rattle.tables.specs.Tables.{NOT, AND, OR, Gate, gate, Table}
+use Rattle.tables.specs.Tables.{NOT, OR, Gate, gate, Table}
 use Rattle.masks.specs.Shares.{sharesOf, upFrom, inTurn, pairOf, pairs, tri, row}
 use Rattle.masks.specs.Gadgets.{Gadget, Five, first, second, third, fourth, fifth, indexOf}
 use Rattle.masks.specs.Wires.{Part, pair, own, sum, inAnd, lastNot, Origin, inputShare, notOf, orPart, marks, Wire, wire, originOf}

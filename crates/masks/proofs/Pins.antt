@@ -3,32 +3,30 @@
 -- Assumes nothing.
 use mathlib.Core.Path.{_≡_, refl, sym, ap, _∙_, subst}
 use mathlib.Core.Bool.{Bool, true, false, cond}
-use mathlib.Core.List.{List, [], _∷_, _++_, map}
-use Prim.Native.Nat.{ℕ, zero, suc, _+_, _-_, _*_, _/_, _%_, _≤_, _<_}
-use native.Mathlib.Nat.{mod-lt}
+use mathlib.Core.List.{List, [], _∷_, map}
+use Prim.Native.Nat.{ℕ, zero, suc, _+_, _-_, _*_, _%_, _≤_, _<_}
 use native.Mathlib.Omega.{arith}
-use lib.Dec.{eqb, ltb}
-use lib.ListN.{length, getD, drop, length-map, List·getD-map}
-use lib.Seq.{getD-append-add}
+use lib.Dec.{ltb}
+use lib.ListN.{length, getD, length-map, List·getD-map}
 use borrow.Author.Tests.{ltb-true, ltb-false}
 use Rattle.tables.specs.Tables.{Kind, NOT, XOR, AND, RANDOM, CONSTANT, OR, UNKNOWN, Gate, gate, noGate, Table, wires, operandsOf, pins, total}
-use Rattle.tables.specs.Runs.{ofEach, probeReads}
+use Rattle.tables.specs.Runs.{ofEach}
 use Rattle.tables.proofs.Lists.{All, all-getD}
 use Rattle.tables.proofs.Run.{OfLeft, OfRight}
 use Rattle.tables.proofs.Accept.{Plain, PlainGate, PlainGates}
-use Rattle.masks.specs.Shares.{sharesOf, upFrom, inTurn, Pair, pairOf, pairs, tri, pairAt}
+use Rattle.masks.specs.Shares.{sharesOf, upFrom, Pair, pairOf, pairs, tri}
 use Rattle.masks.specs.Gadgets.{Five, indexOf, Gadget}
 use Rattle.masks.specs.Forms.{withPins}
-use Rattle.masks.specs.Wires.{Part, pair, own, sum, inAnd, leftNot, rightNot, lastNot, Origin, inputShare, andPart, xorShare, constantShare}
-use Rattle.masks.specs.Wires.{orPart, partMarks, marks, Wire, wire, driverOf, originOf, share, firstOn, adding, pairWires, rowWires}
+use Rattle.masks.specs.Wires.{Part, pair, own, sum, inAnd, lastNot, Origin, andPart, xorShare, constantShare}
+use Rattle.masks.specs.Wires.{orPart, partMarks, marks, Wire, wire, driverOf, originOf, share, firstOn, adding, rowWires}
 use Rattle.masks.specs.Wires.{pairWire, andWires, andShares, andCost, newWires, newShares, cost, masked, inputShares, maskedWires}
 use Rattle.masks.specs.Wires.{maskedTable, origins, originAt, wireMarks, joined, probeMarks}
-use Rattle.masks.proofs.Sum.{up-length, up-at, up-all}
+use Rattle.masks.proofs.Sum.{up-at, up-all}
 use Rattle.masks.proofs.Rows.{pairs-length, pairs-in, pair-at, row-length, row-all}
 use Rattle.masks.proofs.Each.{Each, each-append, each-at, each-up}
 use Rattle.masks.proofs.Joined.{alone-joined}
 use Rattle.masks.proofs.Lawful.{Lawful}
-use Rattle.masks.proofs.Costs.{adding-length, and-length, orAnd, new-length, masked-length, masked-wires, input-origins-length}
+use Rattle.masks.proofs.Costs.{and-length, orAnd}
 use Rattle.masks.proofs.Origins.{noWire, origin-map, origins-share, origins-input, origins-gate, pair-origin, own-origin, sum-origin, masked-here, masked-past}
 use Rattle.masks.proofs.Origins.{share-origin, first-origin, last-origin, inner-origin}
 use Rattle.masks.proofs.Placed.{index-small, row-ends, drop-share, plain-inputs}
@@ -126,7 +124,7 @@ module _
               (sa (p .lower) lower) (sb (p .upper) (inside .1)) (sa (p .upper) (inside .1)) (sb (p .lower) lower)
               (pair-marks q h) f)
               ∙ sym is;
-          few = rw is (L .few-joined (suc (p .lower)) (suc (p .upper)) f (omega arith));
+          few = rw is (L .few-joined (suc (p .lower)) (suc (p .upper)) (omega arith) f);
         }
 
     row-joins :

@@ -18,7 +18,7 @@ use Rattle.tables.proofs.Lists.{All, all-append, all-getD, all-map}
 use Rattle.tables.proofs.Format.{SoundGates, sound-append, sound-earlier}
 use Rattle.tables.proofs.Run.{OfLeft, OfRight, read-left, Earlier}
 use Rattle.tables.proofs.Accept.{PlainGate, PlainGates, Plain, plain-reads}
-use Rattle.masks.specs.Shares.{sharesOf, upFrom, pairOf, pairs, tri, pairAt}
+use Rattle.masks.specs.Shares.{sharesOf, pairOf, pairs, tri, pairAt}
 use Rattle.masks.specs.Gadgets.{Five, first, second, third, fourth, fifth, indexOf, Gadget}
 use Rattle.masks.specs.Wires.{Part, inAnd, Origin, andPart, orPart, Wire, share, firstOn, driverOf, adding, pairWires}
 use Rattle.masks.specs.Wires.{pairWire, andWires, andShares, andCost, newWires, newShares, inputShares, cost}

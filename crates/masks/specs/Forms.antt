@@ -60,7 +60,7 @@ pub record FormSays (G : Gadget) (r : DF.PairForm) : Type 0 where
   pub gates : (w ai bj aj bi : ℕ) → formGates r w ai bj aj bi ≡ map (G .gates w ai bj aj bi) allFive
   pub low : r .low ≡ indexOf (G .low)
   pub high : r .high ≡ indexOf (G .high)
-  pub marks : (i j : ℕ) (f : Five) → i < j → withPins G .marks i j f ≡ formMarks r i j (indexOf f)
+  pub marks : (i j : ℕ) → i < j → (f : Five) → withPins G .marks i j f ≡ formMarks r i j (indexOf f)
   pub both : r .both ≤ 1
   -- whatever the values are, the third wire adds the first two, the fifth the first, the fourth and, where `both` is 1, the second
   pub third-adds :
