@@ -1,5 +1,5 @@
 //! The examples of document 01, with the answers and bytes that the paper gives; tapes are packed. Those
-//! of ORs and constants, and those with the DOM AND, were worked out by hand.
+//! of ORs, constants and pins, and those with the DOM AND, were worked out by hand.
 
 use crate::case::{Case, Lent, MapCase};
 use crate::circuit::{Circuit, and, constant, not, or, random, xor};
@@ -42,7 +42,7 @@ pub fn the_and() -> Vec<u8> {
 }
 
 /// The AND masked at order 1, gate by gate.
-fn masked_and() -> Vec<u8> {
+pub fn masked_and() -> Vec<u8> {
     let pairs = [
         [random(), and(0, 4), xor(6, 7), and(1, 3), xor(8, 9)],
         [random(), and(0, 5), xor(11, 12), and(2, 3), xor(13, 14)],
@@ -58,7 +58,7 @@ fn masked_and() -> Vec<u8> {
 }
 
 /// The same with the DOM AND.
-fn dom_masked_and() -> Vec<u8> {
+pub fn dom_masked_and() -> Vec<u8> {
     let pairs = [
         [random(), and(0, 4), xor(7, 6), and(1, 3), xor(9, 6)],
         [random(), and(0, 5), xor(12, 11), and(2, 3), xor(14, 11)],
@@ -144,6 +144,8 @@ fn repeated_output(outputs: usize) -> Vec<u8> {
 const TAPE: [u8; 1] = [0x59];
 const ENCODING: [u8; 1] = [0x09];
 const RUNNING: [u8; 1] = [0x05];
+/// The tape 1 1 0 1 1 0 1.
+const OTHER_TAPE: [u8; 1] = [0x5b];
 
 /// The wire values of the masked AND with that tape, for secrets 1 1.
 const VALUES: [u8; 30] = [
@@ -172,7 +174,34 @@ const VALUES_MAPPED_TAPE: [u8; 30] = [
     0, 0, 0, 0, 0, 1, 0, 0, 1, // rows
 ];
 
-/// The wire values of the masked OR with the same tape, for secrets 1 0.
+/// Those for secrets 0 1 with the tape that probe 15 leads to, which is the other tape.
+const VALUES_FREE_2: [u8; 30] = [
+    1, 1, 0, 0, 1, 0, // shares
+    1, 1, 0, 0, 0, // pair 1, 2
+    0, 0, 0, 0, 0, // pair 1, 3
+    1, 0, 1, 0, 1, // pair 2, 3
+    0, 1, 1, 1, 1, 0, 0, 0, 1, // rows
+];
+
+/// Those for secrets 1 1 with the other tape.
+const VALUES_OTHER_TAPE: [u8; 30] = [
+    1, 1, 1, 0, 1, 0, // shares
+    1, 1, 0, 0, 0, // pair 1, 2
+    0, 0, 0, 0, 0, // pair 1, 3
+    1, 0, 1, 1, 0, // pair 2, 3
+    0, 1, 1, 1, 1, 0, 0, 0, 0, // rows
+];
+
+/// The same for secrets 1 0. With share 1 free, wires 8 and 9 would change, and 10 would not.
+const VALUES_SAME_OTHER_TAPE: [u8; 30] = [
+    1, 1, 1, 0, 1, 1, // shares
+    1, 1, 0, 0, 0, // pair 1, 2
+    0, 1, 1, 0, 1, // pair 1, 3
+    1, 1, 0, 1, 1, // pair 2, 3
+    0, 1, 1, 1, 1, 0, 1, 0, 1, // rows
+];
+
+/// The wire values of the masked OR with the first tape, for secrets 1 0.
 const OR_VALUES: [u8; 33] = [
     1, 0, 0, 0, 1, 1, // shares
     0, 1, // NOTs
@@ -230,13 +259,23 @@ const DOM_VALUES_FREE_2: [u8; 30] = [
     0, 0, 0, 0, 0, 1, 0, 0, 1, // rows
 ];
 
-/// Those for secrets 1 1 with the tape 1 1 0 1 1 0 1.
+/// Those for secrets 1 1 with the other tape.
 const DOM_VALUES_OTHER_TAPE: [u8; 30] = [
     1, 1, 1, 0, 1, 0, // shares
     1, 1, 0, 0, 1, // pair 1, 2
     0, 0, 0, 0, 0, // pair 1, 3
     1, 0, 1, 1, 0, // pair 2, 3
     0, 0, 0, 1, 0, 1, 0, 0, 0, // rows
+];
+
+/// Those for secrets 1 0 with the tape that this one and probe 8 or 10 lead to. With share 1 free, wires
+/// 6 and 9 would change, and 10 would not; with share 2 free, 6 and 7, and 8 would not.
+const DOM_VALUES_FREE_3: [u8; 30] = [
+    1, 1, 1, 0, 1, 1, // shares
+    1, 1, 0, 0, 1, // pair 1, 2
+    1, 1, 0, 0, 1, // pair 1, 3
+    0, 1, 1, 1, 1, // pair 2, 3
+    0, 0, 0, 1, 0, 1, 1, 0, 1, // rows
 ];
 
 /// Those for secrets 1 0 with the tape that this one and probe 29 lead to.
@@ -329,8 +368,9 @@ fn ors() -> Vec<Example> {
         example("marks of the right NOT", marks(7), marked(1, 0)),
         example("marks of z(1,2) in the OR", marks(8), marked(1, 0)),
         example("marks of a_1 b_2 in the OR", marks(9), marked(1, 2)),
-        example("marks of z(2,1) in the OR", marks(12), marked(2, 0)),
+        example("marks of z(2,1) in the OR", marks(12), marked(1, 2)),
         example("marks of a_3 b_1 in the OR", marks(16), marked(1, 3)),
+        example("marks of z(3,2) in the OR", marks(22), marked(2, 3)),
         example("marks of its first row", marks(25), marked(1, 0)),
         example("marks of its last sum", marks(31), marked(3, 0)),
         example("marks of the last NOT", marks(32), marked(1, 0)),
@@ -450,8 +490,14 @@ fn small() -> Vec<Example> {
         example("marks of an input share", marks(5), marked(3, 0)),
         example("marks of z(1,2)", marks(6), marked(1, 0)),
         example("marks of a_1 b_2", marks(7), marked(1, 2)),
+        example("marks of z(1,2) and a_1 b_2", marks(8), marked(1, 2)),
         example("marks of a_3 b_1", marks(14), marked(1, 3)),
-        example("marks of z(2,1)", marks(10), marked(2, 0)),
+        example("marks of z(2,1)", marks(10), marked(1, 2)),
+        example("marks of z(3,1)", marks(15), marked(1, 3)),
+        example("marks of z(2,3)", marks(16), marked(2, 0)),
+        example("marks of z(3,2)", marks(20), marked(2, 3)),
+        example("marks of a_1 b_1", marks(21), marked(1, 0)),
+        example("marks of a sum with z(2,1)", marks(25), marked(2, 0)),
         example("marks of the last sum", marks(29), marked(3, 0)),
         example("marks of no wire", marks(30), Outcome::refused(13, 0)),
     ]
@@ -483,7 +529,9 @@ fn large() -> Vec<Example> {
             Outcome::accepted([3, 65_535, 2, 327_672]),
         ),
         example("21,845 constants", forecast(constants(21_845)), too_large),
-        example("2,730 ANDs, last wire", marks(65_525), Outcome::accepted([3, 0, 0, 0])),
+        example("2,730 ANDs, last z(2,1)", marks(65_506), marked(1, 2)),
+        example("2,730 ANDs, last z(3,2)", marks(65_516), marked(2, 3)),
+        example("2,730 ANDs, last wire", marks(65_525), marked(3, 0)),
         example("2,730 ANDs, no wire", marks(65_526), Outcome::refused(13, 0)),
         writing("21,845 outputs", mask(repeated_output(21_845), 131_076), 131_076, &[&masked]),
         example("21,846 outputs", mask(repeated_output(21_846), 200_000), too_large),
@@ -541,6 +589,7 @@ fn map_chain(and: And, ands: u16, probes: &[u32]) -> Case {
 /// The map.
 fn maps() -> Vec<Example> {
     let map = |second, probes: &[u32]| map_and(And::Isw, second, TAPE, probes);
+    let map_other = |second, probe| map_and(And::Isw, second, OTHER_TAPE, &[probe]);
     let map_or = |second, probe| map_or(And::Isw, second, probe);
     let long = |ands, probes: &[u32]| map_chain(And::Isw, ands, probes);
     // 0 0 0 1 0 0 1, and for the OR 0 0 0 1 0 1 1
@@ -550,6 +599,15 @@ fn maps() -> Vec<Example> {
         writing("probe 29", map([0, 1], &[29]), 1, &[&mapped, &VALUES, &VALUES_MAPPED_TAPE]),
         writing("no probe", map([0, 1], &[]), 1, &[&mapped, &VALUES, &VALUES_MAPPED_TAPE]),
         writing("equal secrets", map([1, 1], &[29]), 1, &[&TAPE, &VALUES, &VALUES]),
+        // The marks of wire 10 alone are 2, those of wire 15 alone 3: 1 would be free.
+        writing("probe 10", map([0, 1], &[10]), 3, &[&TAPE, &VALUES, &VALUES_SAME_TAPE]),
+        writing("probe 15", map([0, 1], &[15]), 2, &[&OTHER_TAPE, &VALUES, &VALUES_FREE_2]),
+        writing(
+            "another tape, probe 10",
+            map_other([1, 0], 10),
+            3,
+            &[&OTHER_TAPE, &VALUES_OTHER_TAPE, &VALUES_SAME_OTHER_TAPE],
+        ),
         example("probes 6, 6", map([0, 1], &[6, 6]), Outcome::refused(12, 0)),
         example("probe 30", map([0, 1], &[30]), Outcome::refused(13, 0)),
         writing(
@@ -559,6 +617,7 @@ fn maps() -> Vec<Example> {
             &[&or_mapped, &OR_VALUES, &OR_VALUES_MAPPED_TAPE],
         ),
         writing("the OR, equal secrets", map_or([1, 0], 9), 3, &[&TAPE, &OR_VALUES, &OR_VALUES]),
+        writing("the OR, probe 12", map_or([1, 0], 12), 3, &[&TAPE, &OR_VALUES, &OR_VALUES]),
         example("the OR, probe 33", map_or([0, 0], 33), Outcome::refused(13, 0)),
         example("2,730 ANDs mapped", long(2_730, &[65_525]), Outcome::value(1)),
         example("2,730 ANDs, no such wire", long(2_730, &[65_526]), Outcome::refused(13, 0)),
@@ -604,19 +663,23 @@ fn dom() -> Vec<Example> {
         example("DOM: marks of an input share", marks(5), marked(3, 0)),
         example("DOM: marks of r", marks(6), marked(1, 2)),
         example("DOM: marks of a_1 b_2", marks(7), marked(1, 2)),
-        example("DOM: marks of a_1 b_2 and r", marks(8), marked(1, 0)),
+        example("DOM: marks of a_1 b_2 and r", marks(8), marked(1, 2)),
         example("DOM: marks of a_2 b_1", marks(9), marked(1, 2)),
-        example("DOM: marks of a_2 b_1 and r", marks(10), marked(2, 0)),
+        example("DOM: marks of a_2 b_1 and r", marks(10), marked(1, 2)),
+        example("DOM: marks of a_3 b_1 and r", marks(15), marked(1, 3)),
         example("DOM: marks of the last r", marks(16), marked(2, 3)),
-        example("DOM: marks of a_2 b_3 and r", marks(18), marked(2, 0)),
-        example("DOM: marks of a_3 b_2 and r", marks(20), marked(3, 0)),
+        example("DOM: marks of a_2 b_3 and r", marks(18), marked(2, 3)),
+        example("DOM: marks of a_3 b_2 and r", marks(20), marked(2, 3)),
         example("DOM: marks of a_1 b_1", marks(21), marked(1, 0)),
+        example("DOM: marks of a sum with a_1 b_2 and r", marks(22), marked(1, 0)),
         example("DOM: marks of the last sum", marks(29), marked(3, 0)),
         example("DOM: marks of no wire", marks(30), Outcome::refused(13, 0)),
         example("DOM: marks of the left NOT", marks_or(6), marked(1, 0)),
         example("DOM: marks of r in the OR", marks_or(8), marked(1, 2)),
-        example("DOM: marks of a_1 b_2 and r in the OR", marks_or(10), marked(1, 0)),
+        example("DOM: marks of a_1 b_2 and r in the OR", marks_or(10), marked(1, 2)),
+        example("DOM: marks of a_2 b_1 and r in the OR", marks_or(12), marked(1, 2)),
         example("DOM: marks of the last NOT", marks_or(32), marked(1, 0)),
+        example("DOM: 2,730 ANDs, last a_1 b_2 and r", marks_long(65_504), marked(1, 2)),
         example("DOM: 2,730 ANDs, last wire", marks_long(65_525), marked(3, 0)),
         example("DOM: 2,730 ANDs, no wire", marks_long(65_526), Outcome::refused(13, 0)),
     ]
@@ -625,12 +688,14 @@ fn dom() -> Vec<Example> {
 /// The map with the DOM AND; where r of a pair is flipped, k is its upper share, or its lower one.
 fn dom_maps() -> Vec<Example> {
     let map = |second, probes: &[u32]| map_and(And::Dom, second, TAPE, probes);
+    let map_other = |second, probe| map_and(And::Dom, second, OTHER_TAPE, &[probe]);
     let map_or = |second, probe| map_or(And::Dom, second, probe);
     let long = |ands, probes: &[u32]| map_chain(And::Dom, ands, probes);
     // 0 0 0 1 1 0 1, then 1 0 0 0 0 0 1
     let (free_1, free_2) = ([0x58], [0x41]);
-    // 1 1 0 1 1 0 1 leads to 1 1 1 1 0 1 1
-    let (other_tape, two_flips) = ([0x5b], [0x6f]);
+    // The other tape leads to 1 1 1 1 0 1 1 and, with share 3 free, to 1 1 0 1 1 1 0.
+    let (two_flips, free_3) = ([0x6f], [0x3b]);
+    let with_free_3 = [&free_3[..], &DOM_VALUES_OTHER_TAPE, &DOM_VALUES_FREE_3];
     vec![
         writing("DOM: probe 7", map([0, 1], &[7]), 3, &[&TAPE, &DOM_VALUES, &DOM_VALUES_SAME_TAPE]),
         writing("DOM: probe 6", map([0, 1], &[6]), 3, &[&TAPE, &DOM_VALUES, &DOM_VALUES_SAME_TAPE]),
@@ -646,10 +711,12 @@ fn dom_maps() -> Vec<Example> {
             2,
             &[&free_2, &DOM_VALUES, &DOM_VALUES_FREE_2],
         ),
-        writing("DOM: probe 8", map([1, 0], &[8]), 2, &[&free_2, &DOM_VALUES, &DOM_VALUES_FREE_2]),
+        // The marks of wire 8 alone are 1, those of wire 10 alone 2: 2 or 1 would be free.
+        writing("DOM: another tape, probe 8", map_other([1, 0], 8), 3, &with_free_3),
+        writing("DOM: another tape, probe 10", map_other([1, 0], 10), 3, &with_free_3),
         writing(
             "DOM: another tape, probe 29",
-            map_and(And::Dom, [1, 0], other_tape, &[29]),
+            map_other([1, 0], 29),
             1,
             &[&two_flips, &DOM_VALUES_OTHER_TAPE, &DOM_VALUES_TWO_FLIPS],
         ),
@@ -661,6 +728,12 @@ fn dom_maps() -> Vec<Example> {
             map_or([0, 0], 31),
             1,
             &[&free_1, &DOM_OR_VALUES, &DOM_OR_VALUES_MAPPED_TAPE],
+        ),
+        writing(
+            "DOM: the OR, probe 10",
+            map_or([1, 0], 10),
+            3,
+            &[&TAPE, &DOM_OR_VALUES, &DOM_OR_VALUES],
         ),
         example("DOM: the OR, probe 33", map_or([0, 0], 33), Outcome::refused(13, 0)),
         example("DOM: 2,730 ANDs mapped", long(2_730, &[65_525]), Outcome::value(1)),

@@ -1,7 +1,7 @@
 //! What sets the two ANDs apart: the sums of a pair i < j of shares, which of its five wires the rows
-//! add, and their marks. What the map flips is in `map`.
+//! add, and the marks of each alone. What the map flips is in `map`.
 
-use super::masking::Marks;
+use super::marks::Marks;
 
 /// An AND: that of document 01, or the DOM AND of Card 8. As a number it is a byte that names it to
 /// the mask program.

@@ -1,10 +1,11 @@
 //! The mapped tape.
 
 use super::and::And;
+use super::marks::{Marks, Masked, carried};
 use super::masking::{Gates, Plain, Shares, mask_gate, pair_index};
 use super::table::{AND, CONSTANT, NOT, XOR};
 use super::tape::{bit, bytes_for, check_unused, flip};
-use super::{Fault, Refusal, check_bits};
+use super::{Fault, Refusal, check_bits, check_probes};
 
 /// The two runs side by side: one with the tape, the other with the mapped tape.
 struct Runs<'a> {
@@ -69,18 +70,11 @@ impl Gates for Runs<'_> {
     }
 }
 
-impl Plain<'_> {
-    /// The smallest share that no probe carries.
-    fn free_share(&self, and: And, probes: &[u32]) -> usize {
-        let mut carried = [false; 32];
-        for &probe in probes {
-            let marks = self.marks(and, probe as usize);
-            carried[usize::from(marks.first)] = true;
-            carried[usize::from(marks.second)] = true;
-        }
-        let free = (1..=self.order.n).find(|&s| !carried[s]);
-        free.expect("t probes carry at most 2t of the 2t + 1 shares")
-    }
+/// The smallest of n shares that no probe carries, given the marks of each.
+pub(super) fn free_share(n: usize, probes: impl Iterator<Item = Marks>) -> usize {
+    let carried = carried(probes);
+    let free = (1..=n).find(|&s| !carried[s]);
+    free.expect("t probes carry at most 2t of the 2t + 1 shares")
 }
 
 /// Writes the mapped tape from secrets `first` to secrets `second`, and the wire values of both
@@ -106,12 +100,11 @@ pub fn map(
     check_bits(&[first, second])?;
     check_unused(tape, plain.tape, 2 * inputs)?;
     Fault::TooManyProbes.when(probes.len() > order.t)?;
-    if let Some(position) = probes.iter().position(|&wire| wire as usize >= wires) {
-        return Err(Fault::Probe.at(position));
-    }
+    check_probes(probes, wires)?;
     Fault::Buffer.when(mapped.len() < bytes || one.len() < wires || other.len() < wires)?;
 
-    let k = plain.free_share(and, probes);
+    let masked = Masked::new(&plain, and);
+    let k = free_share(order.n, probes.iter().map(|&probe| masked.joined_marks(probe as usize)));
     let (mapped, one, other) = (&mut mapped[..bytes], &mut one[..wires], &mut other[..wires]);
     mapped.copy_from_slice(tape);
     let input_bits = 2 * order.t;
@@ -127,7 +120,7 @@ pub fn map(
     let mut runs = Runs { one, other, tape, mapped, next_wire, next_bit, and, n: order.n, k };
     let mut shares = plain.input_shares();
     for gate in table.gates() {
-        shares.push(mask_gate(&mut runs, and, order.n, gate, &shares));
+        shares.push(mask_gate(&mut runs, and, order.n, gate, |wire| shares[wire]));
     }
     Ok(k as u32)
 }

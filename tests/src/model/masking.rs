@@ -1,4 +1,4 @@
-//! Masking a plain table: sizes, the masked table, and the marks of its wires.
+//! Masking a plain table: sizes and the masked table.
 
 use super::and::And;
 use super::shares::Order;
@@ -12,23 +12,6 @@ pub struct Sizes {
     pub wires: u32,
     pub tape: u32,
     pub bytes: u32,
-}
-
-/// The one or two shares that a masked wire carries, rising; 0 for no second one.
-#[derive(Clone, Copy, Debug, PartialEq, Eq)]
-pub struct Marks {
-    pub first: u8,
-    pub second: u8,
-}
-
-impl Marks {
-    pub(super) fn one(share: usize) -> Self {
-        Marks { first: share as u8, second: 0 }
-    }
-
-    pub(super) fn two(first: usize, second: usize) -> Self {
-        Marks { first: first as u8, second: second as u8 }
-    }
 }
 
 /// A plain table and an order to mask it at, both accepted.
@@ -51,8 +34,18 @@ pub(super) struct Shares {
 }
 
 impl Shares {
-    fn new(first: usize, step: usize) -> Self {
+    pub fn new(first: usize, step: usize) -> Self {
         Shares { first: first as u16, second: (first + step) as u16, step: step as u16 }
+    }
+
+    /// Those of an AND of n shares whose rows begin at a wire: the last wire of each.
+    pub fn of_rows(rows: usize, n: usize) -> Self {
+        Shares::new(rows + n - 1, n)
+    }
+
+    /// The same with share 1 elsewhere.
+    pub fn with_first(self, first: usize) -> Self {
+        Shares { first: first as u16, ..self }
     }
 
     /// The wire of share s, from 1.
@@ -71,6 +64,11 @@ pub(super) trait Gates {
 
     /// Takes the next gate.
     fn gate(&mut self, kind: u8, left: usize, right: usize);
+
+    /// Whether the next so many gates are not wanted; they then count as taken.
+    fn skip(&mut self, _gates: usize) -> bool {
+        false
+    }
 
     /// Is told the operands of an AND, also of one inside an OR, before its gates.
     fn before_and(&mut self, _a: Shares, _b: Shares) {}
@@ -117,33 +115,10 @@ impl<'a> Plain<'a> {
         shares.extend((0..self.table.inputs).map(|i| Shares::new(self.order.n * i, 1)));
         shares
     }
-
-    /// The marks of a masked wire.
-    pub fn marks(&self, and: And, wire: usize) -> Marks {
-        let Some(mut offset) = wire.checked_sub(self.inputs()) else {
-            return Marks::one(wire % self.order.n + 1);
-        };
-        let costs = [0, 1, 2, 3, 4, 5].map(|kind| gate_cost(self.order, kind));
-        for &kind in self.table.kinds {
-            let cost = costs[usize::from(kind)];
-            if offset < cost {
-                return match kind {
-                    NOT => Marks::one(1),
-                    XOR | CONSTANT => Marks::one(offset + 1),
-                    // The two NOTs of its operands, and that of its result.
-                    OR if offset < 2 || offset == cost - 1 => Marks::one(1),
-                    OR => and_marks(and, self.order, offset - 2),
-                    _ => and_marks(and, self.order, offset),
-                };
-            }
-            offset -= cost;
-        }
-        unreachable!("the wire is one of the masked table")
-    }
 }
 
 /// How many masked wires a plain gate becomes.
-fn gate_cost(order: Order, kind: u8) -> usize {
+pub(super) fn gate_cost(order: Order, kind: u8) -> usize {
     match kind {
         NOT => 1,
         XOR | CONSTANT => order.n,
@@ -152,25 +127,12 @@ fn gate_cost(order: Order, kind: u8) -> usize {
     }
 }
 
-/// The marks of a wire inside a masked AND: five wires for each pair, then n for each row.
-fn and_marks(and: And, order: Order, offset: usize) -> Marks {
-    if let Some(rows) = offset.checked_sub(5 * order.pairs()) {
-        return Marks::one(rows / order.n + 1);
-    }
-    let (mut i, mut j) = (1, offset / 5 + 2);
-    while j > order.n {
-        i += 1;
-        j = j - order.n + i;
-    }
-    and.pair_marks(offset % 5, i, j)
-}
-
 /// How many pairs stand before the pair i < j.
 pub(super) fn pair_index(n: usize, i: usize, j: usize) -> usize {
     (i - 1) * (2 * n - i) / 2 + (j - i - 1)
 }
 
-/// Hands over the masked gates of a plain gate, given where the shares of earlier plain wires stand;
+/// Hands over the masked gates of a plain gate, given where the shares of an earlier plain wire stand;
 /// answers where those of its result do.
 #[inline]
 pub(super) fn mask_gate(
@@ -178,12 +140,12 @@ pub(super) fn mask_gate(
     and: And,
     n: usize,
     gate: Gate,
-    shares: &[Shares],
+    shares: impl Fn(usize) -> Shares,
 ) -> Shares {
     match gate.kind {
-        NOT => negate(gates, shares[gate.left]),
+        NOT => negate(gates, shares(gate.left)),
         XOR => {
-            let (a, b, start) = (shares[gate.left], shares[gate.right], gates.next_wire());
+            let (a, b, start) = (shares(gate.left), shares(gate.right), gates.next_wire());
             for s in 1..=n {
                 gates.gate(XOR, a.wire(s), b.wire(s));
             }
@@ -200,7 +162,7 @@ pub(super) fn mask_gate(
         }
         // a OR b is NOT (NOT a AND NOT b).
         _ => {
-            let (mut a, mut b) = (shares[gate.left], shares[gate.right]);
+            let (mut a, mut b) = (shares(gate.left), shares(gate.right));
             if gate.kind == OR {
                 a = negate(gates, a);
                 b = negate(gates, b);
@@ -216,9 +178,9 @@ pub(super) fn mask_gate(
 
 /// Hands over the NOT of share 1.
 fn negate(gates: &mut impl Gates, a: Shares) -> Shares {
-    let first = gates.next_wire() as u16;
+    let first = gates.next_wire();
     gates.gate(NOT, a.wire(1), 0);
-    Shares { first, ..a }
+    a.with_first(first)
 }
 
 /// Hands over the gates of an AND: five for each pair, then the rows. It is compiled for each AND apart.
@@ -230,6 +192,9 @@ fn mask_and<const DOM: bool>(gates: &mut impl Gates, n: usize, a: Shares, b: Sha
     let [third, fifth] = and.sums();
     for i in 1..=n {
         for j in i + 1..=n {
+            if gates.skip(5) {
+                continue;
+            }
             let pair = gates.next_wire();
             gates.gate(RANDOM, 0, 0);
             gates.gate(AND, a.wire(i), b.wire(j));
@@ -241,6 +206,9 @@ fn mask_and<const DOM: bool>(gates: &mut impl Gates, n: usize, a: Shares, b: Sha
     let rows = gates.next_wire();
     let (lower, upper) = and.added();
     for i in 1..=n {
+        if gates.skip(n) {
+            continue;
+        }
         gates.gate(AND, a.wire(i), b.wire(i));
         for j in 1..i {
             let z = start + 5 * pair_index(n, j, i) + upper;
@@ -251,7 +219,7 @@ fn mask_and<const DOM: bool>(gates: &mut impl Gates, n: usize, a: Shares, b: Sha
             gates.gate(XOR, gates.next_wire() - 1, z);
         }
     }
-    Shares::new(rows + n - 1, n)
+    Shares::of_rows(rows, n)
 }
 
 /// Writes gates into the two arrays of a table.
@@ -305,7 +273,7 @@ pub fn mask(and: And, table: &[u8], order: u8, out: &mut [u8]) -> Result<u32, Re
     let mut writer = Writer { kinds, pairs, inputs: plain.inputs(), written: 0 };
     let mut shares = plain.input_shares();
     for gate in plain.table.gates() {
-        shares.push(mask_gate(&mut writer, and, n, gate, &shares));
+        shares.push(mask_gate(&mut writer, and, n, gate, |wire| shares[wire]));
     }
     for (group, wire) in outputs.chunks_exact_mut(2 * n).zip(plain.table.outputs()) {
         for (s, field) in (1..).zip(group.chunks_exact_mut(2)) {
@@ -313,11 +281,4 @@ pub fn mask(and: And, table: &[u8], order: u8, out: &mut [u8]) -> Result<u32, Re
         }
     }
     Ok(bytes as u32)
-}
-
-/// Answers the marks of a masked wire.
-pub fn marks(and: And, table: &[u8], order: u8, wire: u32) -> Result<Marks, Refusal> {
-    let plain = Plain::new(table, order)?;
-    Fault::Probe.when(wire as usize >= plain.wires)?;
-    Ok(plain.marks(and, wire as usize))
 }

@@ -1,12 +1,14 @@
 //! Document 01, written from the paper: checking, running, forecasting, masking, encoding,
 //! decoding, marks, the mapped tape, and what the programs write. Tapes are packed, there are
-//! constants and ORs, and a second AND, as Cards 4, 6 and 8 ask.
+//! constants and ORs, and a second AND, and a probe on a gate reads its pins too, as Cards 4, 6, 8 and
+//! 9 ask.
 //!
 //! Every call answers its value or a refusal. It writes into the lent buffers only when nothing
 //! is refused, and then only what the paper says; the rest of a longer buffer stays.
 
 mod and;
 mod map;
+mod marks;
 mod masking;
 mod program;
 mod shares;
@@ -15,10 +17,11 @@ mod tape;
 
 pub use and::And;
 pub use map::map;
-pub use masking::{Marks, Sizes, forecast, marks, mask};
+pub use marks::{Marks, marks};
+pub use masking::{Sizes, forecast, mask};
 pub use program::{forecast_line, listing, masked};
 pub use shares::{decode, encode};
-pub use table::{AND, CONSTANT, NOT, OR, RANDOM, XOR, check, run};
+pub use table::{AND, CONSTANT, NOT, OR, RANDOM, XOR, check, reads, run};
 pub use tape::{bytes_for, cut, pack};
 
 /// The most wires, masked wires, masked outputs or share bits.
@@ -78,6 +81,14 @@ fn check_bits(parts: &[&[u8]]) -> Result<(), Refusal> {
         before += part.len();
     }
     Ok(())
+}
+
+/// Refuses the first probe that is none of so many wires.
+fn check_probes(probes: &[u32], wires: usize) -> Result<(), Refusal> {
+    match probes.iter().position(|&probe| probe as usize >= wires) {
+        Some(position) => Err(Fault::Probe.at(position)),
+        None => Ok(()),
+    }
 }
 
 #[cfg(test)]

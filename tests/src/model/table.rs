@@ -1,7 +1,9 @@
-//! Gate tables: checking and running.
+//! Gate tables: checking, running, and what probes read.
+
+use std::iter::once;
 
 use super::tape::{bit, bytes_for, check_unused};
-use super::{Fault, MOST, Refusal, check_bits};
+use super::{Fault, MOST, Refusal, check_bits, check_probes};
 
 pub const NOT: u8 = 0;
 pub const XOR: u8 = 1;
@@ -36,6 +38,29 @@ pub(super) struct Gate {
     pub kind: u8,
     pub left: usize,
     pub right: usize,
+}
+
+impl Gate {
+    fn new(kind: u8, [l0, l1, r0, r1]: [u8; 4]) -> Self {
+        Gate { kind, left: field([l0, l1]), right: field([r0, r1]) }
+    }
+
+    /// The wires on its operands, left before right. An unused operand and a constant's value are none.
+    fn pins(self) -> impl Iterator<Item = usize> {
+        let used = match self.kind {
+            NOT => 1,
+            XOR | AND | OR => 2,
+            RANDOM | CONSTANT => 0,
+            kind => unreachable!("no gate is of kind {kind}"),
+        };
+        [self.left, self.right].into_iter().take(used)
+    }
+}
+
+/// What a probe on a wire reads, given the gate that drives it: the wire, then the gate's pins. No gate
+/// drives an input.
+pub(super) fn read(wire: usize, gate: Option<Gate>) -> impl Iterator<Item = usize> {
+    once(wire).chain(gate.into_iter().flat_map(Gate::pins))
 }
 
 fn field(bytes: [u8; 2]) -> usize {
@@ -76,11 +101,13 @@ impl<'a> Table<'a> {
     }
 
     pub fn gates(&self) -> impl Iterator<Item = Gate> + use<'a> {
-        self.kinds.iter().zip(self.pairs).map(|(&kind, &[l0, l1, r0, r1])| Gate {
-            kind,
-            left: field([l0, l1]),
-            right: field([r0, r1]),
-        })
+        self.kinds.iter().zip(self.pairs).map(|(&kind, &pair)| Gate::new(kind, pair))
+    }
+
+    /// The gate that drives a wire; none drives an input.
+    pub fn driver(&self, wire: usize) -> Option<Gate> {
+        let g = wire.checked_sub(self.inputs)?;
+        Some(Gate::new(self.kinds[g], self.pairs[g]))
     }
 
     pub fn outputs(&self) -> impl ExactSizeIterator<Item = usize> + use<'a> {
@@ -105,6 +132,14 @@ impl<'a> Table<'a> {
 /// Checks a table and answers its number of wires.
 pub fn check(table: &[u8]) -> Result<u32, Refusal> {
     Ok(Table::new(table)?.wires() as u32)
+}
+
+/// The wires whose values probes on a table read, in list order.
+pub fn reads(table: &[u8], probes: &[u32]) -> Result<Vec<usize>, Refusal> {
+    let table = Table::new(table)?;
+    check_probes(probes, table.wires())?;
+    let wires = probes.iter().map(|&probe| probe as usize);
+    Ok(wires.flat_map(|wire| read(wire, table.driver(wire))).collect())
 }
 
 /// Runs a table on its inputs and random bits: one value for each wire, then the outputs.
