@@ -1,9 +1,13 @@
 //! Small circuits with all their tapes and all their secrets.
 
+use std::collections::BTreeSet;
+use std::iter::once;
+
 use crate::case::{Case, MapCase};
 use crate::circuit::{Circuit, Gate, and, constant, not, or, xor};
 use crate::masks::{Masks, Outcome};
-use crate::model::{And, bytes_for};
+use crate::model::{And, bytes_for, reads};
+use crate::properties::free_share;
 
 /// Every circuit of one input with at most two gates and of two inputs with at most one gate,
 /// and some of two inputs with several.
@@ -84,6 +88,7 @@ fn number(tape: &[u8]) -> usize {
 /// A circuit masked by an implementation, and its sizes.
 struct Masked<'a, M> {
     masks: &'a M,
+    and: And,
     plain: Vec<u8>,
     table: Vec<u8>,
     order: u8,
@@ -106,20 +111,43 @@ impl<'a, M: Masks> Masked<'a, M> {
             return Err("masking refuses".into());
         }
         let (inputs, outputs) = (usize::from(circuit.inputs), circuit.outputs.len());
-        Ok(Masked { masks, plain, table, order, shares, wires, tape, inputs, outputs })
+        Ok(Masked { masks, and, plain, table, order, shares, wires, tape, inputs, outputs })
     }
 
-    /// The plain table's outputs for each secret.
-    fn plain_outputs(&self) -> Result<Vec<Vec<u8>>, String> {
-        let run = |secret| {
-            let (mut values, mut outputs) = (vec![2; self.wires], vec![2; self.outputs]);
-            let secret = bits(secret, self.inputs);
-            match self.masks.run(&self.plain, &secret, &[], &mut values, &mut outputs).number {
-                0 => Ok(outputs),
-                _ => Err("running refuses the plain table".into()),
+    fn secrets(&self) -> usize {
+        1 << self.inputs
+    }
+
+    fn tapes(&self) -> usize {
+        1 << self.tape
+    }
+
+    /// The wires that probes read.
+    fn reads(&self, probes: &[u32]) -> Result<Vec<usize>, String> {
+        Ok(reads(&self.table, probes)?)
+    }
+
+    /// The plain table's outputs for a secret.
+    fn plain_outputs(&self, secret: &[u8]) -> Result<Vec<u8>, String> {
+        let (mut values, mut outputs) = (vec![2; self.wires], vec![2; self.outputs]);
+        match self.masks.run(&self.plain, secret, &[], &mut values, &mut outputs).number {
+            0 => Ok(outputs),
+            _ => Err("running refuses the plain table".into()),
+        }
+    }
+
+    /// Runs every secret with every tape, by their numbers, and hands over the wire values.
+    fn run_all(&self, mut take: impl FnMut(usize, usize, &[u8])) -> Result<(), String> {
+        let mut values = vec![2; self.wires];
+        for secret in 0..self.secrets() {
+            let secret_bits = bits(secret, self.inputs);
+            let plain = self.plain_outputs(&secret_bits)?;
+            for tape in 0..self.tapes() {
+                self.run(&secret_bits, tape, &plain, &mut values)?;
+                take(secret, tape, &values);
             }
-        };
-        (0..1 << self.inputs).map(run).collect()
+        }
+        Ok(())
     }
 
     /// The wire values for a secret and the tape of a number, written into `values`; the outputs
@@ -155,11 +183,39 @@ impl<'a, M: Masks> Masked<'a, M> {
         }
         Ok(())
     }
+
+    /// For each secret, a column of bits for each wire: its values, tape by tape.
+    fn columns(&self) -> Result<Vec<Vec<Vec<u64>>>, String> {
+        let mut columns =
+            vec![vec![vec![0; self.tapes().div_ceil(64)]; self.wires]; self.secrets()];
+        self.run_all(|secret, tape, values| {
+            for (column, &value) in columns[secret].iter_mut().zip(values) {
+                column[tape / 64] |= u64::from(value) << (tape % 64);
+            }
+        })?;
+        Ok(columns)
+    }
+
+    /// Every choice among the wires that one probe reads: one alone, two, all.
+    fn choices(&self) -> Result<BTreeSet<Vec<usize>>, String> {
+        let mut choices = BTreeSet::new();
+        for probe in 0..self.wires as u32 {
+            let mut read = self.reads(&[probe])?;
+            read.sort_unstable();
+            read.dedup();
+            for chosen in 1..1_usize << read.len() {
+                let is_chosen = |&at: &usize| chosen >> at & 1 == 1;
+                choices.insert((0..read.len()).filter(is_chosen).map(|at| read[at]).collect());
+            }
+        }
+        Ok(choices)
+    }
 }
 
 /// Runs the masked circuit on every secret and every tape, and checks for all lists of one probe
-/// and, from order 2 on, of two, that each pattern is read as often for any secret as for any
-/// other. Answers the number of runs.
+/// and, from order 2 on, of two, that each pattern of the values read is read as often for any secret
+/// as for any other; and so is each pattern of some of them, such as the probed wires alone. Answers
+/// the number of runs.
 pub fn check_patterns(
     masks: &impl Masks,
     and: And,
@@ -167,41 +223,45 @@ pub fn check_patterns(
     order: u8,
 ) -> Result<u64, String> {
     let masked = Masked::new(masks, and, circuit, order)?;
-    let plain = masked.plain_outputs()?;
-    let (secrets, tapes): (usize, usize) = (1 << masked.inputs, 1 << masked.tape);
-
-    // For each secret, a column of bits for each wire: its values, tape by tape.
-    let mut columns = vec![vec![vec![0_u64; tapes.div_ceil(64)]; masked.wires]; secrets];
-    let mut values = vec![2; masked.wires];
-    for (secret, columns) in columns.iter_mut().enumerate() {
-        let secret_bits = bits(secret, masked.inputs);
-        for tape in 0..tapes {
-            masked.run(&secret_bits, tape, &plain[secret], &mut values)?;
-            for (column, &value) in columns.iter_mut().zip(&values) {
-                column[tape / 64] |= u64::from(value) << (tape % 64);
-            }
-        }
+    let choices: Vec<Vec<usize>> = masked.choices()?.into_iter().collect();
+    // For each secret and each choice of wires, the tapes for which all of them are 1.
+    let mut ones = masked.columns()?;
+    for columns in &mut ones {
+        *columns = choices.iter().map(|choice| common(columns, choice)).collect();
     }
 
-    // The counts of ones of each wire and of each pair of wires give those of all patterns.
-    let together = |columns: &[Vec<u64>], left: usize, right: usize| -> u32 {
-        columns[left].iter().zip(&columns[right]).map(|(l, r)| (l & r).count_ones()).sum()
+    // The counts of these tapes, and of those that two choices share, give those of all patterns.
+    let together = |ones: &[Vec<u64>], left: usize, right: usize| -> u32 {
+        ones[left].iter().zip(&ones[right]).map(|(l, r)| (l & r).count_ones()).sum()
     };
-    for left in 0..masked.wires {
-        for right in if order == 1 { left..left + 1 } else { left..masked.wires } {
-            let count = together(&columns[0], left, right);
-            if columns.iter().any(|columns| together(columns, left, right) != count) {
-                return Err(format!("probes {left}, {right} tell secrets apart"));
+    for left in 0..choices.len() {
+        for right in if order == 1 { left..left + 1 } else { left..choices.len() } {
+            let count = together(&ones[0], left, right);
+            if ones.iter().any(|ones| together(ones, left, right) != count) {
+                let (left, right) = (&choices[left], &choices[right]);
+                return Err(format!("wires {left:?} and {right:?} tell secrets apart"));
             }
         }
     }
-    Ok((secrets * tapes) as u64)
+    Ok((masked.secrets() * masked.tapes()) as u64)
+}
+
+/// Where all chosen columns have a 1.
+fn common(columns: &[Vec<u64>], choice: &[usize]) -> Vec<u64> {
+    let mut common = vec![u64::MAX; columns[0].len()];
+    for &wire in choice {
+        for (common, word) in common.iter_mut().zip(&columns[wire]) {
+            *common &= word;
+        }
+    }
+    common
 }
 
 /// Puts every map at order 1 to both implementations: all tapes, all pairs of secrets, no probe
-/// and each single one. Checks that the probe reads the same in both runs, that the runs are
-/// those of the masked table, that mapping back gives the tape, and that as many tapes let the
-/// probe read 1 with either secret; and compares the marks. Answers the number of maps.
+/// and each single one. Checks that the free share is the smallest that the probe does not carry,
+/// that the probe reads the same in both runs, output and pins, that the runs are those of the
+/// masked table, that mapping back gives the tape, and that as many tapes give each pattern of the
+/// values read with either secret; and compares the marks. Answers the number of maps.
 pub fn check_maps(
     ours: &impl Masks,
     theirs: &impl Masks,
@@ -209,80 +269,135 @@ pub fn check_maps(
     circuit: &Circuit,
 ) -> Result<u64, String> {
     let masked = Masked::new(theirs, and, circuit, 1)?;
-    let plain = masked.plain_outputs()?;
-    let (secrets, tapes, wires) = (1 << masked.inputs, 1 << masked.tape, masked.wires);
-    let mut runs = vec![vec![vec![2; wires]; tapes]; secrets];
-    for (secret, runs) in runs.iter_mut().enumerate() {
-        let secret_bits = bits(secret, masked.inputs);
-        for (tape, run) in runs.iter_mut().enumerate() {
-            masked.run(&secret_bits, tape, &plain[secret], run)?;
-        }
-    }
-
-    let mut case = MapCase {
-        and,
-        table: masked.plain.clone(),
-        order: 1,
-        first: Vec::new(),
-        second: Vec::new(),
-        tape: Vec::new(),
-        probes: Vec::new(),
-        mapped: bytes_for(masked.tape),
-        one: wires,
-        other: wires,
-    };
-    let (mut mapping, mut expected) = (Written::new(&case), Written::new(&case));
-    let mut maps = 0;
-    let lists = std::iter::once(None).chain((0..wires as u32).map(Some));
-    for probe in lists {
-        case.probes = probe.into_iter().collect();
-        let marks = |masks: &dyn Masks| probe.map(|wire| masks.marks(and, &case.table, 1, wire));
+    let mut runs = vec![Vec::with_capacity(masked.tapes()); masked.secrets()];
+    masked.run_all(|secret, _, values| runs[secret].push(values.to_vec()))?;
+    for probe in once(None).chain((0..masked.wires as u32).map(Some)) {
+        let marks = |masks: &dyn Masks| probe.map(|wire| masks.marks(and, &masked.plain, 1, wire));
         if marks(ours) != marks(theirs) {
             return Err(format!("the marks of wire {probe:?} differ"));
         }
-        let mut leads_to = vec![vec![vec![0; tapes]; secrets]; secrets];
-        // For each pair of secrets, how many tapes let the probe read 1 in the first run.
-        let mut ones = vec![vec![0; secrets]; secrets];
-        for x in 0..secrets {
-            for y in 0..secrets {
-                case.first = bits(x, masked.inputs);
-                case.second = bits(y, masked.inputs);
-                for tape in 0..tapes {
-                    case.tape = tape_of(tape, masked.tape);
-                    let told = |text: &str| format!("{}\n{text}", Case::Map(case.clone()));
-                    let outcome = mapping.take(&case, theirs);
-                    if outcome != expected.take(&case, ours) || mapping != expected {
-                        return Err(told("the implementations differ"));
-                    }
-                    let mapped = number(&mapping.mapped);
-                    if mapping.one != runs[x][tape] || mapping.other != runs[y][mapped] {
-                        return Err(told("the runs are not those of the masked table"));
-                    }
-                    let read = probe.map(|wire| wire as usize);
-                    if read.is_some_and(|wire| mapping.one[wire] != mapping.other[wire]) {
-                        return Err(told("the probe reads different values in the two runs"));
-                    }
-                    ones[x][y] += read.map_or(0, |wire| u32::from(mapping.one[wire]));
-                    leads_to[x][y][tape] = mapped;
-                    maps += 1;
-                }
-            }
+        check_list(ours, &masked, &runs, probe.into_iter().collect())?;
+    }
+    let lists = masked.wires + 1;
+    Ok((lists * masked.secrets().pow(2) * masked.tapes()) as u64)
+}
+
+/// Checks all maps with one probe list, given the wire values of each secret with each tape.
+fn check_list<M: Masks>(
+    ours: &impl Masks,
+    masked: &Masked<M>,
+    runs: &[Vec<Vec<u8>>],
+    probes: Vec<u32>,
+) -> Result<(), String> {
+    let mut maps = Maps::new(ours, masked, runs, probes)?;
+    let secrets = masked.secrets();
+    let pairs = || (0..secrets).flat_map(|x| (0..secrets).map(move |y| (x, y)));
+    let seen = pairs().map(|(x, y)| maps.check(x, y)).collect::<Result<Vec<_>, _>>()?;
+    let probes = &maps.case.probes;
+    for (x, y) in pairs() {
+        let (there, back) = (&seen[x * secrets + y], &seen[y * secrets + x]);
+        if there.patterns != back.patterns {
+            return Err(format!("probes {probes:?} tell secrets {x} and {y} apart"));
         }
-        for x in 0..secrets {
-            for y in 0..secrets {
-                if ones[x][y] != ones[y][x] {
-                    return Err(format!("probe {probe:?} tells secrets {x} and {y} apart"));
-                }
-                let astray = |&tape: &usize| leads_to[y][x][leads_to[x][y][tape]] != tape;
-                if let Some(tape) = (0..tapes).find(astray) {
-                    return Err(format!(
-                        "secrets {x} to {y}, tape {tape}, probe {probe:?}: mapping back leads astray"
-                    ));
-                }
-            }
+        let astray = |&tape: &usize| back.mapped[there.mapped[tape]] != tape;
+        if let Some(tape) = (0..masked.tapes()).find(astray) {
+            return Err(format!(
+                "secrets {x} to {y}, tape {tape}, probes {probes:?}: mapping back leads astray"
+            ));
         }
     }
-    Ok(maps)
+    Ok(())
+}
+
+/// The maps with one probe list, and what each must be.
+struct Maps<'a, O, M> {
+    ours: &'a O,
+    masked: &'a Masked<'a, M>,
+    runs: &'a [Vec<Vec<u8>>],
+    case: MapCase,
+    reads: Vec<usize>,
+    free_share: u32,
+}
+
+/// What was seen of the maps from one secret to another, for all tapes.
+struct Seen {
+    /// The number of the tape that each leads to.
+    mapped: Vec<usize>,
+    /// How many of the first runs give each pattern of the values read.
+    patterns: [u32; 8],
+}
+
+impl<'a, O: Masks, M: Masks> Maps<'a, O, M> {
+    fn new(
+        ours: &'a O,
+        masked: &'a Masked<'a, M>,
+        runs: &'a [Vec<Vec<u8>>],
+        probes: Vec<u32>,
+    ) -> Result<Self, String> {
+        let case = MapCase {
+            and: masked.and,
+            table: masked.plain.clone(),
+            order: masked.order,
+            first: Vec::new(),
+            second: Vec::new(),
+            tape: Vec::new(),
+            probes,
+            mapped: bytes_for(masked.tape),
+            one: masked.wires,
+            other: masked.wires,
+        };
+        let reads = masked.reads(&case.probes)?;
+        let free_share = free_share(masked.masks, &case)?;
+        Ok(Maps { ours, masked, runs, case, reads, free_share })
+    }
+
+    /// Takes all tapes from one secret to another.
+    fn check(&mut self, x: usize, y: usize) -> Result<Seen, String> {
+        let Masked { inputs, tape: bits_of_tape, .. } = *self.masked;
+        self.case.first = bits(x, inputs);
+        self.case.second = bits(y, inputs);
+        let mut written = [Written::new(&self.case), Written::new(&self.case)];
+        let mut seen = Seen { mapped: Vec::new(), patterns: [0; 8] };
+        for tape in 0..self.masked.tapes() {
+            self.case.tape = tape_of(tape, bits_of_tape);
+            let told = |text| format!("{}\n{text}", Case::Map(self.case.clone()));
+            let mapped = self.check_tape(x, y, tape, &mut written).map_err(told)?;
+            seen.mapped.push(mapped);
+            seen.patterns[self.pattern(&self.runs[x][tape])] += 1;
+        }
+        Ok(seen)
+    }
+
+    /// Puts the case, with one tape, to both implementations. Answers the number of the tape that it
+    /// leads to.
+    fn check_tape(
+        &self,
+        x: usize,
+        y: usize,
+        tape: usize,
+        [written, expected]: &mut [Written; 2],
+    ) -> Result<usize, &'static str> {
+        let outcome = written.take(&self.case, self.masked.masks);
+        if outcome != expected.take(&self.case, self.ours) || written != expected {
+            return Err("the implementations differ");
+        }
+        if outcome != Outcome::value(self.free_share) {
+            return Err("the free share is another");
+        }
+        let mapped = number(&written.mapped);
+        if written.one != self.runs[x][tape] || written.other != self.runs[y][mapped] {
+            return Err("the runs are not those of the masked table");
+        }
+        if self.pattern(&written.one) != self.pattern(&written.other) {
+            return Err("the probe reads different values in the two runs");
+        }
+        Ok(mapped)
+    }
+
+    /// The pattern of the values read, of which there are at most three, as a number.
+    fn pattern(&self, values: &[u8]) -> usize {
+        self.reads.iter().fold(0, |pattern, &wire| pattern << 1 | usize::from(values[wire]))
+    }
 }
 
 /// What a map writes.

@@ -5,7 +5,7 @@ use crate::case::{Lent, MapCase};
 use crate::circuit::Circuit;
 use crate::generate::circuit;
 use crate::masks::{Masks, Outcome};
-use crate::model::{AND, CONSTANT, MOST, NOT, OR, XOR, bytes_for, cut};
+use crate::model::{AND, CONSTANT, MOST, NOT, OR, XOR, bytes_for, cut, reads};
 use crate::rng::Rng;
 
 fn ensure(holds: bool, what: &str) -> Result<(), String> {
@@ -13,13 +13,13 @@ fn ensure(holds: bool, what: &str) -> Result<(), String> {
 }
 
 /// Checks an accepted map that answered a free share and wrote its three buffers: that no probe has
-/// that mark, and no smaller share is free; that the probes read the same in both runs, that the map
-/// from y to x leads back, that both runs are those of the masked table on the encoded secrets, and
-/// that their outputs decode to those of the plain table.
+/// that mark, and no smaller share is free; that the probes read the same in both runs, outputs and
+/// pins, that the map from y to x leads back, that both runs are those of the masked table on the
+/// encoded secrets, and that their outputs decode to those of the plain table.
 pub fn check_mapping(
     masks: &impl Masks,
     case: &MapCase,
-    free_share: u32,
+    free: u32,
     buffers: &[Lent],
 ) -> Result<(), String> {
     let Outcome { number: 0, values: [_, wires, bits, bytes], .. } =
@@ -34,11 +34,12 @@ pub fn check_mapping(
         "the map accepts other sizes than forecast",
     )?;
     let (mapped, one, other) = (mapped.head(case.tape.len()), one.head(wires), other.head(wires));
-    let read_the_same =
-        case.probes.iter().all(|&probe| one[probe as usize] == other[probe as usize]);
+    let mut masked = vec![0; bytes as usize];
+    let outcome = masks.mask(case.and, &case.table, case.order, &mut masked);
+    ensure(outcome == Outcome::value(bytes), "masking refuses what the map accepts")?;
+    let read_the_same = reads(&masked, &case.probes)?.iter().all(|&wire| one[wire] == other[wire]);
     ensure(read_the_same, "a probe reads different values in the two runs")?;
-
-    check_free_share(masks, case, free_share)?;
+    ensure(free == free_share(masks, case)?, "the free share is another")?;
 
     let (mut tape, mut first, mut second) =
         (vec![255; mapped.len()], vec![2; one.len()], vec![2; one.len()]);
@@ -54,20 +55,17 @@ pub fn check_mapping(
         &mut first,
         &mut second,
     );
-    ensure(back == Outcome::value(free_share), "the map back answers something else")?;
+    ensure(back == Outcome::value(free), "the map back answers something else")?;
     ensure(tape == case.tape, "the map back does not give the tape")?;
     ensure(first == other && second == one, "the map back does not give the two runs")?;
 
-    let mut masked = vec![0; bytes as usize];
-    let outcome = masks.mask(case.and, &case.table, case.order, &mut masked);
-    ensure(outcome == Outcome::value(bytes), "masking refuses what the map accepts")?;
     let encoded = 2 * usize::from(case.order) * case.first.len();
     check_run(masks, case, &masked, &case.first, cut(&case.tape, bits, encoded), one)?;
     check_run(masks, case, &masked, &case.second, cut(mapped, bits, encoded), other)
 }
 
-/// Checks that a share is the smallest that no probe carries.
-fn check_free_share(masks: &impl Masks, case: &MapCase, free_share: u32) -> Result<(), String> {
+/// The smallest share that no probe of a map carries, by the marks call.
+pub fn free_share(masks: &impl Masks, case: &MapCase) -> Result<u32, String> {
     let mut carried = [false; 32];
     for &probe in &case.probes {
         let outcome = masks.marks(case.and, &case.table, case.order, probe);
@@ -76,8 +74,8 @@ fn check_free_share(masks: &impl Masks, case: &MapCase, free_share: u32) -> Resu
         carried[first as usize] = true;
         carried[second as usize] = true;
     }
-    let smallest = (1..32).find(|&share| !carried[share]);
-    ensure(smallest == Some(free_share as usize), "the free share is another")
+    let free = (1..32).find(|&share| !carried[share as usize]);
+    free.ok_or("every share is carried".into())
 }
 
 /// Checks one of the two runs against encoding, running and decoding, with the two parts of its
