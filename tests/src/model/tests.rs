@@ -1,10 +1,13 @@
 //! Tests of the implementation alone, without the archive.
 
+use super::map::free_share;
+use super::marks::Masked;
+use super::masking::Plain;
 use super::*;
-use crate::case::{Call, Case, Lent};
-use crate::circuit::{Circuit, and, constant, or};
+use crate::case::{Call, Case, Lent, MapCase};
+use crate::circuit::{Circuit, and, constant, not, or, random, xor};
 use crate::compare::Tally;
-use crate::examples::{examples, the_and};
+use crate::examples::{dom_masked_and, examples, masked_and, the_and};
 use crate::exhaustive::{check_maps, check_patterns, circuits, circuits_for_order_2};
 use crate::generate::generate;
 use crate::kinds;
@@ -91,6 +94,129 @@ fn a_gate_costs_what_the_paper_says() {
     }
 }
 
+#[test]
+fn a_probe_reads_a_wire_and_its_pins() {
+    let read = |table: &[u8], probe| reads(table, &[probe]).unwrap();
+    let (isw, dom) = (masked_and(), dom_masked_and());
+    for table in [&isw, &dom] {
+        assert_eq!(read(table, 5), [5]);
+        assert_eq!(read(table, 6), [6]);
+        assert_eq!(read(table, 7), [7, 0, 4]);
+        assert_eq!(read(table, 21), [21, 0, 3]);
+    }
+    assert_eq!(read(&isw, 10), [10, 8, 9]);
+    assert_eq!(read(&dom, 10), [10, 9, 6]);
+    assert_eq!(read(&isw, 22), [22, 21, 6]);
+    assert_eq!(read(&dom, 22), [22, 21, 8]);
+    assert_eq!(reads(&isw, &[7, 6, 7]), Ok(vec![7, 0, 4, 6, 7, 0, 4]));
+    assert_eq!(reads(&isw, &[29, 30]), Err(Fault::Probe.at(1)));
+
+    let gates = [not(1), xor(0, 2), and(3, 3), random(), constant(1), or(4, 0)];
+    let table = Circuit::new(2, &gates, &[7]).bytes();
+    let all = [vec![0], vec![1], vec![2, 1], vec![3, 0, 2], vec![4, 3, 3], vec![5], vec![6]];
+    assert_eq!(reads(&table, &[0, 1, 2, 3, 4, 5, 6]), Ok(all.concat()));
+    assert_eq!(read(&table, 7), [7, 4, 0]);
+}
+
+/// What a probe reads can be found without the masked table.
+fn check_reads(and: And, table: &[u8], order: u8, probes: &[u32]) {
+    let plain = Plain::new(table, order).unwrap();
+    let masked = Masked::new(&plain, and);
+    let mut written = vec![0; forecast(table, order).unwrap().bytes as usize];
+    mask(and, table, order, &mut written).unwrap();
+    let found = probes.iter().flat_map(|&probe| masked.reads(probe as usize)).collect();
+    assert_eq!(reads(&written, probes), Ok(found));
+}
+
+/// The marks of a probe on each masked wire, by a rule for each kind of gate, without pins.
+fn marks_by_rule(construction: And, circuit: &Circuit, n: u8) -> Vec<(u8, u8)> {
+    let shares: Vec<(u8, u8)> = (1..=n).map(|s| (s, 0)).collect();
+    let mut product = Vec::new();
+    for (i, j) in (1..=n).flat_map(|i| (i + 1..=n).map(move |j| (i, j))) {
+        product.push(if construction == And::Isw { (i, 0) } else { (i, j) });
+        product.extend([(i, j); 4]);
+    }
+    product.extend(shares.iter().flat_map(|&own| vec![own; usize::from(n)]));
+    let or = [&[(1, 0), (1, 0)], &product[..], &[(1, 0)]].concat();
+    let of_gates = circuit.gates.iter().map(|gate| match gate.0 {
+        NOT => &[(1, 0)],
+        XOR | CONSTANT => &shares[..],
+        AND => &product,
+        _ => &or,
+    });
+    [shares.repeat(circuit.inputs.into()), of_gates.flatten().copied().collect()].concat()
+}
+
+#[test]
+fn joined_marks_are_what_a_rule_says() {
+    for (and, order) in And::BOTH.into_iter().flat_map(|and| [(and, 1), (and, 2), (and, 3)]) {
+        let n = 2 * order + 1;
+        for circuit in sampled::circuits(order) {
+            let table = circuit.bytes();
+            let wires = forecast(&table, order).unwrap().wires;
+            check_reads(and, &table, order, &Vec::from_iter(0..wires));
+            let marked = (0..wires).map(|wire| {
+                let Marks { first, second } = marks(and, &table, order, wire).unwrap();
+                assert!((1..=n).contains(&first) && second <= n, "wire {wire} of {circuit:?}");
+                assert!(second == 0 || first < second, "wire {wire} of {circuit:?}");
+                (first, second)
+            });
+            assert_eq!(marked.collect::<Vec<_>>(), marks_by_rule(and, &circuit, n), "{circuit:?}");
+        }
+    }
+}
+
+#[test]
+fn marks_of_several_wires_are_joined() {
+    let (one, two) = (Marks::one, Marks::two);
+    assert_eq!(Marks::joined([one(31)].into_iter()), one(31));
+    assert_eq!(Marks::joined([one(3), two(1, 3), one(1)].into_iter()), two(1, 3));
+    assert_eq!(Marks::joined([one(4), one(2), one(4)].into_iter()), two(2, 4));
+}
+
+#[test]
+#[should_panic(expected = "a probe carries two shares at most")]
+fn three_shares_are_no_marks() {
+    Marks::joined([Marks::two(1, 2), Marks::one(3)].into_iter());
+}
+
+/// The marks of wires alone.
+fn single_marks(and: And, table: &[u8], order: u8, wires: &[u32]) -> impl Iterator<Item = Marks> {
+    let plain = Plain::new(table, order).unwrap();
+    let masked = Masked::new(&plain, and);
+    let marks: Vec<_> = wires.iter().map(|&wire| masked.single_marks(wire as usize)).collect();
+    marks.into_iter()
+}
+
+/// Whether a case is accepted and would have other marks, or another free share, without pins.
+fn differs_without_pins(case: &Case) -> bool {
+    let outcome = case.put_to(&Model, &mut case.buffers());
+    match case {
+        _ if outcome.number != 0 => false,
+        Case::Marks { and, table, order, wire } => {
+            let marks = single_marks(*and, table, *order, &[*wire]).next();
+            marks.is_some_and(|marks| outcome != Ok(marks).into())
+        }
+        Case::Map(MapCase { and, table, order, probes, .. }) => {
+            let n = 2 * usize::from(*order) + 1;
+            let free = free_share(n, single_marks(*and, table, *order, probes));
+            outcome.values[0] != free as u32
+        }
+        _ => unreachable!("the call has marks"),
+    }
+}
+
+/// Of the generated marks and maps, one in a hundred or more would be another without pins.
+#[test]
+fn generated_cases_differ_without_pins() {
+    for call in And::BOTH.into_iter().flat_map(|and| [Call::Marks(and), Call::Map(and)]) {
+        let mut rng = Rng::new(1);
+        let differing =
+            (0..20_000).filter(|_| differs_without_pins(&generate(call, &mut rng))).count();
+        assert!(differing >= 200, "{}: {differing} of 20,000", call.name());
+    }
+}
+
 /// How many gates of each kind a table has, by the kind's number, and how many constants are 1.
 fn kinds_in(table: &[u8]) -> ([usize; 6], usize) {
     let gates = Circuit::read(table).gates;
@@ -139,6 +265,9 @@ fn generated_cases_hold_together() {
                 }
                 (Case::Forecast { table, order }, 0 | 8, _) => {
                     assert_eq!(check_counts(&Model, table, *order, outcome), Ok(()), "{case}");
+                }
+                (Case::Marks { and, table, order, wire }, 0, _) => {
+                    check_reads(*and, table, *order, &[*wire]);
                 }
                 (Case::Map(map), 0, buffers) => {
                     if let Err(text) = check_mapping(&Model, map, outcome.values[0], buffers) {
@@ -210,7 +339,7 @@ fn kinds_are_taken_and_refused() {
     }
 }
 
-/// A million runs each; any two wires of the masked AND, or OR, at order 2 tell nothing about the secrets.
+/// A million runs each; any two probes on the masked AND, or OR, at order 2 tell nothing about the secrets.
 #[test]
 fn two_probes_at_order_2_tell_nothing() {
     for gate in [and(0, 1), or(0, 1)] {
