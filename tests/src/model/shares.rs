@@ -6,7 +6,7 @@ use super::{Fault, MOST, Refusal, check_bits};
 /// An order from 1 to 15.
 #[derive(Clone, Copy)]
 pub(super) struct Order {
-    /// The order itself: so many wires may be read together.
+    /// The order itself: so many probes may read together.
     pub t: usize,
     /// The number of shares, 2t + 1.
     pub n: usize,
