@@ -54,6 +54,8 @@ take_order() {
     order=${order:-0}
     if [ "${#order}" -gt 3 ] || [ "$order" -gt 255 ]; then order=255; fi
     order_byte=$(printf '\\%03o' "$order")
+    needles="$order needles"
+    [ "$order" -ne 1 ] || needles='1 needle'
 }
 
 # Copies at most so many bytes of a table to a file in scratch: what is then masked is what is hashed.
@@ -165,7 +167,7 @@ mask() {
     beside=''
     print "'$3' is written, but standard output is not" <<TXT
 $shares shares, $masked_wires wires, $tape_bits tape bits, AND: $and
-Whoever reads at most $order of the wires, whichever, learns nothing of the secrets: $proved_in
+Whoever holds at most $needles to it, pins of the touched gates included, learns nothing of the secrets: $proved_in
 SHA-256 $plain_sum of the table, $masked_sum of the masked one
 TXT
 }
@@ -183,7 +185,7 @@ certify() {
     cmp -s "$scratch/masked" "$scratch/given" || tell_difference "$3" "$2"
     print <<TXT
 Certificate of masking
-  order         $order: at most $order of the wires are read together
+  order         $order: at most $needles together, pins of the touched gates included
   AND           $and, of $and_of
   shares        $shares for each bit
   wires         $masked_wires in the masked table
@@ -195,7 +197,7 @@ Certificate of masking
   toolchain     $toolchain
   date          $(date -u +%Y-%m-%d)
 The masked table is, byte for byte, the one that masking the plain table at order $order with the $and AND gives.
-Whoever reads at most $order of its wires, whichever, learns nothing of the secrets; docs/ASSURANCE.md says what this rests on.
+Whoever holds at most $needles to it, pins of the touched gates included, learns nothing of the secrets; docs/ASSURANCE.md says what this rests on.
 TXT
 }
 

@@ -20,6 +20,11 @@
  * of the last byte 0. The tape 1 0 0 1 1 0 1 is the byte 0x59; where its first four bits are for encoding, masks_encode takes 0x09
  * and masks_run 0x05.
  *
+ * A probe is a needle on a wire of the masked table. It reads the wire and the pins of the gate that drives it, which are the wires on
+ * the gate's operands: one of a NOT, two of an XOR or an AND, none of a random gate or a constant (an unused operand and a constant's
+ * value are no pins), and none of an input. A table masked at order t stands t probes together, each reading up to three wires: they
+ * tell nothing of the secrets. A probe carries the share numbers of all wires that it reads, two at most.
+ *
  * There are two ANDs. masks_mask, masks_marks_of and masks_map have that of Ishai, Sahai and Wagner; the same names with _dom at the
  * end have the DOM AND, also inside an OR, with the same parameters, answers, sizes and tapes. A masked table, its marks and its map
  * belong together: they are of one AND.
@@ -31,7 +36,7 @@
 #include <stdint.h>
 
 /* Before version 1.0.0 a call may still change. */
-#define MASKS_VERSION "0.4.0"
+#define MASKS_VERSION "0.5.0"
 
 #ifdef __cplusplus
 extern "C" {
@@ -118,14 +123,15 @@ struct masks_answer masks_run(const uint8_t *table, size_t table_len, const uint
                               const uint8_t *random, size_t random_len, uint8_t *values, size_t values_len,
                               uint8_t *outputs, size_t outputs_len);
 
-/* The share numbers that a wire of the masked table carries. Refusals 1 to 8, 13. Stack: under 1 KiB. */
+/* The share numbers that a probe on a wire of the masked table carries: those of the wire and of its gate's pins, each once.
+ * Refusals 1 to 8, 13. Stack: under 1 KiB. */
 struct masks_marks masks_marks_of(const uint8_t *table, size_t table_len, uint8_t order, uint32_t wire);
 
 /* The same of the table that masks_mask_dom writes. Refusals 1 to 8, 13. Stack: under 1 KiB. */
 struct masks_marks masks_marks_of_dom(const uint8_t *table, size_t table_len, uint8_t order, uint32_t wire);
 
-/* Maps a packed tape from the first secret to the second, so that each probe, a wire of the masked table, keeps its value. Writes
- * the mapped tape, packed too, to mapped, the masked table's wire values with the first secret and the tape to one, and those with
+/* Maps a packed tape from the first secret to the second, so that every wire that a probe reads, pins included, keeps its value.
+ * Probes are given by their wires. Writes the mapped tape, packed too, to mapped, the masked table's wire values with the first secret and the tape to one, and those with
  * the second secret and the mapped tape to other. Value: the free share, the smallest share number that no probe carries.
  * Refusals 1 to 8, 10 to 13, 9. Stack: under 400 KiB. */
 struct masks_answer masks_map(const uint8_t *table, size_t table_len, uint8_t order, const uint8_t *first, size_t first_len,

@@ -1,5 +1,5 @@
--- Running a gate table, and what a probe reads (document 01, "Tape, encoding, decoding", and Card 9): "Running any gate table writes one value for each wire;
--- it takes exactly I inputs and one bit for each random gate." A bit is a byte, 0 or 1.
+-- Running a gate table (document 01, "Tape, encoding, decoding"): "Running any gate table writes one value for each wire;
+-- it takes exactly I inputs and one bit for each random gate." A bit is a byte, 0 or 1. And what a probe reads (Card 9).
 -- Assumes nothing.
 use mathlib.Core.Bool.{cond}
 use mathlib.Core.List.{List, [], _∷_, _++_}

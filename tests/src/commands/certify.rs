@@ -59,7 +59,13 @@ fn certificate(folder: &Folder, and: And, table: &[u8], order: u8) -> Result<(),
     let told: Vec<&str> = version.out.lines().collect();
     ensure(told.len() == 3, &version, "version has not three lines")?;
     let entries = [
-        ("order", format!("{order}: at most {order} of the wires are read together")),
+        (
+            "order",
+            format!(
+                "{order}: at most {} together, pins of the touched gates included",
+                needles(order)
+            ),
+        ),
         ("AND", of_and(and).into()),
         ("shares", format!("{} for each bit", sizes.shares)),
         ("wires", format!("{} in the masked table", sizes.wires)),
@@ -76,6 +82,11 @@ fn certificate(folder: &Folder, and: And, table: &[u8], order: u8) -> Result<(),
     let told = format!("masking the plain table at order {order} with the {} AND", and.name());
     ensure(ran.out.contains(&told), &ran, &told)?;
     ensure(days.iter().any(|day| entry(&ran, "date") == day), &ran, "the date is another")
+}
+
+/// So many needles.
+fn needles(order: u8) -> String {
+    if order == 1 { "1 needle".into() } else { format!("{order} needles") }
 }
 
 /// What a certificate says of an AND.

@@ -71,7 +71,11 @@ fn masks(folder: &Folder) -> Result<(), String> {
         let lines: Vec<&str> = ran.out.lines().collect();
         let sizes = format!("3 shares, 30 wires, 7 tape bits, AND: {name}");
         ensure(lines[0] == sizes, &ran, "the sizes or the AND are others")?;
-        ensure(lines[1].contains("at most 1 of the wires"), &ran, "the order is not told")?;
+        ensure(
+            lines[1].contains("at most 1 needle to it, pins of the touched gates included"),
+            &ran,
+            "the order is not told",
+        )?;
         let plain_sum = "e76497d5f59abde9ac7b940f45d23a8f4f44700dac55e8d3ea9072e787842373";
         let told = [plain_sum, masked_sum].iter().all(|sum| lines[2].contains(sum));
         ensure(told, &ran, "the sums are others")?;
