@@ -55,6 +55,8 @@ int main(void) {
     printf("free share   %u\n", k);
     for (size_t i = 0; i < 7; i++) bits[i] = tape_bit(mapped, i);
     print("mapped tape", bits, 7);
-    printf("wire 29 is %d with secrets 1 1, and %d with 0 1 and the mapped tape\n", one[29], other[29]);
+    /* what a probe on wire 29 reads: that wire and the pins of its gate, an XOR of wires 28 and 20 */
+    printf("wires 29, 28, 20 are %d %d %d with secrets 1 1, and %d %d %d with 0 1 and the mapped tape\n", one[29], one[28], one[20],
+           other[29], other[28], other[20]);
     return 0;
 }
