@@ -27,7 +27,7 @@ use Rattle.masks.proofs.Each.{Each, each-append, each-at, each-up}
 use Rattle.masks.proofs.Lawful.{Lawful}
 use Rattle.masks.proofs.Costs.{adding-length, and-length, orAnd, new-length, new-draws}
 use Rattle.masks.proofs.Shares.{share-values, or-solves}
-use Rattle.masks.proofs.Products.{rowTerms, fiveWire, each-five, each-and, and-pair, and-row}
+use Rattle.masks.proofs.Products.{rowTerms, fiveWire, each-five, and-share-at, each-and, and-pair, and-row}
 use Rattle.masks.proofs.Placed.{drop-share}
 use Rattle.masks.proofs.Gatewise.{masked-each}
 use Rattle.maps.specs.Maps.{pairFlip, valuesOf, gateFlips}
@@ -179,9 +179,7 @@ module _
             adding-length (λ m. part (sum i m)) 1 (rowFrom i) (suc (rowFrom i)) (rowTerms G n w i),
             row-length n (pairWire w (G .low)) (pairWire w (G .high)) i below,
           ) in
-          let at : share (andShares n w) i ≡ rowFrom i + (n - 1) =
-          up-at n 0 (λ i. rowFrom i + (n - 1)) i 0 below
-          ∙ ap (λ (i : ℕ). rowFrom i + (n - 1)) {x = 0 + i} {y = i} (omega arith) in
+          let at = and-share-at n w i below in
           ap v at
           ∙ each-at _ (rowFrom i) _ (n - 1) (wire (gate AND 0 0) (part (own i))) (row-agrees i below ne) long
           ∙ sym (ap u at),

@@ -1,5 +1,5 @@
--- What a gadget must satisfy for its masked AND to compute. Facts about rows, shares and tables are proved of every such
--- gadget; another AND enters by its laws alone.
+-- What a gadget must satisfy for its masked AND to compute, and what its wires and their pins carry. Facts about rows, shares and
+-- tables are proved of every such gadget; another AND enters by its laws alone.
 -- Assumes nothing.
 use mathlib.Core.Path.{_≡_, refl, ap, _∙_}
 use mathlib.Core.List.{List, [], _∷_, map}

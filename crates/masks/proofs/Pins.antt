@@ -30,7 +30,7 @@ use Rattle.masks.proofs.Costs.{and-length, orAnd}
 use Rattle.masks.proofs.Origins.{noWire, origin-map, origins-share, origins-input, origins-gate, pair-origin, own-origin, sum-origin, masked-here, masked-past}
 use Rattle.masks.proofs.Origins.{share-origin, first-origin, last-origin, inner-origin}
 use Rattle.masks.proofs.Placed.{index-small, row-ends, drop-share, plain-inputs}
-use Rattle.masks.proofs.Products.{rowTerms, fiveWire, each-five, each-and}
+use Rattle.masks.proofs.Products.{rowTerms, fiveWire, each-five, and-share-at, each-and}
 use Rattle.masks.proofs.Gatewise.{masked-each}
 
 -- n wires, each of which carries the number of its share alone
@@ -74,7 +74,9 @@ module _
     (known : Known G M (andCost n) w (andWires G n part w a b))
   where
     -- the marks of a wire of the AND, at place d
-    marks-at : (d p : ℕ) (x : Part) → d < andCost n → p ≡ w + d → originAt (map originOf (andWires G n part w a b)) d ≡ part x → M p ≡ partMarks G x
+    marks-at :
+        (d p : ℕ) (x : Part) → d < andCost n → p ≡ w + d → originAt (map originOf (andWires G n part w a b)) d ≡ part x
+        → M p ≡ partMarks G x
     marks-at d p x h e o = ap M e ∙ known d h ∙ ap (marks G) o ∙ same G x
 
     pair-marks :
@@ -107,8 +109,12 @@ module _
     terms-marks : (i : ℕ) → i < n → All (λ z. M z ≡ suc i ∷ []) (rowTerms G n w i)
     terms-marks i h =
         row-all (λ z. M z ≡ suc i ∷ []) n _ _ i h
-        (λ j l. let at = pair-at n j i (pairOf 0 0) l h in pair-marks-at _ j i (at .0) (at .1) (G .high) ∙ L .high-mark (suc j) (suc i))
-        (λ j l m. let at = pair-at n i j (pairOf 0 0) l m in pair-marks-at _ i j (at .0) (at .1) (G .low) ∙ L .low-mark (suc i) (suc j))
+        (λ j l.
+        let at = pair-at n j i (pairOf 0 0) l h in
+        pair-marks-at _ j i (at .0) (at .1) (G .high) ∙ L .high-mark (suc j) (suc i))
+        (λ j l m.
+        let at = pair-at n i j (pairOf 0 0) l m in
+        pair-marks-at _ i j (at .0) (at .1) (G .low) ∙ L .low-mark (suc i) (suc j))
 
     pair-joins :
         (q : ℕ) → q < tri n → (f : Five)
@@ -148,11 +154,7 @@ module _
         row-joins
 
     and-by-share : ByShare n M (andShares n w)
-    and-by-share i h =
-        ap M
-        (up-at n 0 (λ i. rowFrom i + (n - 1)) i 0 h
-        ∙ ap (λ (i : ℕ). rowFrom i + (n - 1)) {x = 0 + i} {y = i} (omega arith))
-        ∙ row-marks i (n - 1) h (omega arith)
+    and-by-share i h = ap M (and-share-at n w i h) ∙ row-marks i (n - 1) h (omega arith)
 
 -- shares of which the first is on another wire
 first-by-share :
@@ -270,7 +272,7 @@ module _ {G : Gadget} (L : Lawful G) (o : ℕ) (t : Table) (P : Plain t) where
       masked-joins L n 0 (n * t .inputs) (inputShares n (t .inputs)) (t .gates) M (omega arith) (plain-inputs n t P) inputs-by-share
       (λ d h. ap (marks G) (origins-gate G o t d))
 
-  -- the wire of a gate, and that of an input
+  -- the wire that gate d of the masked table drives
   gate-join : (d : ℕ) → d < length (maskedWires G o t) → PinsJoin G M (n * t .inputs + d) (getD (maskedWires G o t) d noWire)
   gate-join d h = each-at _ (n * t .inputs) (maskedWires G o t) d noWire gates-join h
 
@@ -281,9 +283,9 @@ module _ {G : Gadget} (L : Lawful G) (o : ℕ) (t : Table) (P : Plain t) where
   probe-marks w h = go (ltb w (n * t .inputs)) refl
     where
       go : (b : Bool) → ltb w (n * t .inputs) ≡ b
-          → (joined (ofEach M (w ∷ cond b [] (pins (getD (map driverOf (maskedWires G o t)) (w - n * t .inputs) noGate))))
-          ≡ marks (withPins G) (originAt (origins G o t) w))
-          × (length (joined (ofEach M (w ∷ cond b [] (pins (getD (map driverOf (maskedWires G o t)) (w - n * t .inputs) noGate))))) ≤ 2)
+          → let gates = map driverOf (maskedWires G o t) in
+          let ms = joined (ofEach M (w ∷ cond b [] (pins (getD gates (w - n * t .inputs) noGate)))) in
+          (ms ≡ marks (withPins G) (originAt (origins G o t) w)) × (length ms ≤ 2)
       go true e =
           let below = ltb-true w (n * t .inputs) e in
           let is = origins-input G o t w below in

@@ -60,6 +60,12 @@ each-five P w x h = (
   ),
 )
 
+-- share i of the result is the last wire of row i
+pub and-share-at : (n w i : ℕ) → i < n → share (andShares n w) i ≡ w + 5 * tri n + n * i + (n - 1)
+and-share-at n w i h =
+    up-at n 0 (λ i. w + 5 * tri n + n * i + (n - 1)) i 0 h
+    ∙ ap (λ (i : ℕ). w + 5 * tri n + n * i + (n - 1)) {x = 0 + i} {y = i} (omega arith)
+
 -- what holds of the wires of each pair and of each row holds of the AND's
 pub each-and :
     (G : Gadget) (n : ℕ) (part : Part → Origin) (w : ℕ) (a b : List ℕ) (P : ℕ → Wire → Type 0)
