@@ -20,6 +20,7 @@ use Rattle.tables.proofs.Tests.{and-true}
 use Rattle.tables.proofs.Lists.{All, bits-take, bits-drop}
 use Rattle.tables.proofs.Packing.{packed-length}
 use Rattle.tables.proofs.Run.{read-length}
+use Rattle.tables.proofs.Accept.{Plain}
 use Rattle.tables.proofs.Format.{outputs-written}
 use Rattle.masks.specs.declared.And as DAnd
 use Rattle.masks.specs.Gadgets.{Gadget, gadgetOf}
@@ -40,7 +41,7 @@ use Rattle.maps.proofs.Packed.{tape-again, hides-packed}
 use Rattle.maps.proofs.Faults.{MapGood, map-good}
 use Rattle.maps.proofs.Begun.{tape-is, secrets-are, values-long}
 use Rattle.maps.proofs.Computing.{computes}
-use Rattle.maps.proofs.Whole.{each-single, Covers, covers-pins, pins-below, pins-single, hides, demands}
+use Rattle.maps.proofs.Whole.{each-single, covers-pins, pins-below, pins-single, hides, demands}
 
 -- a call that answered 0 was refused by none of its checks, and answers its value
 answered-0 : (f : Fault) (v : ℕ) (r : DA.Answer) → Answered f v r → r .number ≡ 0 → (passed f ≡ true) × (r .value ≡ v)
@@ -220,11 +221,11 @@ module _ (a : DAnd.And) where
     abbrev us : List ℕ
     us = tapeOf (tapeLong G o plain) (take (length ts) (c .tape .after))
 
-    covers : Covers G (probeMarks G) probeReads plain o
-    covers = covers-pins (lawful a) plain o (plain-passed G s o (h .plain) .plain)
+    accepted : Plain plain
+    accepted = plain-passed G s o (h .plain) .plain
 
     hides-pins : Hides G (probeMarks G) probeReads plain o
-    hides-pins = hides (hiding a) plain o covers (plain-passed G s o (h .plain) .plain)
+    hides-pins = hides (hiding a) plain o (covers-pins (lawful a) plain o accepted) accepted
 
     of-ms : BitsOf (tapeLong G o plain) ms
     of-ms = bits-of G o plain ms (hides-pins .a-tape xs ys bs ps (h .first) (h .second) (h .tape) (h .probes))
@@ -264,7 +265,7 @@ module _ (a : DAnd.And) where
               ∙ sym (times-are s o (tableWritten c) ys ps pattern rd (h .plain) is (h .second));
         }
 
-    -- the probes, and the wires that they read with their pins, are wires of the masked table
+    -- the probes are wires of the masked table
     probes-below : All (λ p. p < wires (maskedTable G o plain)) ps
     probes-below =
         all-below (wires (maskedTable G o plain)) ps
@@ -276,8 +277,7 @@ module _ (a : DAnd.And) where
           with-pins =
               subst (λ (m : Table). ReadAlike G s o xs ys ts ps c (ofEach (probeReads m) ps))
               (sym (ap tableOf is ∙ demands a .written-back s o (h .plain) .read-back))
-              (read-alike probeReads hides-pins
-              (pins-below (lawful a) plain o (plain-passed G s o (h .plain) .plain) ps probes-below));
+              (read-alike probeReads hides-pins (pins-below (lawful a) plain o accepted ps probes-below));
           single-values =
               subst (ReadAlike G s o xs ys ts ps c) (each-single (maskedTable G o plain) ps)
               (read-alike single (pins-single hides-pins) (rw (each-single (maskedTable G o plain) ps) probes-below));
