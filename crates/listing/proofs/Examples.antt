@@ -7,6 +7,10 @@ use Rattle.tables.specs.Tables.{gatesFrom, wordsFrom, tableOf, gatesFault, outp
 use Rattle.text.specs.Text.{digits, lineOf}
 use Rattle.listing.specs.Listing.{gateLines, outputLines, joined, tableText}
 
+-- `inputs 2`
+abbrev twoLine : List ℕ
+twoLine = 105 ∷ 110 ∷ 112 ∷ 117 ∷ 116 ∷ 115 ∷ 32 ∷ 50 ∷ 10 ∷ []
+
 -- `w2 = AND w0 w1`
 abbrev andLine : List ℕ
 andLine = 119 ∷ 50 ∷ 32 ∷ 61 ∷ 32 ∷ 65 ∷ 78 ∷ 68 ∷ 32 ∷ 119 ∷ 48 ∷ 32 ∷ 119 ∷ 49 ∷ 10 ∷ []
@@ -36,7 +40,7 @@ abbrev outLine : List ℕ
 outLine = 111 ∷ 117 ∷ 116 ∷ 48 ∷ 32 ∷ 61 ∷ 32 ∷ 119 ∷ 50 ∷ 10 ∷ []
 
 -- document 01's AND
-pub the-and : tableText (2 ∷ 0 ∷ 1 ∷ 0 ∷ 1 ∷ 0 ∷ 2 ∷ 0 ∷ 0 ∷ 1 ∷ 0 ∷ 2 ∷ 0 ∷ []) ≡ andLine ++ outLine
+pub the-and : tableText (2 ∷ 0 ∷ 1 ∷ 0 ∷ 1 ∷ 0 ∷ 2 ∷ 0 ∷ 0 ∷ 1 ∷ 0 ∷ 2 ∷ 0 ∷ []) ≡ twoLine ++ (andLine ++ outLine)
 unfolding tableText tableFault tableOf gatesFrom wordsFrom gatesFault outputsFault gateLines outputLines joined lineOf digits
 the-and = refl
 
@@ -45,7 +49,7 @@ pub each-kind :
     tableText
     (2 ∷ 0 ∷ 6 ∷ 0 ∷ 1 ∷ 0 ∷ 2 ∷ 0 ∷ 1 ∷ 3 ∷ 4 ∷ 5
     ∷ 0 ∷ 0 ∷ 1 ∷ 0 ∷ 0 ∷ 0 ∷ 0 ∷ 0 ∷ 1 ∷ 0 ∷ 2 ∷ 0 ∷ 0 ∷ 0 ∷ 0 ∷ 0 ∷ 1 ∷ 0 ∷ 0 ∷ 0 ∷ 2 ∷ 0 ∷ 3 ∷ 0 ∷ 2 ∷ 0 ∷ [])
-    ≡ andLine ++ (notLine ++ (xorLine ++ (randomLine ++ (constantLine ++ (orLine ++ outLine)))))
+    ≡ twoLine ++ (andLine ++ (notLine ++ (xorLine ++ (randomLine ++ (constantLine ++ (orLine ++ outLine))))))
 unfolding tableText tableFault tableOf gatesFrom wordsFrom gatesFault outputsFault gateLines outputLines joined lineOf digits
 each-kind = refl
 

@@ -1,4 +1,4 @@
--- The lines of a table: what each is in the table's bytes, and how long: 27 bytes for a gate and 18 for an output at most.
+-- The lines of a table: what each is in the table's bytes, and how long: at most 13 bytes the first, 27 a gate's and 18 an output's.
 -- Assumes nothing.
 use mathlib.Core.Path.{_≡_, refl, ap}
 use mathlib.Core.Bool.{true}
@@ -14,7 +14,8 @@ use Rattle.tables.proofs.Accept.{Accepted, accepted, gates-of-length, outputs-o
 use Rattle.tables.proofs.Format.{passed-sound-gates, sound-earlier}
 use Rattle.text.specs.Text.{decimal, lineOf}
 use Rattle.text.proofs.Writing.{digits-few}
-use Rattle.listing.specs.Listing.{equalsWord, kindWords, gateLines, outputLines, tableLines, joined, listRoom, Listed, lineAt}
+use Rattle.listing.specs.Listing.{equalsWord, kindWords, inputsLine, gateLines, outputLines, tableLines, joined}
+use Rattle.listing.specs.Listing.{listRoom, Listed, lineAt}
 
 -- what stands after a gate's wire, by its kind's byte
 module _ (k l r : ℕ) where
@@ -79,6 +80,10 @@ kind-short w CONSTANT x y h e = omega (arith, five x (10 ∷ []) (omega arith))
 kind-short w OR x y h e = omega (arith, two-short x y (omega arith) (omega arith))
 kind-short w (UNKNOWN k) x y h e = omega arith
 
+inputs-short : (i : ℕ) → i < 65536 → length (inputsLine i) ≤ 13
+unfolding lineOf
+inputs-short i h = omega (arith, five i (10 ∷ []) h)
+
 gates-short : (w : ℕ) (gs : List Gate) → Earlier w gs → w + length gs ≤ 65535 → All (λ l. length l ≤ 27) (gateLines w gs)
 unfolding Earlier All gateLines lineOf
 gates-short w [] e h = tt
@@ -122,7 +127,7 @@ module _ (s : List ℕ) (H : Listed s) where
   ok : Accepted s
   ok = accepted s (H .0)
 
-  pub lines-length : length (tableLines (tableOf s)) ≡ word s 2 + word s 4
+  pub lines-length : length (tableLines (tableOf s)) ≡ 1 + word s 2 + word s 4
   lines-length =
       let t = tableOf s in
       omega (
@@ -133,6 +138,9 @@ module _ (s : List ℕ) (H : Listed s) where
         gates-of-length s,
         outputs-of-length s,
       )
+
+  inputs-fit : length (inputsLine (tableOf s .inputs)) ≤ 13
+  inputs-fit = inputs-short (tableOf s .inputs) (omega (arith, ok .few-wires))
 
   gates-fit : All (λ l. length l ≤ 27) (gateLines (tableOf s .inputs) (tableOf s .gates))
   gates-fit =
@@ -146,22 +154,28 @@ module _ (s : List ℕ) (H : Listed s) where
       (outputs-passed 0 (wires (tableOf s)) (tableOf s .outputs) (ok .outputs)))
       (omega (arith, H .1, outputs-of-length s))
 
+  later-fit : All (λ l. length l ≤ 32) (gateLines (tableOf s .inputs) (tableOf s .gates) ++ outputLines 0 (tableOf s .outputs))
+  later-fit =
+      all-append (λ l. length l ≤ 32) _ _
+      (all-map (λ l. length l ≤ 27) (λ l. length l ≤ 32) (λ l h. omega (arith, h)) _ gates-fit)
+      (all-map (λ l. length l ≤ 18) (λ l. length l ≤ 32) (λ l h. omega (arith, h)) _ outputs-fit)
+
   -- 32 bytes hold every line, and `listRoom` all of them
   pub line-short : (j : ℕ) → j < length (tableLines (tableOf s)) → length (lineAt s j) ≤ 32
+  unfolding All
   line-short j h =
-      all-getD (λ l. length l ≤ 32) (tableLines (tableOf s)) j []
-      (all-append (λ l. length l ≤ 32) _ _
-      (all-map (λ l. length l ≤ 27) (λ l. length l ≤ 32) (λ l h. omega (arith, h)) _ gates-fit)
-      (all-map (λ l. length l ≤ 18) (λ l. length l ≤ 32) (λ l h. omega (arith, h)) _ outputs-fit))
-      h
+      all-getD (λ l. length l ≤ 32) (tableLines (tableOf s)) j [] (omega (arith, inputs-fit), later-fit) h
 
   pub lines-short : length (joined (tableLines (tableOf s))) ≤ listRoom
+  unfolding joined
   lines-short =
       let t = tableOf s in
       let gates = gateLines (t .inputs) (t .gates) in
       let outputs = outputLines 0 (t .outputs) in
       omega (
         arith,
+        length-append (inputsLine (t .inputs)) (joined (gates ++ outputs)),
+        inputs-fit,
         joined-append gates outputs,
         joined-long 27 gates gates-fit,
         joined-long 18 outputs outputs-fit,

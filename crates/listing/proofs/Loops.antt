@@ -22,7 +22,8 @@ use Rattle.tables.proofs.Cut.{cut-fault, cut-refused}
 use Rattle.tables.proofs.Put.{Writing, put-length, writing-start, writing-long, writing-piece, writing-end}
 use Rattle.text.specs.Text.{refusalLine, Puts, PutsAll}
 use Rattle.text.proofs.Writing.{refusal-long}
-use Rattle.listing.specs.Listing.{gateLine, outputLine, gateLines, outputLines, tableLines, joined, tableText, listRoom, Listed, lineAt, ListSays}
+use Rattle.listing.specs.Listing.{inputsLine, gateLine, outputLine, gateLines, outputLines, tableLines, joined, tableText}
+use Rattle.listing.specs.Listing.{listRoom, Listed, lineAt, ListSays}
 use Rattle.listing.proofs.Lines.{gate-lines-length, lines-length, lines-short}
 
 -- the lines from number j on are left, and those before it take up `at` bytes
@@ -104,7 +105,7 @@ known-at w [] j S h = absurd (omega arith)
 known-at w (g ∷ gs) zero S h = S .0 .0
 known-at w (g ∷ gs) (suc j) S h = known-at (suc w) gs j (S .1) (omega arith)
 
--- line number j of a table of n gates that passed
+-- line number j after the first of a table of n gates that passed
 module _ (s : List ℕ) (H : Listed s) (j : ℕ) {n : ℕ} (en : n ≡ word s 2) where
   pub line-known : {x : DG.GateFields} → j < n → GateIs (gateOf (tableOf s) j) x → known (kindOf (x .kind)) ≡ true
   line-known h G =
@@ -112,7 +113,7 @@ module _ (s : List ℕ) (H : Listed s) (j : ℕ) {n : ℕ} (en : n ≡ word s 2)
 
   pub gate-line :
       {i : ℕ} {x : DG.GateFields} → j < n → i ≡ word s 0 → GateIs (gateOf (tableOf s) j) x
-      → gateLine (i + j) (gate (kindOf (x .kind)) (x .left) (x .right)) ≡ lineAt s j
+      → gateLine (i + j) (gate (kindOf (x .kind)) (x .left) (x .right)) ≡ lineAt s (suc j)
   gate-line h ei G =
       let t = tableOf s in
       let within : j < length (t .gates) = omega (arith, gates-of-length s) in
@@ -122,12 +123,12 @@ module _ (s : List ℕ) (H : Listed s) (j : ℕ) {n : ℕ} (en : n ≡ word s 2)
       (omega (arith, within, gate-lines-length (t .inputs) (t .gates)))
       ∙ gate-lines-at (t .inputs) (t .gates) j within))
 
-  pub line-output : {m : ℕ} → n ≤ j → m ≡ word s 4 → j < length (tableLines (tableOf s)) → j - n < m
+  pub line-output : {m : ℕ} → n ≤ j → m ≡ word s 4 → suc j < length (tableLines (tableOf s)) → j - n < m
   line-output h e k = omega (arith, k, lines-length s H)
 
   pub output-line :
-      {w : ℕ} → n ≤ j → j < length (tableLines (tableOf s)) → w ≡ getD (tableOf s .outputs) (j - n) 0
-      → outputLine (j - n) w ≡ lineAt s j
+      {w : ℕ} → n ≤ j → suc j < length (tableLines (tableOf s)) → w ≡ getD (tableOf s .outputs) (j - n) 0
+      → outputLine (j - n) w ≡ lineAt s (suc j)
   output-line h k ew =
       let t = tableOf s in
       let first : 0 + (j - n) ≡ j - n = omega arith in
@@ -137,7 +138,15 @@ module _ (s : List ℕ) (H : Listed s) (j : ℕ) {n : ℕ} (en : n ≡ word s 2)
       rw ew
       (sym (rw first at here)
       ∙ sym (getD-append-add (gateLines (t .inputs) (t .gates)) (outputLines 0 (t .outputs)) (j - n) [])
-      ∙ ap (λ (i : ℕ). lineAt s i) place)
+      ∙ ap (λ (i : ℕ). lineAt s (suc i)) place)
+
+-- line number j of a table, the first and a later one
+module _ (s : List ℕ) {j : ℕ} where
+  pub first-line : {i : ℕ} → j ≡ 0 → i ≡ word s 0 → inputsLine i ≡ lineAt s j
+  first-line ej ei = rw (ej, ei, inputs-of s) refl
+
+  pub later-line : (j ≡ 0 → ⊥) → lineAt s (suc (j - 1)) ≡ lineAt s j
+  later-line h = ap (λ (i : ℕ). lineAt s i) {x = suc (j - 1)} {y = j} (omega arith)
 
 -- the call's answer: the refusal, nothing, or the lines
 module _ (s : List ℕ) {f : DR.Refusal} (R : Refused (tableFault s) f) where
@@ -156,7 +165,7 @@ module _ (s : List ℕ) {f : DR.Refusal} (R : Refused (tableFault s) f) where
 
   pub list-sizes :
       {g o : ℕ} → f .number ≡ 0 → g ≡ word s 2 → (o ≡ word s 4) × (o < 65536)
-      → Listed s × (g + o ≡ length (tableLines (tableOf s)))
+      → Listed s × (1 + g + o ≡ length (tableLines (tableOf s)))
   list-sizes e eg eo =
       let H : Listed s = (list-passed e, omega (arith, eo .0, eo .1)) in (H, omega (arith, eg, eo .0, lines-length s H))
 

@@ -1,6 +1,7 @@
--- A table in words, as bytes of ASCII: a line for each gate in table order, `w2 = AND w0 w1`, `w3 = NOT w0`, `w4 = XOR w1 w2`,
--- `w5 = RANDOM`, `w6 = CONSTANT 1` or `w7 = OR w2 w3`, then a line for each output, its position and its wire, `out0 = w2`. Wires and
--- positions count from 0 (document 01, "Gate table"). A table that 1 to 5 refuse has the one line `refused`, number, place.
+-- A table in words, as bytes of ASCII: first the number of inputs, `inputs 2`; then a line for each gate in table order,
+-- `w2 = AND w0 w1`, `w3 = NOT w0`, `w4 = XOR w1 w2`, `w5 = RANDOM`, `w6 = CONSTANT 1` or `w7 = OR w2 w3`; then a line for each
+-- output, its position and its wire, `out0 = w2`. Wires and positions count from 0 (document 01, "Gate table"). A table that 1 to 5
+-- refuse has the one line `refused`, number, place.
 -- Assumes nothing.
 use mathlib.Core.Path.{_≡_}
 use mathlib.Core.Bool.{true, cond}
@@ -19,6 +20,10 @@ wireName w = 119 ∷ decimal w
 -- `out` and the output's position
 abbrev pub outName : ℕ → List ℕ
 outName o = 111 ∷ 117 ∷ 116 ∷ decimal o
+
+-- `inputs`
+abbrev pub inputsWord : List ℕ
+inputsWord = 105 ∷ 110 ∷ 112 ∷ 117 ∷ 116 ∷ 115 ∷ []
 
 -- `=`
 abbrev pub equalsWord : List ℕ
@@ -69,6 +74,10 @@ operandWords value-stated l r = decimal l ∷ []
 abbrev pub kindWords : Kind → ℕ → ℕ → List (List ℕ)
 kindWords k l r = kindWord k ++ operandWords (operandsOf k) l r
 
+-- the line of the number of inputs
+abbrev pub inputsLine : ℕ → List ℕ
+inputsLine i = lineOf inputsWord (decimal i ∷ [])
+
 -- the line of the gate that drives wire w
 abbrev pub gateLine : ℕ → Gate → List ℕ
 gateLine w g = lineOf (wireName w) (equalsWord ∷ kindWords (g .kind) (g .left) (g .right))
@@ -87,9 +96,9 @@ unfoldable pub outputLines : ℕ → List ℕ → List (List ℕ)
 outputLines o [] = []
 outputLines o (w ∷ ws) = outputLine o w ∷ outputLines (suc o) ws
 
--- the lines of a table: its gates, then its outputs
+-- the lines of a table: the number of its inputs, its gates, then its outputs
 abbrev pub tableLines : Table → List (List ℕ)
-tableLines t = gateLines (t .inputs) (t .gates) ++ outputLines 0 (t .outputs)
+tableLines t = inputsLine (t .inputs) ∷ (gateLines (t .inputs) (t .gates) ++ outputLines 0 (t .outputs))
 
 -- lines one after the other
 unfoldable pub joined : List (List ℕ) → List ℕ
@@ -101,7 +110,8 @@ unfoldable pub tableText : List ℕ → List ℕ
 tableText s =
     let f = tableFault s in cond (passed f) (joined (tableLines (tableOf s))) (refusalLine (f .number) (f .place))
 
--- the bytes that hold every table's text: 27 a gate and 18 an output, 65,536 of each
+-- the bytes that hold every table's text: 27 a gate and 18 an output, 65,536 of each; a table has fewer, so that its first line of 13
+-- fits too
 abbrev pub listRoom : ℕ
 listRoom = 2949120
 

@@ -1,15 +1,16 @@
-// A table in words: a line for each gate, then a line for each output.
+// A table in words: the number of inputs, a line for each gate, then a line for each output.
 ghost use mathlib.Core.Path.{_≡_};
 ghost use mathlib.Core.Bool.{true};
 ghost use mathlib.Core.List.{_∷_};
-ghost use Prim.Native.Nat.{_+_, _≤_, _<_};
+ghost use Prim.Native.Nat.{suc, _+_, _≤_, _<_};
 ghost use lib.ListN.{length};
 ghost use Rattle.tables.specs.Tables.{kindOf, gate, known, tableOf};
 ghost use Rattle.text.specs.Text.{lineOf, refusalLine, Puts, PutsAll};
 ghost use Rattle.listing.specs.Listing.{equalsWord, kindWords, gateLine, outputLine, tableLines, joined};
 ghost use Rattle.listing.specs.Listing.{Listed, lineAt, ListSays};
 
-// Bytes that hold the text of every table: 27 a gate and 18 an output, 65,536 of each.
+// Bytes that hold the text of every table: 27 a gate and 18 an output, 65,536 of each; a table has fewer, so that its first line of 13
+// fits too.
 pub const ROOM: usize = 2949120;
 
 // Puts what a gate's line has after its wire, and answers the next place.
@@ -61,11 +62,11 @@ fn put_output(out: &mut [u8], at: usize, position: u32, wire: u32) -> usize
     text::put_two(out, at, b"out", position, b" = w", wire)
 }
 
-// Puts line number j of a table, a gate's or after the gates an output's, and answers the next place.
-fn put_line(out: &mut [u8], at: usize, table: &[u8], j: usize) -> usize
-    requires { ⌜ Listed (now table) × (j < length (tableLines (tableOf (now table))))
-        × (at + length (lineAt (now table) j) ≤ length (now out)) ⌝ }
-    ensures { λ r. ⌜ Puts at (lineAt (now (table .entry)) j) (now (out .entry)) (now (out .exit)) r ⌝ }
+// Puts line number j after the first of a table, a gate's or after the gates an output's, and answers the next place.
+fn put_part(out: &mut [u8], at: usize, table: &[u8], j: usize) -> usize
+    requires { ⌜ Listed (now table) × (suc j < length (tableLines (tableOf (now table))))
+        × (at + length (lineAt (now table) (suc j)) ≤ length (now out)) ⌝ }
+    ensures { λ r. ⌜ Puts at (lineAt (now (table .entry)) (suc j)) (now (out .entry)) (now (out .exit)) r ⌝ }
 {
     let gates = tables::field(table, 2);
     if j < gates {
@@ -76,6 +77,19 @@ fn put_line(out: &mut [u8], at: usize, table: &[u8], j: usize) -> usize
     let outputs = tables::field(table, 4);
     let wire = tables::output_at(table, gates, outputs, j - gates);
     put_output(out, at, (j - gates) as u32, wire as u32)
+}
+
+// Puts line number j of a table, of which the first states the inputs, and answers the next place.
+fn put_line(out: &mut [u8], at: usize, table: &[u8], j: usize) -> usize
+    requires { ⌜ Listed (now table) × (j < length (tableLines (tableOf (now table))))
+        × (at + length (lineAt (now table) j) ≤ length (now out)) ⌝ }
+    ensures { λ r. ⌜ Puts at (lineAt (now (table .entry)) j) (now (out .entry)) (now (out .exit)) r ⌝ }
+{
+    if j == 0 {
+        let inputs = tables::field(table, 0);
+        return text::put_last(out, at, b"inputs ", inputs as u32);
+    }
+    put_part(out, at, table, j - 1)
 }
 
 // How long line number j of a table is.
@@ -134,7 +148,7 @@ pub fn list_table(table: &[u8], out: &mut [u8]) -> usize
     if found.number != 0 {
         return list_refusal(found, out);
     }
-    let lines = tables::field(table, 2) + tables::field(table, 4);
+    let lines = 1 + tables::field(table, 2) + tables::field(table, 4);
     let long = lines_long(table, lines);
     if out.len() < long {
         return 0;

@@ -1,5 +1,7 @@
 //! The programs, as functions from what they read to what they write.
 
+use std::iter;
+
 use super::table::Table;
 use super::{AND, And, CONSTANT, NOT, OR, Refusal, XOR, forecast, mask};
 
@@ -50,13 +52,14 @@ pub fn masked(input: &[u8]) -> Result<Vec<u8>, String> {
     Ok(out)
 }
 
-/// What the show program prints for a table: a line for each gate and each output, or that of
-/// the refusal.
+/// What the show program prints for a table: the number of inputs, a line for each gate and each
+/// output; or the line of the refusal.
 pub fn listing(table: &[u8]) -> String {
     let table = match Table::new(table) {
         Ok(table) => table,
         Err(refusal) => return refusal.into(),
     };
+    let inputs = format!("inputs {}\n", table.inputs);
     let gates = (table.inputs..).zip(table.gates()).map(|(wire, gate)| {
         let (left, right) = (gate.left, gate.right);
         match gate.kind {
@@ -69,5 +72,5 @@ pub fn listing(table: &[u8]) -> String {
         }
     });
     let outputs = table.outputs().enumerate().map(|(o, wire)| format!("out{o} = w{wire}\n"));
-    gates.chain(outputs).collect()
+    iter::once(inputs).chain(gates).chain(outputs).collect()
 }

@@ -56,13 +56,14 @@ fn the_first_byte_names_the_and() {
 }
 
 #[test]
-fn the_listing_names_every_gate_and_output() {
+fn the_listing_says_inputs_gates_and_outputs() {
     let gates =
         [and(0, 1), (NOT, 0, 0), (RANDOM, 0, 0), (XOR, 4, 2), constant(1), or(2, 6), constant(0)];
     let table = Circuit::new(2, &gates, &[5, 0]).bytes();
-    let lines = "w2 = AND w0 w1\nw3 = NOT w0\nw4 = RANDOM\nw5 = XOR w4 w2\nw6 = CONSTANT 1\n\
-                 w7 = OR w2 w6\nw8 = CONSTANT 0\nout0 = w5\nout1 = w0\n";
+    let lines = "inputs 2\nw2 = AND w0 w1\nw3 = NOT w0\nw4 = RANDOM\nw5 = XOR w4 w2\n\
+                 w6 = CONSTANT 1\nw7 = OR w2 w6\nw8 = CONSTANT 0\nout0 = w5\nout1 = w0\n";
     assert_eq!(listing(&table), lines);
+    assert_eq!(listing(&Circuit::new(10, &[], &[9]).bytes()), "inputs 10\nout0 = w9\n");
     assert_eq!(listing(&[]), "refused 1 0\n");
 }
 

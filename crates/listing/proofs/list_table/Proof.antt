@@ -30,6 +30,9 @@ field-requires c κs =
     let R = fault .table-fault .ensures in
     omega (arith, list-six s R (c .if1 .left))
 
+add-lines : tie.Need-add-lines
+add-lines c = search needs
+
 field-requires-2 : tie.Need-field-requires-2
 field-requires-2 c κs =
     let fault = c .before .before .before in
@@ -37,8 +40,8 @@ field-requires-2 c κs =
     let R = fault .table-fault .ensures in
     omega (arith, list-six s R (c .before .if1 .left))
 
-add-lines : tie.Need-add-lines
-add-lines c = search needs
+add-lines-2 : tie.Need-add-lines-2
+add-lines-2 c = search needs
 
 lines-long-requires : tie.Need-lines-long-requires
 lines-long-requires c κs =
@@ -84,8 +87,9 @@ list-table-spec =
     same-length
     returns
     field-requires
-    field-requires-2
     add-lines
+    field-requires-2
+    add-lines-2
     lines-long-requires
     returns-2
     put-lines-requires
