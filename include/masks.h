@@ -1,11 +1,15 @@
-/* Fantzori: masked gate tables. Link with libmasks_c.a (x86-64 Linux). docs/FORMAT.md describes tables, tapes, marks and the map.
+/* Fantzori: masked gate tables. Link with the archive libmasks_c.a or the shared library libmasks.so.0 (x86-64 Linux), which have the
+ * same calls. docs/FORMAT.md describes tables, tapes, marks and the map.
  *
  * A slice is passed as a pointer and a length in elements. Bits are one byte each, 0 or 1, but those of a tape are packed. A length
  * may be 0; the pointer is then not read. Buffers that a call writes must overlap neither each other nor any buffer that it reads.
  *
- * Every call answers a number: 0 is success, any other a refusal (enum masks_refusal below), with a place counted from 0. A
- * refused call has written nothing and its values are 0. The checks are made in the order 1 (six bytes), 2, 1 (length), the
- * gates one by one (3 before 4), 5, 6, 7, 8, 10, 11, 12, 13, 9.
+ * Every call but masks_version answers a number: 0 is success, any other a refusal (enum masks_refusal below), with a place counted
+ * from 0. A refused call has written nothing and its values are 0. The checks are made in the order 1 (six bytes), 2, 1 (length), the
+ * gates one by one (3 before 4), 5, 6, 7, 8, 10, 11, 12, 13, 9. GCC and clang warn where an answer is ignored.
+ *
+ * An order is a byte. C cuts a greater number to a byte without a word before the call sees it: an int of 257 becomes order 1, which
+ * is not refused. -Wconversion finds such a call; check the number before it is cast.
  *
  * A tape is the list of random bits that one run of a masked table uses. For a plain table with I inputs, masked at order t:
  *
@@ -36,7 +40,16 @@
 #include <stdint.h>
 
 /* Before version 1.0.0 a call may still change. */
-#define MASKS_VERSION "0.5.0"
+#define MASKS_VERSION "0.6.0"
+/* The same as major * 1000000 + minor * 1000 + patch. */
+#define MASKS_VERSION_NUMBER 6000
+
+/* On every call that answers a number: its answer is to be looked at. */
+#ifdef __GNUC__
+#define MASKS_CHECKED __attribute__((warn_unused_result))
+#else
+#define MASKS_CHECKED
+#endif
 
 #ifdef __cplusplus
 extern "C" {
@@ -96,50 +109,66 @@ struct masks_marks {
     uint8_t second; /* 0 where there is only one */
 };
 
+/* The library's version, to be compared with MASKS_VERSION_NUMBER: a shared library can be of another version than the header. No
+ * refusals. Stack: under 1 KiB. */
+uint32_t masks_version(void);
+
 /* Checks a gate table. Value: its wires. Refusals 1 to 5. Stack: under 1 KiB. */
+MASKS_CHECKED
 struct masks_answer masks_check(const uint8_t *table, size_t table_len);
 
 /* The sizes of the table that masking writes: the order, the numbers of inputs and outputs and the number of gates of each kind
- * alone decide them. Refusals 1 to 8. Stack: under 1 KiB. */
+ * alone decide them. C cuts an order above 255. Refusals 1 to 8. Stack: under 1 KiB. */
+MASKS_CHECKED
 struct masks_sizes masks_forecast(const uint8_t *table, size_t table_len, uint8_t order);
 
-/* Masks a plain table at an order. Value: the bytes written to out. Refusals 1 to 9. Stack: under 400 KiB. */
+/* Masks a plain table at an order; C cuts one above 255. Value: the bytes written to out. Refusals 1 to 9. Stack: under 400 KiB. */
+MASKS_CHECKED
 struct masks_answer masks_mask(const uint8_t *table, size_t table_len, uint8_t order, uint8_t *out, size_t out_len);
 
-/* The same with the DOM AND. Refusals 1 to 9. Stack: under 400 KiB. */
+/* The same with the DOM AND. C cuts an order above 255. Refusals 1 to 9. Stack: under 400 KiB. */
+MASKS_CHECKED
 struct masks_answer masks_mask_dom(const uint8_t *table, size_t table_len, uint8_t order, uint8_t *out, size_t out_len);
 
-/* Encodes secret bits into 2t + 1 share bits each, with 2t tape bits each, packed. Value: the bits written to out. Refusals 6, 8,
- * 10, 11, 9. Stack: under 1 KiB. */
+/* Encodes secret bits into 2t + 1 share bits each, with 2t tape bits each, packed. C cuts an order above 255. Value: the bits written
+ * to out. Refusals 6, 8, 10, 11, 9. Stack: under 1 KiB. */
+MASKS_CHECKED
 struct masks_answer masks_encode(uint8_t order, const uint8_t *secrets, size_t secrets_len, const uint8_t *tape,
                                  size_t tape_len, uint8_t *out, size_t out_len);
 
-/* Decodes share bits, 2t + 1 to a bit. Value: the bits written to out. Refusals 6, 8, 10, 11, 9. Stack: under 1 KiB. */
+/* Decodes share bits, 2t + 1 to a bit. C cuts an order above 255. Value: the bits written to out. Refusals 6, 8, 10, 11, 9. Stack:
+ * under 1 KiB. */
+MASKS_CHECKED
 struct masks_answer masks_decode(uint8_t order, const uint8_t *shares, size_t shares_len, uint8_t *out, size_t out_len);
 
 /* Runs any gate table on its inputs and one bit for each random gate, packed. Writes a value for each wire and each output. Value:
  * the wires. Refusals 1 to 5, 10, 11, 9. Stack: under 1 KiB. */
+MASKS_CHECKED
 struct masks_answer masks_run(const uint8_t *table, size_t table_len, const uint8_t *inputs, size_t inputs_len,
                               const uint8_t *random, size_t random_len, uint8_t *values, size_t values_len,
                               uint8_t *outputs, size_t outputs_len);
 
 /* The share numbers that a probe on a wire of the masked table carries: those of the wire and of its gate's pins, each once.
- * Refusals 1 to 8, 13. Stack: under 1 KiB. */
+ * C cuts an order above 255. Refusals 1 to 8, 13. Stack: under 1 KiB. */
+MASKS_CHECKED
 struct masks_marks masks_marks_of(const uint8_t *table, size_t table_len, uint8_t order, uint32_t wire);
 
-/* The same of the table that masks_mask_dom writes. Refusals 1 to 8, 13. Stack: under 1 KiB. */
+/* The same of the table that masks_mask_dom writes. C cuts an order above 255. Refusals 1 to 8, 13. Stack: under 1 KiB. */
+MASKS_CHECKED
 struct masks_marks masks_marks_of_dom(const uint8_t *table, size_t table_len, uint8_t order, uint32_t wire);
 
 /* Maps a packed tape from the first secret to the second, so that every wire that a probe reads, pins included, keeps its value.
- * Probes are given by their wires. Writes the mapped tape, packed too, to mapped, the masked table's wire values with the first secret and the tape to one, and those with
- * the second secret and the mapped tape to other. Value: the free share, the smallest share number that no probe carries.
- * Refusals 1 to 8, 10 to 13, 9. Stack: under 400 KiB. */
+ * Probes are given by their wires. Writes the mapped tape, packed too, to mapped, the masked table's wire values with the first secret
+ * and the tape to one, and those with the second secret and the mapped tape to other. C cuts an order above 255. Value: the free
+ * share, the smallest share number that no probe carries. Refusals 1 to 8, 10 to 13, 9. Stack: under 400 KiB. */
+MASKS_CHECKED
 struct masks_answer masks_map(const uint8_t *table, size_t table_len, uint8_t order, const uint8_t *first, size_t first_len,
                               const uint8_t *second, size_t second_len, const uint8_t *tape, size_t tape_len,
                               const uint32_t *probes, size_t probes_len, uint8_t *mapped, size_t mapped_len, uint8_t *one,
                               size_t one_len, uint8_t *other, size_t other_len);
 
-/* The same of the table that masks_mask_dom writes. Refusals 1 to 8, 10 to 13, 9. Stack: under 400 KiB. */
+/* The same of the table that masks_mask_dom writes. C cuts an order above 255. Refusals 1 to 8, 10 to 13, 9. Stack: under 400 KiB. */
+MASKS_CHECKED
 struct masks_answer masks_map_dom(const uint8_t *table, size_t table_len, uint8_t order, const uint8_t *first, size_t first_len,
                                   const uint8_t *second, size_t second_len, const uint8_t *tape, size_t tape_len,
                                   const uint32_t *probes, size_t probes_len, uint8_t *mapped, size_t mapped_len, uint8_t *one,

@@ -95,9 +95,11 @@ unsafe extern "C" {
     ) -> Answer;
 }
 
-// The entries with the DOM AND.
+// The entries with the DOM AND, and the version, which came after them.
 #[cfg(feature = "dom")]
 unsafe extern "C" {
+    safe fn masks_version() -> u32;
+
     fn masks_mask_dom(
         table: *const u8,
         table_len: usize,
@@ -140,6 +142,13 @@ macro_rules! entry {
             And::Dom => unreachable!("without the feature `dom` no case is put to the DOM AND"),
         }
     };
+}
+
+/// The archive's version, as a number.
+#[cfg(feature = "dom")]
+#[allow(dead_code)] // The measurement, which has this file too, does not ask for it.
+pub fn version() -> u32 {
+    masks_version()
 }
 
 impl From<Answer> for Outcome {

@@ -1,9 +1,21 @@
-// The calls for C and Rust programs, under the names of include/masks.h. Each is the proved call with the same promise.
+// The calls for C and Rust programs, under the names of include/masks.h. Each is the proved call with the same promise; and the version.
+ghost use mathlib.Core.Path.{_≡_};
 ghost use Rattle.tables.specs.Says.{CheckSays, RunSays};
 ghost use Rattle.masks.specs.Gadgets.{isw, dom};
 ghost use Rattle.masks.specs.Wires.{probeMarks};
 ghost use Rattle.masks.specs.Says.{ForecastSays, MaskSays, EncodeSays, DecodeSays, MarksSay};
 ghost use Rattle.maps.specs.Says.{MapSays};
+ghost use Rattle.masks_c.specs.Version.{version};
+
+// The version of include/masks.h, 0.6.0, as one number.
+const VERSION: u32 = 6000;
+
+#[no_mangle]
+pub extern "C" fn masks_version() -> u32
+    ensures { λ r. ⌜ r ≡ version ⌝ }
+{
+    VERSION
+}
 
 #[no_mangle]
 pub extern "C" fn masks_check(table: &[u8]) -> tables::Answer
