@@ -1,37 +1,48 @@
-# shellcheck shell=sh disable=SC2154
-# The commands on the project itself: version, build, install, test, fuzz, bench.
+# shellcheck shell=sh disable=SC2034,SC2154
+# The commands on the project itself: version, build, test, fuzz, bench.
 
-all="mask forecast show libmasks_c.a"
-
+# Ends where a command of the project's folder is given to an installed one.
 in_project() {
-    [ -z "$installed" ] || die "$1 is a command of the project's folder, and this one is installed"
+    [ -z "$installed" ] || die "$command is a command of the project's folder, and this one is installed"
 }
 
-# The version stands in the header.
+# The version, the key, and the toolchain that the sources are for or, of an installed command, that proved it.
 version() {
     start
-    header=include/masks.h
+    find_version
     if [ -n "$installed" ]; then
-        header=../include/masks.h
         see_to mask forecast show
     else
         find_key
         toolchain=$(cat toolchain.txt)
     fi
-    [ -r "$header" ] || die "'$home$header' is not there"
-    print <<TXT
-fantzori $(version_in "$header")
+    if [ -n "$json" ]; then
+        answer <<TXT
+{"product":"Fantzori","version":"$version","key":"$key","toolchain":$(json_string "$toolchain")}
+TXT
+    else
+        answer <<TXT
+fantzori $version
 sources $key
 toolchain $toolchain
 TXT
+    fi
 }
 
+# Sets the version: it stands in the header, and an installed command has it in a file.
+find_version() {
+    if [ -n "$installed" ]; then version=$(cat version); else version=$(version_in include/masks.h); fi
+    [ -n "$version" ] || die "'${home}include/masks.h' is not there, or has no version"
+}
+
+# The version that a header states.
 version_in() {
     sed -n 's/^#define MASKS_VERSION "\(.*\)"$/\1/p' "$1"
 }
 
+# Proves and builds what is not built.
 build() {
-    in_project build
+    in_project
     start
     # shellcheck disable=SC2086
     see_to $all
@@ -40,73 +51,36 @@ proved and built in $kept: $all
 TXT
 }
 
-install_under() {
-    [ $# -eq 1 ] || die "install takes a folder: fantzori install PREFIX"
-    in_project install
-    [ -n "$1" ] || die "the name of the folder to install in is empty"
-    start
-    absolute "$1"
-    [ "$(readlink -f -- "$path")" != "$(readlink -f .)" ] || die "'$1' is the project's own folder: install somewhere else"
-    to=$path own=$path/libexec/fantzori pages=$path/share/doc/fantzori
-    # shellcheck disable=SC2086
-    see_to $all
-    printf '%s\n' "$key" >"$scratch/key"
-    pkg_config >"$scratch/masks.pc"
-    umask 022
-    # the key comes last: without it an installation is not whole
-    { mkdir -p "$to/bin" "$to/include" "$to/lib/pkgconfig" "$own" "$pages" &&
-        rm -f "$own/key" &&
-        install -m 755 "$kept/mask" "$kept/forecast" "$kept/show" "$own" &&
-        install -m 644 command/*.sh "$kept/mask.proved" "$kept/forecast.proved" "$kept/show.proved" "$own" &&
-        install -m 644 "$kept/libmasks_c.a" "$to/lib" &&
-        install -m 644 include/masks.h "$to/include" &&
-        install -m 644 docs/FORMAT.md docs/ASSURANCE.md "$pages" &&
-        install -m 644 "$scratch/masks.pc" "$to/lib/pkgconfig" &&
-        install -m 755 fantzori "$to/bin" &&
-        install -m 644 "$scratch/key" "$own"; } 2>"$scratch/told" || die "it cannot be installed: $(head -n 1 "$scratch/told")"
-    print <<TXT
-installed in $1: bin/fantzori, lib/libmasks_c.a, lib/pkgconfig/masks.pc, include/masks.h, libexec/fantzori/, share/doc/fantzori/
-TXT
-}
-
-# What pkg-config reads; the folder may be moved.
-pkg_config() {
-    cat <<TXT
-prefix=\${pcfiledir}/../..
-Name: masks
-Description: Masked gate tables
-Version: $(version_in include/masks.h)
-Libs: -L\${prefix}/lib -lmasks_c
-Cflags: -I\${prefix}/include
-TXT
-}
-
 # Runs cargo in the folder of a crate, over the archive that is kept.
 rust() {
     need cargo "Rust's cargo builds the comparison and the measurement"
     # shellcheck disable=SC2016
-    apart env MASKS_LIB_DIR="../$kept" CARGO_TARGET_DIR=../target/rust sh -c 'cd "$1" && shift && exec cargo "$@"' sh "$@"
+    apart env MASKS_LIB_DIR="../$kept" CARGO_TARGET_DIR=../target/rust sh -c 'cd "$1" && shift && exec cargo "$@"' sh "$@" 2>&3
 }
 
+# Ends where a check failed.
 fail() {
     echo "fantzori: $1"
     exit 1
 }
 
-# The last line is that of `rt ci`, 'N passed, 0 failed', and only where everything passed.
+# Checks everything. The last line is that of `rt ci`, 'N passed, 0 failed', and only where everything passed.
 test_all() {
-    in_project test
+    in_project
     need rt "the Rattle toolchain checks the proofs"
     need cc "a C compiler links the programs"
     need cargo "Rust's cargo builds the comparison"
     start
-    if command -v shellcheck >/dev/null 2>&1; then
+    if command -v shellcheck >/dev/null; then
         shellcheck fantzori command/*.sh docs/sizes .ci/run || fail "shellcheck has something to say"
+    else
+        echo "shellcheck is not on this machine: the script is not checked by it"
     fi
-    apart rt fmt --check || fail "some files are not in the layout of 'rt fmt'"
+    apart rt fmt --check 2>&3 || fail "some files are not in the layout of 'rt fmt'"
     lock
     find_toolchain
     find_key
+    no_strangers
     lend_temporary
     mkfifo "$scratch/pipe"
     tee "$scratch/rt" <"$scratch/pipe" &
@@ -128,20 +102,20 @@ test_all() {
     echo "$verdict"
 }
 
+# Compares the library with the separate implementation: SECONDS.
 fuzz() {
-    [ $# -eq 1 ] || die "fuzz takes a number of seconds: fantzori fuzz SECONDS"
     case $1 in
-    '' | *[!0-9]*) die "fuzz takes a number of seconds, and not '$1'" ;;
+    *[!0-9]*) misused "fuzz takes a number of seconds, and not '$1'" ;;
     esac
-    in_project fuzz
+    in_project
     start
     see_to libmasks_c.a
     rust tests run --release --quiet -- fuzz "$1"
 }
 
-# The same code at four places in memory, as the place alone can make a loop half as slow again.
+# Measures: the same code at four places in memory, as the place alone can make a loop half as slow again.
 bench() {
-    in_project bench
+    in_project
     start
     see_to libmasks_c.a
     for BENCH_PAD in 0 16 32 48; do
