@@ -53,6 +53,11 @@ pub struct Tally {
 }
 
 impl Tally {
+    /// How many cases there were.
+    pub fn cases(&self) -> u64 {
+        self.cases
+    }
+
     pub fn add(&mut self, case: &Case, outcome: Outcome) {
         self.cases += 1;
         self.numbers[usize::from(outcome.number)] += 1;

@@ -1,10 +1,12 @@
 //! Compares the archive libmasks_c.a with the implementation of this crate.
 //!
-//!     compare [--seed N]                the comparison: examples, generated cases, tapes
+//!     compare [--seed N]                the comparison: version, examples, generated cases, tapes
 //!     compare fuzz SECONDS [--seed N]   generated cases for so long, from the clock's seed or N
 //!     compare case CALL SEED            one generated case again, shown in full
 //!     compare line FILE                 the line that the forecast program prints for an input
 //!     compare programs                  tests the programs in target/bin, ./fantzori and the pages
+//!     compare commands [GROUP]          tests the commands of ./fantzori alone, or a group of them
+//!     compare building                  tests what it builds and installs alone
 //!     compare pages                     tests the pages alone
 //!     compare examples                  writes the tables under examples/ again
 
@@ -14,6 +16,8 @@ mod ffi;
 mod pages;
 mod programs;
 mod running;
+#[cfg(feature = "dom")]
+mod version;
 
 use std::process::ExitCode;
 use std::time::{Duration, Instant, SystemTime};
@@ -38,6 +42,8 @@ usage: compare [--seed N]
        compare case CALL SEED
        compare line FILE
        compare programs
+       compare commands [GROUP]
+       compare building
        compare pages
        compare examples";
 
@@ -64,6 +70,9 @@ fn main() -> ExitCode {
         ["case", call, seed] => number(seed).and_then(|seed| repeat_case(call, seed)),
         ["line", file] => print_line(file),
         ["programs"] => test_programs(),
+        ["commands"] => commands::test(),
+        ["commands", group] => commands::test_one(group),
+        ["building"] => building::test(),
         ["pages"] => pages::test(),
         ["examples"] => programs::write_examples(),
         _ => Err(USAGE.into()),
@@ -101,6 +110,8 @@ fn seeds(call: Call, seed: u64) -> Rng {
 
 /// The whole comparison, with a line for each call.
 fn compare_all(seed: u64) -> Result<(), String> {
+    #[cfg(feature = "dom")]
+    version::compare()?;
     let mut tallies = [Tally::default(); Call::ALL.len()];
     compare_examples(&mut tallies)?;
     for &call in calls() {
@@ -224,20 +235,34 @@ fn compare_sampled_maps(and: And, seed: u64) -> Result<(), String> {
     Ok(())
 }
 
+/// Generated cases for so long, or up to the first that disagrees. The last line is the verdict: the
+/// seconds, the cases of each call, how many disagree, and the seed.
 fn fuzz(seconds: u64, seed: u64) -> Result<(), String> {
     println!("seed {seed}");
-    let end = Instant::now() + Duration::from_secs(seconds);
+    let start = Instant::now();
     let mut all_seeds: Vec<Rng> = calls().iter().map(|&call| seeds(call, seed)).collect();
     let mut tallies = [Tally::default(); Call::ALL.len()];
-    while Instant::now() < end {
-        for (&call, seeds) in calls().iter().zip(&mut all_seeds) {
-            compare_generated(call, seeds, CASES_PER_FUZZ_ROUND, &mut tallies[call.index()])?;
-        }
+    let mut compared = Ok(());
+    while compared.is_ok() && start.elapsed() < Duration::from_secs(seconds) {
+        compared = calls().iter().zip(&mut all_seeds).try_for_each(|(&call, seeds)| {
+            compare_generated(call, seeds, CASES_PER_FUZZ_ROUND, &mut tallies[call.index()])
+        });
     }
+    let mut cases = Vec::new();
     for &call in calls() {
-        println!("{}: {}", call.name(), tallies[call.index()]);
+        let tally = &tallies[call.index()];
+        println!("{}: {tally}", call.name());
+        cases.push(format!("{} {}", call.name(), tally.cases()));
     }
-    Ok(())
+    let (seconds, cases) = (start.elapsed().as_secs(), cases.join(", "));
+    let verdict = |count| format!("{seconds} s, cases: {cases}; {count}, seed {seed}");
+    match compared {
+        Ok(()) => {
+            println!("{}", verdict("0 disagreements"));
+            Ok(())
+        }
+        Err(text) => Err(format!("{text}\n{}", verdict("1 disagreement"))),
+    }
 }
 
 fn repeat_case(call: &str, seed: u64) -> Result<(), String> {

@@ -33,6 +33,8 @@ pub fn test() -> Result<(), String> {
     check_sizes()?;
     let quotes = check_quotes()?;
     println!("pages: {shown} commands, {links} links, the table of sizes, {quotes} quotes");
+    let functions = check_script()?;
+    println!("pages: {functions} functions of the script, each with a line of what it does");
     Ok(())
 }
 
@@ -159,6 +161,31 @@ fn check_quotes() -> Result<usize, String> {
         }
     }
     Ok(quotes.len())
+}
+
+/// Each part of the script has at most 300 lines, and each of its functions a line before it that
+/// says what it does. Answers how many functions there are.
+fn check_script() -> Result<usize, String> {
+    let parts = fs::read_dir(root().join("command")).map_err(|error| told("command", error))?;
+    let mut functions = 0;
+    for path in parts.flatten().map(|entry| entry.path()) {
+        let name = path.display().to_string();
+        let text = fs::read_to_string(&path).map_err(|error| told(&name, error))?;
+        let lines: Vec<&str> = text.lines().collect();
+        if !name.ends_with(".sh") {
+            continue;
+        }
+        if lines.len() > 300 {
+            return Err(format!("FAILED: {name} has {} lines", lines.len()));
+        }
+        for pair in lines.windows(2).filter(|pair| pair[1].ends_with("() {")) {
+            if !pair[1].starts_with(' ') && !pair[0].starts_with("# ") {
+                return Err(format!("FAILED: {name}: nothing says what {} does", pair[1]));
+            }
+            functions += 1;
+        }
+    }
+    if functions > 0 { Ok(functions) } else { Err("FAILED: the script has no function".into()) }
 }
 
 /// A text with single spaces.

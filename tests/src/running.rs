@@ -1,5 +1,7 @@
 //! Running ./fantzori and other commands in folders of the tests.
 
+use std::ffi::OsStr;
+use std::fmt::{self, Debug, Formatter};
 use std::path::PathBuf;
 use std::process::{Child, Command, ExitStatus, Stdio};
 use std::time::{Duration, Instant};
@@ -22,6 +24,18 @@ pub struct Ran {
     pub status: Option<i32>,
     pub out: String,
     pub told: String,
+    /// Standard output as it came, where `out` has it as text.
+    pub bytes: Bytes,
+}
+
+/// Bytes of which only the number is shown.
+#[derive(PartialEq, Eq)]
+pub struct Bytes(pub Vec<u8>);
+
+impl Debug for Bytes {
+    fn fmt(&self, f: &mut Formatter) -> fmt::Result {
+        write!(f, "{}", self.0.len())
+    }
 }
 
 impl Ran {
@@ -38,6 +52,7 @@ impl Ran {
             status: output.status.code(),
             out: text(&output.stdout),
             told: text(&output.stderr),
+            bytes: Bytes(output.stdout),
         }
     }
 
@@ -61,7 +76,7 @@ impl Ran {
 /// was ignored at its start no shell can trap.
 pub fn at_terminal(command: &Command) -> Command {
     let mut same = Command::new("env");
-    same.arg("--default-signal=INT").arg(command.get_program()).args(command.get_args());
+    same.arg("--default-signal=HUP,INT,QUIT").arg(command.get_program()).args(command.get_args());
     if let Some(folder) = command.get_current_dir() {
         same.current_dir(folder);
     }
@@ -152,6 +167,11 @@ impl Folder {
 
     pub fn run(&self, arguments: &[&str]) -> Result<Ran, String> {
         Ran::of(&mut self.command(arguments)?)
+    }
+
+    /// The same with words that need not be text.
+    pub fn run_with(&self, arguments: &[&OsStr]) -> Result<Ran, String> {
+        Ran::of(self.command(&[])?.args(arguments))
     }
 
     /// ./fantzori as the words "$@" of a script.

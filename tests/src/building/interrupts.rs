@@ -1,6 +1,6 @@
 //! Interrupts of a command while it proves from nothing.
 
-use std::io::{self, BufRead, BufReader};
+use std::io::{self, BufRead, BufReader, Read};
 use std::os::unix::fs::MetadataExt;
 use std::path::{Path, PathBuf};
 use std::process::ChildStderr;
@@ -8,7 +8,7 @@ use std::time::{Duration, Instant};
 use std::{fs, thread};
 
 use super::{Project, SOURCES};
-use crate::running::{Folder, Started, at_terminal};
+use crate::running::{Folder, Ran, Started, at_terminal, ensure};
 
 const PROVES: &str = "fantzori: proving tables, 1 of ";
 const WAITS: &str = "fantzori: another ./fantzori is proving here: waiting for it";
@@ -17,7 +17,7 @@ const WAITS: &str = "fantzori: another ./fantzori is proving here: waiting for i
 /// can read its table.
 pub fn test(folder: &Folder) -> Result<(), String> {
     let project = Project::copy(folder, "nothing built", &SOURCES)?;
-    for (signal, status) in [("TERM", 143), ("INT", 130), ("HUP", 129)] {
+    for (signal, status) in [("TERM", 143), ("INT", 130), ("HUP", 129), ("QUIT", 131)] {
         let proves = Begun::new(folder, &project, "temporary", PROVES)?;
         // So that the prover has begun to write.
         thread::sleep(Duration::from_millis(300));
@@ -33,13 +33,48 @@ pub fn test(folder: &Folder) -> Result<(), String> {
     }
     proves.end("TERM", 143)?;
     ensure_ended(folder, &project)?;
+    killed(folder, &project)?;
     project.remove()
+}
+
+/// Where a command is killed its prover ends too, the lock is free, and the next command that has the
+/// same folder for temporary files removes what was left there.
+fn killed(folder: &Folder, project: &Project) -> Result<(), String> {
+    let proves = Begun::new(folder, project, "temporary", PROVES)?;
+    thread::sleep(Duration::from_millis(300));
+    proves.started.send("KILL")?;
+    let start = Instant::now();
+    while !processes(&project.path).is_empty() && start.elapsed() < Duration::from_secs(3) {
+        thread::sleep(Duration::from_millis(20));
+    }
+    ensure_ended(folder, project)?;
+    let count = || fs::read_dir(&proves.temporary).map(Iterator::count).unwrap_or_default();
+    let left = count();
+    let mut next = project.command(&["help", "mask"]);
+    let ran = Ran::of(next.env("TMPDIR", &proves.temporary))?;
+    ensure(ran.is_done() && count() == left, &ran, "help removes files")?;
+    let mut next = project.command(&["version"]);
+    let ran = Ran::of(next.env("TMPDIR", &proves.temporary))?;
+    ensure(ran.is_done() && left == 1 && count() == 0, &ran, "what KILL left is not removed")?;
+    let temporary = proves.temporary.clone();
+    drop(proves);
+    fs::remove_dir_all(temporary).map_err(|error| folder.told(error))?;
+    // It would tell that it waits.
+    let mut proves = Begun::new(folder, project, "temporary", "fantzori: ")?;
+    proves.read_until(PROVES)?;
+    if proves.first.contains("waiting") {
+        return Err("FAILED: a command that was killed still has the lock".into());
+    }
+    proves.end("TERM", 143)?;
+    ensure_ended(folder, project)
 }
 
 /// A command that has told a line, with a folder for its temporary files.
 struct Begun {
     started: Started,
     told: BufReader<ChildStderr>,
+    /// The line that was waited for first.
+    first: String,
     temporary: PathBuf,
 }
 
@@ -51,20 +86,21 @@ impl Begun {
         command.env("TMPDIR", &temporary);
         let mut started = Started::new(command)?;
         let told = started.child.stderr.take().ok_or("FAILED: standard error is not taken")?;
-        let mut begun = Begun { started, told: BufReader::new(told), temporary };
-        begun.read_until(line)?;
+        let mut begun =
+            Begun { started, told: BufReader::new(told), first: String::new(), temporary };
+        begun.first = begun.read_until(line)?;
         Ok(begun)
     }
 
-    /// Reads what the command tells up to a line that begins so.
-    fn read_until(&mut self, beginning: &str) -> Result<(), String> {
+    /// Reads what the command tells up to a line that begins so, and gives that line.
+    fn read_until(&mut self, beginning: &str) -> Result<String, String> {
         let mut all = String::new();
         loop {
             let mut line = String::new();
             let read =
                 self.told.read_line(&mut line).map_err(|error| format!("FAILED: {error}"))?;
             if line.starts_with(beginning) {
-                return Ok(());
+                return Ok(line);
             }
             if read == 0 {
                 return Err(format!("FAILED: '{beginning}' is not told, but {all:?}"));
@@ -84,10 +120,20 @@ impl Begun {
         Err(format!("FAILED: no copy of the table, or one that others can read: {tables:?}"))
     }
 
+    /// After a signal one line is told, beside how far the proofs were.
+    fn ensure_told(&mut self, signal: &str) -> Result<(), String> {
+        let mut rest = String::new();
+        self.told.read_to_string(&mut rest).map_err(|error| format!("FAILED: {error}"))?;
+        let lines = rest.lines().filter(|line| !line.starts_with("fantzori: proving "));
+        let due = format!("fantzori: interrupted by {signal}");
+        if lines.eq([due.as_str()]) { Ok(()) } else { Err(format!("FAILED: it told {rest:?}")) }
+    }
+
     /// A signal to the command alone ends it at once, and its temporary files are removed.
     fn end(mut self, signal: &str, status: i32) -> Result<(), String> {
         self.started.send(signal)?;
         let ended = self.started.ends_within(Duration::from_secs(2))?;
+        self.ensure_told(signal)?;
         let io = |error| format!("FAILED: {}: {error}", self.temporary.display());
         let left = fs::read_dir(&self.temporary).map(Iterator::count).map_err(io)?;
         fs::remove_dir_all(&self.temporary).map_err(io)?;

@@ -2,7 +2,7 @@
 
 use std::collections::BTreeMap;
 use std::fs;
-use std::os::unix::fs::MetadataExt;
+use std::os::unix::fs::{MetadataExt, PermissionsExt};
 use std::path::{Path, PathBuf};
 
 use super::{Project, Tools, all_work};
@@ -79,6 +79,9 @@ pub fn not_kept(folder: &Folder, tools: &Tools) -> Result<(), String> {
     let proved = fs::read_to_string(&record).map_err(|error| project.told(error))?;
     let toolchain = proved.lines().nth(1).unwrap_or_default();
     let changes: [Change; 10] = [
+        ("a program that cannot be run", &|_| {
+            fs::set_permissions(&program, PermissionsExt::from_mode(0o644))
+        }),
         ("a replaced program", &|_| fs::write(&program, &script)),
         ("a longer program", &|_| fs::write(&program, [&fs::read(&program)?[..], &[0]].concat())),
         ("a deleted program", &|_| fs::remove_file(&program)),
@@ -87,7 +90,6 @@ pub fn not_kept(folder: &Folder, tools: &Tools) -> Result<(), String> {
         ("a record without toolchain", &|_| fs::write(&record, &proved[..65])),
         ("another record", &|_| fs::write(&record, format!("{}\n{toolchain}\n", "0".repeat(64)))),
         ("a changed source", &|_| add_line(&source, "// more")),
-        ("a new source", &|project| fs::write(project.path.join("crates/text/src/more.rt"), "")),
         ("another toolchain", &|project| add_line(&project.path.join("toolchain.txt"), "more")),
     ];
     for (name, change) in changes {
@@ -117,7 +119,11 @@ pub fn built_again(folder: &Folder, project: &Project) -> Result<(), String> {
         let again = project.run(&["show", "table"])?;
         ensure(again.is_done() && again.out == lines, &again, "what was built is not kept")
     };
-    fs::write(project.kept("show")?, &script).map_err(|error| project.told(error))?;
+    let kept = project.kept("show")?;
+    fs::write(&kept, &script).map_err(|error| project.told(error))?;
+    shows()?;
+    fs::set_permissions(&kept, PermissionsExt::from_mode(0o644))
+        .map_err(|error| project.told(error))?;
     shows()?;
     project.remove_part("built")?;
     fs::write(project.path.join("target/bin/show"), &script)

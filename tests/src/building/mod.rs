@@ -3,7 +3,9 @@
 mod installing;
 mod interrupts;
 mod keeping;
+mod library;
 mod places;
+mod sources;
 mod together;
 
 use std::path::{Path, PathBuf};
@@ -28,18 +30,34 @@ pub fn test() -> Result<(), String> {
     println!("building: where all is built, neither rt nor cc is used, and no file is changed");
     keeping::not_kept(&folder, &tools)?;
     println!("building: no program is used that was changed, or whose record or sources were");
+    sources::test(&folder, &tools)?;
+    println!("building: what the key covers, and a fantzori without its parts");
     interrupts::test(&folder)?;
-    println!("building: interrupts while proving");
+    println!("building: interrupts while proving, and a command that is killed");
     places::test(&folder)?;
     println!("building: a project that cannot be written, links, spaces, a line feed");
     installing::test(&folder, &tools)?;
-    println!("building: install, and the installed command");
+    println!("building: install, the installed command, installs beside it, uninstall");
     let project = Project::copy(&folder, "with target", &[&SOURCES[..], &OTHERS].concat())?;
     keeping::built_again(&folder, &project)?;
     keeping::other_toolchain(&project)?;
     println!("building: a changed program is built again, and another toolchain is told");
     together::builds(&folder, &project)?;
-    println!("building: whoever comes second waits");
+    together::own_program(&folder, &project)?;
+    println!("building: whoever comes second waits, and for its own program alone");
+    fuzzes(&folder)
+}
+
+/// `fuzz` ends with its verdict.
+fn fuzzes(folder: &Folder) -> Result<(), String> {
+    let ran = folder.run(&["fuzz", "1"])?;
+    let seed = ran.out.lines().next().and_then(|line| line.strip_prefix("seed "));
+    let last = ran.out.lines().last().unwrap_or_default();
+    let sound = seed.is_some_and(|seed| last.ends_with(&format!("; 0 disagreements, seed {seed}")))
+        && last.contains(" s, cases: check ")
+        && last.contains(", map_dom ");
+    ensure(ran.status == Some(0) && sound, &ran, "fuzz ends without its verdict")?;
+    println!("building: fuzz and its verdict");
     Ok(())
 }
 
@@ -104,18 +122,27 @@ impl Project {
         Ran::of(&mut self.command(arguments))
     }
 
-    /// Where a program or its record is kept.
+    /// Where a program or its record is kept, as `build` tells it where all is built.
     fn kept(&self, name: &str) -> Result<PathBuf, String> {
+        let ran = self.run(&["build"])?;
+        let told =
+            ran.out.strip_prefix("proved and built in ").and_then(|rest| rest.split(':').next());
+        ensure(ran.is_done() && told.is_some(), &ran, "build fails where all is built")?;
+        Ok(self.path.join(told.unwrap_or_default()).join(name))
+    }
+
+    /// The key, as `version` tells it.
+    fn key(&self) -> Result<String, String> {
         let ran = self.run(&["version"])?;
-        ensure(ran.is_done(), &ran, "version fails")?;
         let key = ran.out.lines().find_map(|line| line.strip_prefix("sources "));
-        Ok(self.path.join("built").join(key.unwrap_or_default()).join(name))
+        ensure(ran.is_done() && key.is_some(), &ran, "version fails")?;
+        Ok(key.unwrap_or_default().into())
     }
 }
 
 /// What the commands on tables run, where all is built.
-const TOOLS: &str = "awk cat chmod cmp cut date find grep head mkdir mv od readlink rm sed \
-                     sha256sum sort stat tail tr wc";
+const TOOLS: &str = "awk cat chmod cmp cp cut date grep head mkdir mv od readlink rm sed sha256sum \
+                     sort stat tail tr wc xargs";
 
 /// A folder with links to those tools alone.
 struct Tools(PathBuf);
@@ -172,7 +199,7 @@ fn all_work(command: &Path, caller: &Path, prepare: &dyn Fn(&mut Command)) -> Re
 fn on_tables(before: &str) -> [(Vec<String>, String); 5] {
     let words = |line: &str| line.replace('/', before).split(' ').map(String::from).collect();
     [
-        (words("certify 1 /table /masked"), "Certificate of masking\n  order         1: ".into()),
+        (words("certify 1 /table /masked"), "Certificate of masking\n  product       ".into()),
         (words("forecast 1 /table"), "3 shares, 30 wires, 7 tape bits, 132 bytes\n".into()),
         (words("check /table"), crate::commands::counts(&the_and())),
         (words("show /table"), model::listing(&the_and())),

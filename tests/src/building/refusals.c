@@ -49,6 +49,7 @@ int main(void) {
     expect(masks_mask_dom(plain, 13, 1, out, 131).number, MASKS_SHORT_BUFFER);
     expect(masks_marks_of_dom(plain, 13, 1, 30).number, MASKS_BAD_PROBE);
     expect(masks_map_dom(plain, 13, 1, bits, 2, bits, 2, tape, 1, probes, 2, out, 132, one, 30, other, 30).number, MASKS_TOO_MANY_PROBES);
+    if (masks_version() != MASKS_VERSION_NUMBER) printf("the library is version %lu\n", (unsigned long)masks_version());
     printf("%s %d\n", MASKS_VERSION, seen);
     return 0;
 }

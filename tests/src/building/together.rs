@@ -1,6 +1,7 @@
 //! Several commands at once.
 
 use std::fs;
+use std::io::{BufRead, BufReader, Read};
 
 use compare::model;
 
@@ -72,4 +73,35 @@ pub fn builds(folder: &Folder, project: &Project) -> Result<(), String> {
         waited += usize::from(waits);
     }
     if waited == 1 { Ok(()) } else { Err(format!("FAILED: {waited} of two commands waited")) }
+}
+
+/// Who waits goes on as soon as its own program is there, while another still builds the rest.
+pub fn own_program(folder: &Folder, project: &Project) -> Result<(), String> {
+    project.remove_part("built")?;
+    let mut builds = Started::new(project.command(&["build"]))?;
+    let told = builds.child.stderr.take().ok_or("FAILED: standard error is not taken")?;
+    let (mut told, mut lines) = (BufReader::new(told), String::new());
+    // It has the lock when it tells what it proves.
+    told.read_line(&mut lines).map_err(|error| format!("FAILED: {error}"))?;
+    let ran = project.run(&["show", "table"])?;
+    let listing = model::listing(&folder.read("table")?);
+    ensure(ran.status == Some(0) && ran.out == listing, &ran, "it does not wait well")?;
+    let goes_on = builds.child.try_wait().is_ok_and(|status| status.is_none());
+    let waited = ran.told.contains("waiting for it");
+    ensure(goes_on && waited, &ran, "it waits for more than its own program")?;
+    told.read_to_string(&mut lines).map_err(|error| format!("FAILED: {error}"))?;
+    let ran = builds.wait()?;
+    ensure(ran.status == Some(0), &ran, "a build fails while another waits")?;
+    counted(&lines)
+}
+
+/// Each crate is told once, with the numbers from 1 to how many there are.
+fn counted(told: &str) -> Result<(), String> {
+    let numbers: Vec<&str> = told.lines().filter_map(|line| line.split(", ").nth(1)).collect();
+    let count = numbers.iter().filter(|text| text.contains(" of ")).count();
+    let are_all = (1..=count).all(|at| numbers.contains(&format!("{at} of {count}").as_str()));
+    if count > 30 && are_all {
+        return Ok(());
+    }
+    Err(format!("FAILED: not every crate is told once:\n{told}"))
 }

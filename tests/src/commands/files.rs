@@ -27,6 +27,7 @@ fn names(folder: &Folder) -> Result<(), String> {
         &["mask", "1", missing, "out"][..],
         &["forecast", "1", missing],
         &["certify", "1", name, missing],
+        &["verify", missing, name, name],
         &["check", missing],
         &["show", missing],
     ] {
@@ -37,15 +38,16 @@ fn names(folder: &Folder) -> Result<(), String> {
     let ran = folder.run(&["certify", "1", name, r"\0"])?;
     let told = format!(r"'\0' is not '{name}' masked at order 1 with the ISW AND: ");
     ensure(ran.is_ended(1, &told), &ran, &told)?;
-    for word in [r"a\nb\c", "-n"] {
-        for (arguments, told) in [
-            ([word, "1"], format!("fantzori: there is no command '{word}': ")),
-            (["fuzz", word], format!("fantzori: fuzz takes a number of seconds, and not '{word}'")),
-            (["version", word], format!("fantzori: version takes nothing more, and not '{word}'")),
-        ] {
-            let ran = folder.run(&arguments)?;
-            ensure(ran.is_ended(2, &told), &ran, &told)?;
-        }
+    let word = r"a\nb\c%s";
+    for (arguments, told) in [
+        ([word, "1"], format!("fantzori: there is no command '{word}': ")),
+        (["fuzz", word], format!("fantzori: fuzz takes a number of seconds, and not '{word}'")),
+        (["version", word], format!("fantzori: version takes nothing more, and not '{word}'")),
+        (["help", word], format!("fantzori: there is no command '{word}': ")),
+        (["forecast", r"-\n"], r"fantzori: forecast has no option '-\n'; usage: ".into()),
+    ] {
+        let ran = folder.run(&arguments)?;
+        ensure(ran.is_ended(2, &told), &ran, &told)?;
     }
     let ran = folder.run(&["mask", "1", name, r"o\nut\c"])?;
     ensure(ran.is_done(), &ran, "masking fails")?;
@@ -56,14 +58,21 @@ fn names(folder: &Folder) -> Result<(), String> {
 fn full(folder: &Folder) -> Result<(), String> {
     folder.write("table", &the_and())?;
     folder.write("masked", &masked(1, &the_and())?)?;
+    let ran = folder.run(&["certify", "1", "table", "masked"])?;
+    folder.write("cert", ran.out.as_bytes())?;
     for arguments in [
         &["show", "table"][..],
         &["check", "table"],
         &["forecast", "1", "table"],
         &["certify", "1", "table", "masked"],
         &["mask", "1", "table", "out"],
+        &["mask", "1", "table", "-"],
+        &["mask", "--json", "1", "table", "out"],
+        &["check", "--json", "table"],
+        &["verify", "cert", "table", "masked"],
         &["version"],
         &["help"],
+        &["mask", "--help"],
     ] {
         for script in ["\"$@\" >/dev/full", "\"$@\" >&-"] {
             let ran = folder.script(script, arguments)?;
@@ -86,6 +95,13 @@ fn readers(folder: &Folder) -> Result<(), String> {
         ensure(ran.is_done() && ran.out.lines().eq([first]), &ran, "the first line is another")?;
         let ran = folder.script(&format!("{start}\"$@\""), &["mask", "1", "table", "out"])?;
         ensure(ran.is_done() && ran.out.lines().count() == 3, &ran, "masking fails")?;
+        let script = format!("{start}\"$@\" 2>told | head -c 1");
+        let ran = folder.script(&script, &["mask", "1", "table", "-"])?;
+        ensure(
+            ran.is_done() && folder.read("told")?.is_empty(),
+            &ran,
+            "a reader that stops is told",
+        )?;
     }
     Ok(())
 }

@@ -7,7 +7,7 @@ use compare::model::{self, AND, And, MOST, NOT, OR};
 use super::{KEPT, ensure_kept};
 use crate::running::{Folder, ensure, masked_with, with_and};
 
-const WRONG_ORDER: &str = "refused 6: the order is not 1 to 15\n";
+const WRONG_ORDER: &str = "table: refused 6: the order is not 1 to 15\n";
 
 pub fn test(folder: &Folder) -> Result<(), String> {
     by_number(folder)?;
@@ -29,13 +29,16 @@ fn faulty() -> [(Vec<u8>, &'static str); 7] {
         circuit.bytes()
     };
     [
-        (vec![2, 0], "refused 1: "),
-        (table(&|circuit| circuit.inputs = 0), "refused 2: "),
-        (table(&|circuit| circuit.gates[1].0 = 6), "refused 3 at gate 1: its kind is above 5"),
-        (table(&|circuit| circuit.gates[2].1 = 5), "refused 4 at gate 2: "),
-        (table(&|circuit| circuit.gates[3].1 = 2), "refused 4 at gate 3: "),
-        (table(&|circuit| circuit.gates[3].2 = 1), "refused 4 at gate 3: "),
-        (table(&|circuit| circuit.outputs[1] = 6), "refused 5 at output 1: "),
+        (vec![2, 0], "table: refused 1: "),
+        (table(&|circuit| circuit.inputs = 0), "table: refused 2: "),
+        (
+            table(&|circuit| circuit.gates[1].0 = 6),
+            "table: refused 3 at gate 1: its kind is above 5",
+        ),
+        (table(&|circuit| circuit.gates[2].1 = 5), "table: refused 4 at gate 2: "),
+        (table(&|circuit| circuit.gates[3].1 = 2), "table: refused 4 at gate 3: "),
+        (table(&|circuit| circuit.gates[3].2 = 1), "table: refused 4 at gate 3: "),
+        (table(&|circuit| circuit.outputs[1] = 6), "table: refused 5 at output 1: "),
     ]
 }
 
@@ -48,9 +51,9 @@ fn by_number(folder: &Folder) -> Result<(), String> {
     }
     let random = Circuit::new(2, &[and(0, 1), random()], &[2]).bytes();
     let others = [
-        (random, "refused 7 at gate 1: "),
-        (and_chain(2_731), "refused 8: "),
-        (vec![1; 458_747], "refused 1: "),
+        (random, "table: refused 7 at gate 1: "),
+        (and_chain(2_731), "table: refused 8: "),
+        (vec![1; 458_747], "table: refused 1: "),
     ];
     for (table, told) in faulty().into_iter().chain(others) {
         folder.write("table", &table)?;
@@ -78,7 +81,6 @@ fn with_order(order: &str) -> [Vec<&str>; 5] {
 /// Every number that is no order, however it is written.
 fn orders(folder: &Folder) -> Result<(), String> {
     folder.write("table", &the_and())?;
-    folder.write("out", KEPT)?;
     for order in
         ["0", "16", "255", "256", "300", "99999999999999999999", "000000000000000000000016", "00"]
     {
@@ -151,7 +153,7 @@ fn too_large(folder: &Folder, order: u8, circuit: &Circuit) -> Result<(), String
     let (wires, n) = (masked_wires(circuit, order), 2 * usize::from(order) + 1);
     let outputs = n * circuit.outputs.len();
     let told = format!(
-        "refused 8: masked at order {order} the table would have {wires} wires and {outputs} \
+        "table: refused 8: masked at order {order} the table would have {wires} wires and {outputs} \
          outputs, and 65,535 of each is the most; {largest}\n"
     );
     folder.write("table", &table)?;
@@ -186,7 +188,7 @@ fn long_tables(folder: &Folder) -> Result<(), String> {
         folder.write("table", &table)?;
         let ran = folder.run(&["forecast", "1", "table"])?;
         let told = ran.told.contains("mask takes longer ones");
-        ensure(ran.is_ended(1, "refused 9: ") && told, &ran, "a long table is not told")?;
+        ensure(ran.is_ended(1, "table: refused 9: ") && told, &ran, "a long table is not told")?;
         for and in And::BOTH {
             let ran = folder.run(&with_and(and, &["mask", "1", "table", "out"]))?;
             let sizes = format!("3 shares, {sizes} tape bits, AND: {}\n", and.name());
