@@ -3,8 +3,9 @@
 # SHA-256 over what they are proved from: each with a record beside it, NAME.proved, of its SHA-256 and of the toolchain that proved it.
 # A file is used only where it has that SHA-256.
 
-# Everything that is built, what is soonest ready first.
-all="show forecast mask libmasks_c.a libmasks.so.0"
+# Everything that is built: what needs few crates, and is kept while the rest is still proved.
+first="show forecast" rest="mask libmasks_c.a libmasks.so.0"
+all="$first $rest"
 
 # The files that belong to the project and decide a certificate, a line each: those that git tracks, else those of command/files.txt.
 list_sources() {
@@ -75,33 +76,44 @@ build_missing() {
     unlock
 }
 
-# Proves and builds these files, and keeps each as soon as it is built.
+# Proves and builds these files, and keeps them.
 build_all() {
     no_strangers
     progress "proving and building$1, which takes some minutes the first time"
     lend_temporary
     find_toolchain
-    crates=''
-    for name in $1; do crates="$crates $(crates_of "$name")"; done
-    # shellcheck disable=SC2086
-    begin_watch $crates
-    for name in $1; do
-        # a program is removed so that rt links it anew, whatever is there
-        rm -f "target/bin/$name" "target/stamp/$name"
-        # shellcheck disable=SC2046
-        prove $(crates_of "$name")
-        keep "$name"
-    done
+    # shellcheck disable=SC2046,SC2086
+    begin_watch $(crates_of $1)
+    build_part "$1" "$first"
+    build_part "$1" "$rest"
     end_watch
 }
 
-# The crates that a file is proved and built from; maps has the theorem that mask names.
+# Proves and builds those of some files that are of a part, and keeps them.
+build_part() {
+    names=''
+    for name in $2; do
+        case "$1 " in *" $name "*) ;; *) continue ;; esac
+        names="$names $name"
+        # a program is removed so that rt links it anew, whatever is there
+        rm -f "target/bin/$name" "target/stamp/$name"
+    done
+    [ -n "$names" ] || return 0
+    # shellcheck disable=SC2046,SC2086
+    prove $(crates_of $names)
+    # shellcheck disable=SC2086
+    keep $names
+}
+
+# The crates that some files are proved and built from; maps has the theorem that mask names.
 crates_of() {
-    case $1 in
-    lib*) echo masks_c ;;
-    mask) echo mask maps ;;
-    *) echo "$1" ;;
-    esac
+    for name; do
+        case $name in
+        lib*) echo masks_c ;;
+        mask) echo mask maps ;;
+        *) echo "$name" ;;
+        esac
+    done
 }
 
 # Ends where crates/ has a file that rt would read and the key does not cover.
