@@ -221,9 +221,9 @@ make_file() {
         from=target/staticlib/$1
         ;;
     lib*)
-        make_file libmasks_c.a
-        link_shared "$from" include/masks.h "$scratch/$1" || die "the shared library cannot be linked: $(head -n 1 "$scratch/told")"
         from=$scratch/$1
+        is_kept libmasks_c.a || die "the shared library cannot be linked: there is no archive in $kept"
+        link_shared "$kept/libmasks_c.a" include/masks.h "$from" || die "the shared library cannot be linked: $(head -n 1 "$scratch/told")"
         ;;
     esac
 }
