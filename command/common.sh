@@ -146,9 +146,9 @@ begin_apart() {
             kill -s TERM 0
             sleep 1
             kill -s KILL 0
-        } </dev/null >/dev/null 2>&1 3>&- &
+        } </dev/null >/dev/null 2>&1 3>&- 4<&- &
         guard=$!
-        "$@" 9<&- 3>&-
+        "$@" 3>&- 4<&- 9<&-
         status=$?
         kill -s KILL "$guard"
         exit "$status"' sh $$ "$@" &

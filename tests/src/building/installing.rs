@@ -49,6 +49,7 @@ pub fn test(folder: &Folder, tools: &Tools) -> Result<(), String> {
     fs::rename(folder.path("pre fix"), &moved).map_err(|error| folder.told(error))?;
     works(folder, tools, &moved)?;
     library::test(folder, &moved)?;
+    is_clean(&moved)?;
     manual(folder, &moved)?;
     completes(folder, &moved)?;
     replaced(folder, &moved)
@@ -189,6 +190,22 @@ fn manual(folder: &Folder, prefix: &Path) -> Result<(), String> {
     let is_told =
         |name: &&str| ran.out.lines().any(|line| line.contains(&format!("fantzori {name}")));
     ensure(names().iter().all(is_told), &ran, "a command is not in the manual page")
+}
+
+/// The command and the completions as they are installed are clean.
+fn is_clean(prefix: &Path) -> Result<(), String> {
+    if find("shellcheck").is_none() {
+        println!("building: without shellcheck what is installed is not checked by it");
+        return Ok(());
+    }
+    for (shell, name) in
+        [("sh", "bin/fantzori"), ("bash", "share/bash-completion/completions/fantzori")]
+    {
+        let mut check = Command::new("shellcheck");
+        let ran = Ran::of(check.args(["-s", shell, name]).current_dir(prefix))?;
+        ensure(ran.is_done(), &ran, &format!("shellcheck has something to say of {name}"))?;
+    }
+    Ok(())
 }
 
 /// The completions for bash give commands, options of the command, and files.

@@ -147,6 +147,7 @@ fn closed(folder: &Folder) -> Result<(), String> {
     for words in READING {
         for (script, told) in [
             ("\"$@\" <&-", "fantzori: standard input is closed\n"),
+            ("\"$@\" <&- 4<table", "fantzori: standard input is closed\n"),
             ("\"$@\" <'sub folder'", "fantzori: standard input "),
         ] {
             let ran = folder.script(script, words)?;
