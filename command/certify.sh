@@ -74,8 +74,16 @@ TXT
 
 # The same as a JSON object.
 json_certificate() {
-    cat <<TXT
-{"certificate":"masking","product":"Fantzori","version":"$version","circuit":$(json_string "$circuit"),"inputs":$inputs,"gates":{"not":$nots,"xor":$xors,"and":$ands,"constant":$constants,"or":$ors},"outputs":$outputs,"order":$order,"and":"$and","shares":$shares,"wires":$masked_wires,"tape_bits":$tape_bits,"plain_sha256":"$plain_sum","masked_sha256":"$masked_sum","theorem":{"name":"$theorem","file":$(json_string "$theorem_at")},"statement":{"name":"$statement","file":$(json_string "$statement_at")},"key":"$key","toolchain":$(json_string "$toolchain"),"date":"$(date -u +%Y-%m-%d)","conditions":[$(json_lines "$scratch/conditions")],"full_text":$(json_string "$conditions_at"),"format":$(json_string "$format_at")}
+    on_one_line <<TXT
+{"certificate":"masking","product":"Fantzori","version":"$version","circuit":$(json_string "$circuit"),
+"inputs":$inputs,"gates":{"not":$nots,"xor":$xors,"and":$ands,"constant":$constants,"or":$ors},"outputs":$outputs,
+"order":$order,"and":"$and","shares":$shares,"wires":$masked_wires,"tape_bits":$tape_bits,
+"plain_sha256":"$plain_sum","masked_sha256":"$masked_sum",
+"theorem":{"name":"$theorem","file":$(json_string "$theorem_at")},
+"statement":{"name":"$statement","file":$(json_string "$statement_at")},
+"key":"$key","toolchain":$(json_string "$toolchain"),"date":"$(date -u +%Y-%m-%d)",
+"conditions":[$(json_lines "$scratch/conditions")],
+"full_text":$(json_string "$conditions_at"),"format":$(json_string "$format_at")}
 TXT
 }
 

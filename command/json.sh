@@ -37,6 +37,12 @@ in_a_line() {
     printf '%s' "${1%?}"
 }
 
+# A JSON object that comes in over several lines, on one. Its strings have no line feed.
+on_one_line() {
+    tr -d '\n'
+    echo
+}
+
 # The lines of a file as JSON strings with commas between them.
 json_lines() {
     separator=''

@@ -69,8 +69,11 @@ mask() {
 # What is told of a table that was masked.
 mask_answer() {
     if [ -n "$json" ]; then
-        cat <<TXT
-{"file":$(json_string "$table"),"out":$(json_string "$1"),"order":$order,"and":"$and","shares":$shares,"wires":$masked_wires,"tape_bits":$tape_bits,"bytes":$masked_bytes,"theorem":{"name":"$theorem","file":$(json_string "$(whole_path "$theorem_file")")},"plain_sha256":"$plain_sum","masked_sha256":"$masked_sum"}
+        on_one_line <<TXT
+{"file":$(json_string "$table"),"out":$(json_string "$1"),"order":$order,"and":"$and",
+"shares":$shares,"wires":$masked_wires,"tape_bits":$tape_bits,"bytes":$masked_bytes,
+"theorem":{"name":"$theorem","file":$(json_string "$(whole_path "$theorem_file")")},
+"plain_sha256":"$plain_sum","masked_sha256":"$masked_sum"}
 TXT
     else
         cat <<TXT
@@ -127,18 +130,26 @@ check_one() {
     take_table "$1" "$most"
     write_listing "$scratch/table" "$scratch/lines"
     count_kinds "$scratch/table"
-    before=''
+    wires=$((inputs + gates)) bytes=$(wc -c <"$scratch/table") before=''
     [ "$2" -eq 1 ] || before="$table: "
-    if [ -n "$json" ]; then
-        answer <<TXT
-{"file":$(json_string "$table"),"inputs":$inputs,"gates":$gates,"outputs":$outputs,"wires":$((inputs + gates)),"bytes":$(wc -c <"$scratch/table"),"kinds":{"not":$nots,"xor":$xors,"and":$ands,"random":$randoms,"constant":$constants,"or":$ors}}
-TXT
-    else
-        answer <<TXT
-$before$(count_of "$inputs" input), $(count_of "$gates" gate), $(count_of "$outputs" output), $(count_of $((inputs + gates)) wire), $(wc -c <"$scratch/table") bytes
+    if [ -n "$json" ]; then json_sizes; else sizes; fi >"$scratch/answer"
+    answer <"$scratch/answer"
+}
+
+# The sizes of a table in words.
+sizes() {
+    cat <<TXT
+$before$(count_of "$inputs" input), $(count_of "$gates" gate), $(count_of "$outputs" output), $(count_of "$wires" wire), $bytes bytes
 $before$nots NOT, $xors XOR, $ands AND, $randoms random, $constants constant, $ors OR
 TXT
-    fi
+}
+
+# The same as a JSON object.
+json_sizes() {
+    on_one_line <<TXT
+{"file":$(json_string "$table"),"inputs":$inputs,"gates":$gates,"outputs":$outputs,"wires":$wires,"bytes":$bytes,
+"kinds":{"not":$nots,"xor":$xors,"and":$ands,"random":$randoms,"constant":$constants,"or":$ors}}
+TXT
 }
 
 # Lists a table: TABLE.
