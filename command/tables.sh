@@ -193,8 +193,8 @@ count_of() {
 }
 
 # The theorem and its statement, their names and files; the pages of what they rest on and of the format.
-theorem=demands theorem_file=crates/maps/proofs/Whole.antt
-statement=Demands statement_file=crates/maps/specs/Claims.antt
+theorem=demands theorem_file=crates/secrecy/proofs/Whole.antt
+statement=Demands statement_file=crates/secrecy/specs/Claims.antt
 conditions_file=docs/ASSURANCE.md format_file=docs/FORMAT.md
 
 # The file of a page or a proof where this command runs: of the project, or as it was installed.

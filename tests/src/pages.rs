@@ -133,7 +133,7 @@ fn check_table(name: &str, words: &[&str]) -> Result<(), String> {
 /// The statements that docs/ASSURANCE.md quotes in "The theorem" stand in the file that it names; two
 /// dots stand for what is left out before the rest. Answers how many there are.
 fn check_quotes() -> Result<usize, String> {
-    let (name, source) = ("docs/ASSURANCE.md", "crates/maps/specs/Claims.antt");
+    let (name, source) = ("docs/ASSURANCE.md", "crates/secrecy/specs/Claims.antt");
     let read = |name| fs::read_to_string(root().join(name)).map_err(|error| told(name, error));
     let (page, claims) = (read(name)?, words(&read(source)?));
     let section = page.split("\n## ").find(|section| section.starts_with("The theorem\n"));

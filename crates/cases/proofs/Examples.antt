@@ -13,15 +13,15 @@ use Rattle.tables.specs.Tables.{tableOf, tableFault, gatesFrom, wordsFrom, gate
 use Rattle.tables.specs.Tables.{kindBytes, pairBytes, wordBytes, tableBytes}
 use Rattle.tables.specs.Runs.{run, runFrom, readAll, ofEach}
 use Rattle.tables.specs.Packing.{numberOf, digitsOf, packFrom, packed, unpacked, tapeOf, spare, spareFault}
-use Rattle.masks.specs.Shares.{upFrom, inTurn, pairsFrom, tri, pairAt, row}
-use Rattle.masks.specs.Wires.{adding, andWires, inputOrigins, masked}
-use Rattle.masks.specs.Wires.{sharesAfter, outputShares, maskedTable, origins, tapeLong, insert, joined, probeMarks}
-use Rattle.masks.specs.Codes.{xorAll, encode, decodeFrom, decode, maskedRun}
-use Rattle.masks.specs.Says.{plainFault, encodeFault}
+use Rattle.construction.specs.Shares.{upFrom, inTurn, pairsFrom, tri, pairAt, row}
+use Rattle.construction.specs.Wires.{adding, andWires, inputOrigins, masked}
+use Rattle.construction.specs.Wires.{sharesAfter, outputShares, maskedTable, origins, tapeLong, insert, joined, probeMarks}
+use Rattle.construction.specs.Codes.{xorAll, encode, decodeFrom, decode, maskedRun}
+use Rattle.construction.specs.Says.{plainFault, encodeFault}
 use Rattle.text.specs.Text.{digits, lineOf}
 use Rattle.forecasting.specs.Lines.{lineFault, forecastLine}
-use Rattle.maps.specs.Maps.{freeFrom, freeShare, flipped, inputFlips, mapGates, mappedAt}
-use Rattle.maps.specs.Says.{badProbe, supplyFault, probesFault, roomFault, mapFault}
+use Rattle.secrecy.specs.Maps.{freeFrom, freeShare, flipped, inputFlips, mapGates, mappedAt}
+use Rattle.secrecy.specs.Says.{badProbe, supplyFault, probesFault, roomFault, mapFault}
 use Rattle.cases.specs.Cases.{MCases}
 
 -- a table of six bytes or more is long enough for its sizes

@@ -10,15 +10,15 @@ use Rattle.tables.specs.Refusals.{Fault, none, fault}
 use Rattle.tables.specs.Tables.{gate, NOT, XOR, AND, RANDOM, Table, tableOf, tableFault}
 use Rattle.tables.specs.Runs.{readAll, outputsOf, probeReads}
 use Rattle.tables.specs.Packing.{packed, tapeOf}
-use Rattle.masks.specs.Shares.{sharesOf, tri}
-use Rattle.masks.specs.Gadgets.{isw, dom}
-use Rattle.masks.specs.Wires.{cost, maskedTable, wireMarks, probeMarks}
-use Rattle.masks.specs.Codes.{decode, maskedRun}
-use Rattle.masks.specs.Says.{plainFault, encodeFault}
+use Rattle.construction.specs.Shares.{sharesOf, tri}
+use Rattle.construction.specs.Gadgets.{isw, dom}
+use Rattle.construction.specs.Wires.{cost, maskedTable, wireMarks, probeMarks}
+use Rattle.construction.specs.Codes.{decode, maskedRun}
+use Rattle.construction.specs.Says.{plainFault, encodeFault}
 use Rattle.forecasting.specs.Lines.{forecastLine}
-use Rattle.maps.specs.Maps.{freeShare, mapped}
-use Rattle.maps.specs.Says.{mapFault}
-use Rattle.maps.specs.Packed.{packedRun, packedMap}
+use Rattle.secrecy.specs.Maps.{freeShare, mapped}
+use Rattle.secrecy.specs.Says.{mapFault}
+use Rattle.secrecy.specs.Packed.{packedRun, packedMap}
 
 -- "02 00 01 00 01 00, 02, 00 00 01 00, 02 00": two inputs, one AND of them, output
 abbrev pub andBytes : List ℕ

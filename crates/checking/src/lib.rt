@@ -35,7 +35,7 @@ pub fn table_fault(table: &[u8]) -> tables::Refusal
     if table.len() != 6 + 5 * gates + 2 * outputs {
         return tables::refuse(1, 0);
     }
-    let found = gates::gates_fault(table, inputs, gates);
+    let found = check_gates::gates_fault(table, inputs, gates);
     if found.number != 0 {
         return found;
     }

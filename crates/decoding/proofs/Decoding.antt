@@ -12,9 +12,9 @@ use Rattle.tables.specs.Runs.{Bits, xor}
 use Rattle.tables.specs.Says.{over}
 use Rattle.tables.proofs.Lists.{part, part-next, part-end}
 use Rattle.tables.proofs.Put.{Writing, writing-front, writing-inside, writing-byte, writing-long, writing-end, over-length}
-use Rattle.masks.specs.Codes.{xorAll, decodeFrom}
+use Rattle.construction.specs.Codes.{xorAll, decodeFrom}
 use Rattle.tables.proofs.Run.{bit-xor}
-use Rattle.masks.proofs.Codes.{decode-from-length}
+use Rattle.construction.proofs.Codes.{decode-from-length}
 
 -- while n shares from a place on are added: those from j on are left, where `sum` is what the others give
 pub record Adding (bs : List ℕ) (at n j sum : ℕ) : Type 0 where

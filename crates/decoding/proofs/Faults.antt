@@ -9,7 +9,7 @@ use borrow.Author.Tests.{lt-ltb, le-ltb, eq-eqb, ne-eqb}
 use lib.Dec.{ltb}
 use lib.ListN.{length}
 use Rattle.tables.specs.Refusals.{fault, orElse, refusedIf, badBit}
-use Rattle.masks.specs.Says.{orderOk, decodeFault}
+use Rattle.construction.specs.Says.{orderOk, decodeFault}
 
 module _ (o : ℕ) (bs : List ℕ) (room : ℕ) (ok : orderOk o ≡ true) where
   pub decode-many : 65535 < length bs → decodeFault o bs room ≡ fault 8 0

@@ -4,14 +4,14 @@ ghost use Prim.Native.Nat.{_+_, _*_, _≤_};
 ghost use lib.ListN.{length, take, drop};
 ghost use Rattle.tables.specs.Runs.{Bits};
 ghost use Rattle.tables.specs.Says.{over, Refused};
-ghost use Rattle.masks.specs.Codes.{xorAll, decodeFrom};
-ghost use Rattle.masks.specs.Says.{decodeFault, DecodeSays};
+ghost use Rattle.construction.specs.Codes.{xorAll, decodeFrom};
+ghost use Rattle.construction.specs.Says.{decodeFault, DecodeSays};
 
 // The refusal of decoding for a buffer of the given length: 6, 8, 10, 11, 9 in that order.
 fn decode_fault(order: u8, shares: &[u8], room: usize) -> tables::Refusal
     ensures { λ r. ⌜ Refused (decodeFault order (now (shares .entry)) room) r ⌝ }
 {
-    let found = masks::order_fault(order);
+    let found = construction::order_fault(order);
     if found.number != 0 {
         return found;
     }

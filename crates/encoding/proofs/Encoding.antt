@@ -16,10 +16,10 @@ use Rattle.tables.specs.Inside.{putAt}
 use Rattle.tables.proofs.Lists.{part, part-next, part-end, part-take}
 use Rattle.tables.proofs.Put.{Writing, writing-start, writing-front, writing-fits, writing-piece, writing-byte}
 use Rattle.tables.proofs.Put.{writing-long, writing-end, over-length}
-use Rattle.masks.specs.Shares.{sharesOf}
-use Rattle.masks.specs.Codes.{xorAll, encode}
+use Rattle.construction.specs.Shares.{sharesOf}
+use Rattle.construction.specs.Codes.{xorAll, encode}
 use Rattle.tables.proofs.Run.{bit-xor}
-use Rattle.masks.proofs.Codes.{group, group-length, encode-cons, encode-length}
+use Rattle.construction.proofs.Codes.{group, group-length, encode-cons, encode-length}
 
 -- the shares of one secret, and of the first of several
 one-length : (o x : ℕ) (ts : List ℕ) → 2 * o ≤ length ts → length (encode o (x ∷ []) ts) ≡ sharesOf o

@@ -12,8 +12,8 @@ use lib.Dec.{ltb}
 use lib.ListN.{length}
 use Rattle.tables.specs.Refusals.{fault, orElse, refusedIf, badBit}
 use Rattle.tables.specs.Packing.{bytesFor, spareFault}
-use Rattle.masks.specs.Shares.{sharesOf}
-use Rattle.masks.specs.Says.{orderOk, encodeFault}
+use Rattle.construction.specs.Shares.{sharesOf}
+use Rattle.construction.specs.Says.{orderOk, encodeFault}
 
 -- n shares of each of so many secrets are computed without overflow
 pub shares-fit : (o l : ℕ) → o ≤ 15 → l ≤ 65535 → (2 * o + 1) * l ≤ 2031585

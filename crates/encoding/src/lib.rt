@@ -7,15 +7,15 @@ ghost use Rattle.tables.specs.Runs.{Bits};
 ghost use Rattle.tables.specs.Packing.{unpacked, tapeOf};
 ghost use Rattle.tables.specs.Says.{over, Refused};
 ghost use Rattle.tables.specs.Inside.{putAt};
-ghost use Rattle.masks.specs.Codes.{encode};
-ghost use Rattle.masks.specs.Shares.{sharesOf};
-ghost use Rattle.masks.specs.Says.{encodeFault, EncodeSays};
+ghost use Rattle.construction.specs.Codes.{encode};
+ghost use Rattle.construction.specs.Shares.{sharesOf};
+ghost use Rattle.construction.specs.Says.{encodeFault, EncodeSays};
 
 // The refusal of encoding for a buffer of the given length: 6, 8, 10, 11, 9 in that order.
 fn encode_fault(order: u8, secrets: &[u8], tape: &[u8], room: usize) -> tables::Refusal
     ensures { λ r. ⌜ Refused (encodeFault order (now (secrets .entry)) (now (tape .entry)) room) r ⌝ }
 {
-    let found = masks::order_fault(order);
+    let found = construction::order_fault(order);
     if found.number != 0 {
         return found;
     }

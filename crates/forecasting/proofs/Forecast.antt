@@ -5,14 +5,14 @@ use mathlib.Core.List.{List}
 use Prim.Native.Nat.{ℕ}
 use Rattle.tables.specs.declared.Refusal as DR
 use Rattle.tables.proofs.Answers.{refused-fails}
-use Rattle.masks.specs.declared.Sizes as DS
-use Rattle.masks.specs.declared.And.the-variants.{Isw}
-use Rattle.masks.specs.Gadgets.{isw}
-use Rattle.masks.specs.Says.{plainFault, ForecastSays}
-use Rattle.sizing.specs.declared.Plan as DP
-use Rattle.sizing.specs.declared.Planned.the-variants as Planned
-use Rattle.sizing.specs.Plans.{PlanSays}
-use Rattle.sizing.proofs.Planning.{Planned-Ready, planned-refused, plan-bytes}
+use Rattle.construction.specs.declared.Sizes as DS
+use Rattle.construction.specs.declared.And.the-variants.{Isw}
+use Rattle.construction.specs.Gadgets.{isw}
+use Rattle.construction.specs.Says.{plainFault, ForecastSays}
+use Rattle.planning.specs.declared.Plan as DP
+use Rattle.planning.specs.declared.Planned.the-variants as Planned
+use Rattle.planning.specs.Plans.{PlanSays}
+use Rattle.planning.proofs.Planning.{Planned-Ready, planned-refused, plan-bytes}
 use Rattle.forecasting.specs.Figures.{FiguresSay}
 
 pub forecast-ready :

@@ -10,11 +10,11 @@ use lib.ListN.{length, getD, take, drop}
 use Rattle.tables.specs.Refusals.{passed}
 use Rattle.tables.specs.Tables.{wires, tableOf, tableBytes}
 use Rattle.tables.proofs.Cut.{input-empty, input-part}
-use Rattle.masks.specs.declared.Sizes as DS
-use Rattle.masks.specs.Shares.{sharesOf}
-use Rattle.masks.specs.Gadgets.{isw}
-use Rattle.masks.specs.Wires.{maskedTable, tapeLong}
-use Rattle.masks.specs.Says.{plainFault, ForecastSays}
+use Rattle.construction.specs.declared.Sizes as DS
+use Rattle.construction.specs.Shares.{sharesOf}
+use Rattle.construction.specs.Gadgets.{isw}
+use Rattle.construction.specs.Wires.{maskedTable, tapeLong}
+use Rattle.construction.specs.Says.{plainFault, ForecastSays}
 use Rattle.text.specs.Text.{decimal, lineOf, refusalLine}
 use Rattle.text.proofs.Writing.{number-long, refusal-long}
 use Rattle.forecasting.specs.Lines.{lineFault, figuresLine, forecastLine, sizesLine}

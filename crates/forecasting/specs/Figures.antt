@@ -1,9 +1,9 @@
 -- For contracts inside the library only: no promise of a call cites this.
 -- Assumes nothing.
 use mathlib.Core.Path.{_≡_}
-use Rattle.masks.specs.declared.Sizes as DS
-use Rattle.sizing.specs.declared.Plan as DP
-use Rattle.sizing.specs.Plans.{planBytes}
+use Rattle.construction.specs.declared.Sizes as DS
+use Rattle.planning.specs.declared.Plan as DP
+use Rattle.planning.specs.Plans.{planBytes}
 
 -- the four figures of a plan
 pub record FiguresSay (p : DP.Plan) (r : DS.Sizes) : Type 0 where

@@ -8,11 +8,11 @@ use lib.ListN.{length, getD, drop}
 use Rattle.tables.specs.Refusals.{Fault, passed, orElse, refusedIf}
 use Rattle.tables.specs.Tables.{wires, tableOf, tableBytes}
 use Rattle.text.specs.Text.{decimal, lineOf, refusalLine, PutsAll}
-use Rattle.masks.specs.declared.Sizes as DS
-use Rattle.masks.specs.Shares.{sharesOf}
-use Rattle.masks.specs.Gadgets.{isw}
-use Rattle.masks.specs.Wires.{maskedTable, tapeLong}
-use Rattle.masks.specs.Says.{plainFault}
+use Rattle.construction.specs.declared.Sizes as DS
+use Rattle.construction.specs.Shares.{sharesOf}
+use Rattle.construction.specs.Gadgets.{isw}
+use Rattle.construction.specs.Wires.{maskedTable, tapeLong}
+use Rattle.construction.specs.Says.{plainFault}
 
 -- "It reads an order byte and then a table"; "No input counts as order 0 and an empty table"
 -- "Input above 65,536 bytes prints `refused 9 0`"

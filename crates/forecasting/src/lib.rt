@@ -3,19 +3,19 @@ ghost use mathlib.Core.Path.{_≡_};
 ghost use Prim.Native.Nat.{_≤_};
 ghost use lib.ListN.{length};
 ghost use Rattle.text.specs.Text.{Puts};
-ghost use Rattle.masks.specs.Gadgets.{isw};
-ghost use Rattle.masks.specs.Says.{ForecastSays};
-ghost use Rattle.sizing.specs.Plans.{PlanFits};
+ghost use Rattle.construction.specs.Gadgets.{isw};
+ghost use Rattle.construction.specs.Says.{ForecastSays};
+ghost use Rattle.planning.specs.Plans.{PlanFits};
 ghost use Rattle.forecasting.specs.Figures.{FiguresSay};
 ghost use Rattle.forecasting.specs.Lines.{figuresLine, forecastLine, sizesLine, LineSays};
 
 // The four figures of a plan.
-fn plan_figures(p: sizing::Plan) -> masks::Sizes
+fn plan_figures(p: planning::Plan) -> construction::Sizes
     requires { ⌜ PlanFits p ⌝ }
     ensures { λ r. ⌜ FiguresSay p r ⌝ }
 {
-    let bytes = sizing::plan_bytes(p);
-    masks::Sizes {
+    let bytes = planning::plan_bytes(p);
+    construction::Sizes {
         number: 0,
         place: 0,
         shares: p.shares as u32,
@@ -26,13 +26,13 @@ fn plan_figures(p: sizing::Plan) -> masks::Sizes
 }
 
 // Forecasts the sizes of the table that masking writes.
-pub fn forecast_sizes(table: &[u8], order: u8) -> masks::Sizes
+pub fn forecast_sizes(table: &[u8], order: u8) -> construction::Sizes
     ensures { λ r. ⌜ ForecastSays isw (now (table .entry)) order r ⌝ }
 {
-    let planned = sizing::plan_table(table, order);
+    let planned = planning::plan_table(table, order);
     match planned {
-        sizing::Planned::Refused(f) => {
-            return masks::Sizes {
+        planning::Planned::Refused(f) => {
+            return construction::Sizes {
                 number: f.number,
                 place: f.place,
                 shares: 0,
@@ -41,14 +41,14 @@ pub fn forecast_sizes(table: &[u8], order: u8) -> masks::Sizes
                 bytes: 0,
             };
         }
-        sizing::Planned::Ready(p) => {
+        planning::Planned::Ready(p) => {
             return plan_figures(p);
         }
     }
 }
 
 // Puts the line of the four figures, and answers its length.
-fn put_figures(out: &mut [u8], sizes: masks::Sizes) -> usize
+fn put_figures(out: &mut [u8], sizes: construction::Sizes) -> usize
     requires { ⌜ length (figuresLine (sizes .shares) (sizes .wires) (sizes .tape) (sizes .bytes)) ≤ length (now out) ⌝ }
     ensures { λ r. ⌜
         Puts 0 (figuresLine (sizes .shares) (sizes .wires) (sizes .tape) (sizes .bytes)) (now (out .entry)) (now (out .exit)) r
@@ -60,7 +60,7 @@ fn put_figures(out: &mut [u8], sizes: masks::Sizes) -> usize
 }
 
 // Puts the line of a forecast, and answers its length.
-fn put_line(out: &mut [u8], sizes: masks::Sizes) -> usize
+fn put_line(out: &mut [u8], sizes: construction::Sizes) -> usize
     requires { ⌜ length (sizesLine sizes) ≤ length (now out) ⌝ }
     ensures { λ r. ⌜ Puts 0 (sizesLine sizes) (now (out .entry)) (now (out .exit)) r ⌝ }
 {
@@ -71,11 +71,11 @@ fn put_line(out: &mut [u8], sizes: masks::Sizes) -> usize
 }
 
 // The forecast of an input: an order byte, then a table.
-fn line_sizes(input: &[u8]) -> masks::Sizes
+fn line_sizes(input: &[u8]) -> construction::Sizes
     ensures { λ r. ⌜ sizesLine r ≡ forecastLine (now (input .entry)) ⌝ }
 {
     if input.len() > 65536 {
-        return masks::Sizes {
+        return construction::Sizes {
             number: 9,
             place: 0,
             shares: 0,

@@ -13,26 +13,26 @@ use Rattle.tables.specs.Tables.{wires, tableOf}
 use Rattle.tables.specs.Packing.{bytesFor, tapeOf, spare}
 use Rattle.tables.proofs.Tests.{and-true}
 use Rattle.tables.proofs.Answers.{refused-fails, answered-refused, answered-none}
-use Rattle.masks.specs.Shares.{sharesOf}
-use Rattle.masks.specs.declared.And as DAnd
-use Rattle.masks.specs.Gadgets.{gadgetOf}
-use Rattle.masks.specs.Wires.{maskedTable, tapeLong, probeMarks}
-use Rattle.masks.proofs.Lawful.{lawful}
-use Rattle.masks.proofs.Hiding.{hiding}
-use Rattle.masks.proofs.Passed.{plain-passed}
-use Rattle.sizing.specs.declared.Plan as DP
-use Rattle.sizing.specs.declared.Planned as DN
-use Rattle.sizing.specs.declared.Planned.the-variants as Planned
-use Rattle.sizing.specs.Plans.{PlanReady, PlanSays}
-use Rattle.sizing.proofs.Planning.{Planned-Ready, planned-as, planned-refused, planned-ready, plan-fits}
-use Rattle.maps.specs.Maps.{carried, freeShare}
-use Rattle.maps.specs.Claims.{allBelow}
-use Rattle.maps.specs.Laws.{Free}
-use Rattle.maps.specs.Says.{mapFault, MapDone}
-use Rattle.maps.proofs.Faults.{MapGood, map-good}
-use Rattle.maps.proofs.Begun.{secrets-are}
-use Rattle.maps.proofs.Whole.{covers-pins, free-of}
-use Rattle.rerunning.specs.Working.{WorkReady, WorkSays}
+use Rattle.construction.specs.Shares.{sharesOf}
+use Rattle.construction.specs.declared.And as DAnd
+use Rattle.construction.specs.Gadgets.{gadgetOf}
+use Rattle.construction.specs.Wires.{maskedTable, tapeLong, probeMarks}
+use Rattle.construction.proofs.Lawful.{lawful}
+use Rattle.construction.proofs.Hiding.{hiding}
+use Rattle.construction.proofs.Passed.{plain-passed}
+use Rattle.planning.specs.declared.Plan as DP
+use Rattle.planning.specs.declared.Planned as DN
+use Rattle.planning.specs.declared.Planned.the-variants as Planned
+use Rattle.planning.specs.Plans.{PlanReady, PlanSays}
+use Rattle.planning.proofs.Planning.{Planned-Ready, planned-as, planned-refused, planned-ready, plan-fits}
+use Rattle.secrecy.specs.Maps.{carried, freeShare}
+use Rattle.secrecy.specs.Claims.{allBelow}
+use Rattle.secrecy.specs.Laws.{Free}
+use Rattle.secrecy.specs.Says.{mapFault, MapDone}
+use Rattle.secrecy.proofs.Faults.{MapGood, map-good}
+use Rattle.secrecy.proofs.Begun.{secrets-are}
+use Rattle.secrecy.proofs.Whole.{covers-pins, free-of}
+use Rattle.map_runs.specs.Working.{WorkReady, WorkSays}
 
 -- a call that is refused; a, b and c are the lengths lent
 pub map-refused :

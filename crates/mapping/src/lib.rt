@@ -1,12 +1,12 @@
 // Mapping a tape from one secret to another: the free share of the probes, the mapped tape and both runs.
-ghost use Rattle.masks.specs.Gadgets.{gadgetOf};
-ghost use Rattle.masks.specs.Wires.{probeMarks};
-ghost use Rattle.maps.specs.Says.{MapSays};
+ghost use Rattle.construction.specs.Gadgets.{gadgetOf};
+ghost use Rattle.construction.specs.Wires.{probeMarks};
+ghost use Rattle.secrecy.specs.Says.{MapSays};
 
 // Maps a tape from the first secret to the second so that every probe keeps its value: the mapped tape, both runs' values, and
 // the free share as the answer's value.
 pub fn map_tape(
-    and: masks::And,
+    and: construction::And,
     table: &[u8],
     order: u8,
     first: &[u8],
@@ -30,7 +30,7 @@ pub fn map_tape(
         (now (other .exit))
         r ⌝ }
 {
-    let planned = refusing::map_fault(
+    let planned = map_refusals::map_fault(
         table,
         order,
         first,
@@ -42,12 +42,12 @@ pub fn map_tape(
         other.len(),
     );
     match planned {
-        sizing::Planned::Refused(f) => {
+        planning::Planned::Refused(f) => {
             return tables::refused(f);
         }
-        sizing::Planned::Ready(p) => {
-            let k = probing::free_share(and, table, p, probes);
-            rerunning::map_work(and, table, p, k, first, second, tape, mapped, one, other);
+        planning::Planned::Ready(p) => {
+            let k = probes::free_share(and, table, p, probes);
+            map_runs::map_work(and, table, p, k, first, second, tape, mapped, one, other);
             return tables::Answer {
                 number: 0,
                 place: 0,

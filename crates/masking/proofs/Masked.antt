@@ -16,15 +16,15 @@ use Rattle.tables.specs.Says.{Refused, over}
 use Rattle.tables.proofs.Tests.{first-refused}
 use Rattle.tables.proofs.Answers.{first-of, writes-refused, writes-done}
 use Rattle.tables.proofs.Cut.{cut-fault, cut-refused, input-empty, input-part}
-use Rattle.masks.specs.declared.And as DAnd
-use Rattle.masks.specs.declared.And.the-variants.{Isw, Dom}
-use Rattle.masks.specs.Gadgets.{Gadget, gadgetOf}
-use Rattle.masks.specs.Says.{plainFault, maskedBytes, maskFault, MaskSays}
-use Rattle.sizing.specs.declared.Plan as DP
-use Rattle.sizing.specs.declared.Planned.the-variants as Planned
-use Rattle.sizing.specs.Plans.{PlanSays, planBytes}
+use Rattle.construction.specs.declared.And as DAnd
+use Rattle.construction.specs.declared.And.the-variants.{Isw, Dom}
+use Rattle.construction.specs.Gadgets.{Gadget, gadgetOf}
+use Rattle.construction.specs.Says.{plainFault, maskedBytes, maskFault, MaskSays}
+use Rattle.planning.specs.declared.Plan as DP
+use Rattle.planning.specs.declared.Planned.the-variants as Planned
+use Rattle.planning.specs.Plans.{PlanSays, planBytes}
 use Rattle.masking.specs.Input.{andOf, OrderedSays, InputSays}
-use Rattle.sizing.proofs.Planning.{Planned-Ready, planned-refused, plan-bytes}
+use Rattle.planning.proofs.Planning.{Planned-Ready, planned-refused, plan-bytes}
 
 pub mask-refused :
     (G : Gadget) {s : List ℕ} {o : ℕ} {r : DR.Refusal} (b : List ℕ) → PlanSays (plainFault G s o) s o (Planned.Refused r)

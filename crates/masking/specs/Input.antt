@@ -5,10 +5,10 @@ use mathlib.Core.List.{List}
 use Prim.Native.Nat.{ℕ, zero, suc}
 use lib.ListN.{getD, drop}
 use Rattle.tables.specs.declared.Answer as DA
-use Rattle.masks.specs.declared.And as DAnd
-use Rattle.masks.specs.declared.And.the-variants.{Isw, Dom}
-use Rattle.masks.specs.Gadgets.{Gadget, gadgetOf}
-use Rattle.masks.specs.Says.{MaskSays}
+use Rattle.construction.specs.declared.And as DAnd
+use Rattle.construction.specs.declared.And.the-variants.{Isw, Dom}
+use Rattle.construction.specs.Gadgets.{Gadget, gadgetOf}
+use Rattle.construction.specs.Says.{MaskSays}
 
 -- the AND that a byte names: 0 document 01's, any other that of source document 002
 abbrev pub andOf : ℕ → DAnd.And

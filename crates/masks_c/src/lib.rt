@@ -1,10 +1,10 @@
 // The calls for C and Rust programs, under the names of include/masks.h. Each is the proved call with the same promise; and the version.
 ghost use mathlib.Core.Path.{_≡_};
 ghost use Rattle.tables.specs.Says.{CheckSays, RunSays};
-ghost use Rattle.masks.specs.Gadgets.{isw, dom};
-ghost use Rattle.masks.specs.Wires.{probeMarks};
-ghost use Rattle.masks.specs.Says.{ForecastSays, MaskSays, EncodeSays, DecodeSays, MarksSay};
-ghost use Rattle.maps.specs.Says.{MapSays};
+ghost use Rattle.construction.specs.Gadgets.{isw, dom};
+ghost use Rattle.construction.specs.Wires.{probeMarks};
+ghost use Rattle.construction.specs.Says.{ForecastSays, MaskSays, EncodeSays, DecodeSays, MarksSay};
+ghost use Rattle.secrecy.specs.Says.{MapSays};
 ghost use Rattle.masks_c.specs.Version.{version};
 
 // The version of include/masks.h, 0.6.0, as one number.
@@ -25,7 +25,7 @@ pub extern "C" fn masks_check(table: &[u8]) -> tables::Answer
 }
 
 #[no_mangle]
-pub extern "C" fn masks_forecast(table: &[u8], order: u8) -> masks::Sizes
+pub extern "C" fn masks_forecast(table: &[u8], order: u8) -> construction::Sizes
     ensures { λ r. ⌜ ForecastSays isw (now (table .entry)) order r ⌝ }
 {
     forecasting::forecast_sizes(table, order)
@@ -35,7 +35,7 @@ pub extern "C" fn masks_forecast(table: &[u8], order: u8) -> masks::Sizes
 pub extern "C" fn masks_mask(table: &[u8], order: u8, out: &mut [u8]) -> tables::Answer
     ensures { λ r. ⌜ MaskSays isw (now (table .entry)) order (now (out .entry)) (now (out .exit)) r ⌝ }
 {
-    masking::mask_table(masks::And::Isw, table, order, out)
+    masking::mask_table(construction::And::Isw, table, order, out)
 }
 
 #[no_mangle]
@@ -76,10 +76,10 @@ pub extern "C" fn masks_run(
 }
 
 #[no_mangle]
-pub extern "C" fn masks_marks_of(table: &[u8], order: u8, wire: u32) -> masks::Marks
+pub extern "C" fn masks_marks_of(table: &[u8], order: u8, wire: u32) -> construction::Marks
     ensures { λ r. ⌜ MarksSay isw (probeMarks isw) (now (table .entry)) order wire r ⌝ }
 {
-    marking::wire_marks(masks::And::Isw, table, order, wire)
+    origins::wire_marks(construction::And::Isw, table, order, wire)
 }
 
 #[no_mangle]
@@ -108,7 +108,7 @@ pub extern "C" fn masks_map(
         r ⌝ }
 {
     mapping::map_tape(
-        masks::And::Isw,
+        construction::And::Isw,
         table,
         order,
         first,
@@ -125,14 +125,14 @@ pub extern "C" fn masks_map(
 pub extern "C" fn masks_mask_dom(table: &[u8], order: u8, out: &mut [u8]) -> tables::Answer
     ensures { λ r. ⌜ MaskSays dom (now (table .entry)) order (now (out .entry)) (now (out .exit)) r ⌝ }
 {
-    masking::mask_table(masks::And::Dom, table, order, out)
+    masking::mask_table(construction::And::Dom, table, order, out)
 }
 
 #[no_mangle]
-pub extern "C" fn masks_marks_of_dom(table: &[u8], order: u8, wire: u32) -> masks::Marks
+pub extern "C" fn masks_marks_of_dom(table: &[u8], order: u8, wire: u32) -> construction::Marks
     ensures { λ r. ⌜ MarksSay dom (probeMarks dom) (now (table .entry)) order wire r ⌝ }
 {
-    marking::wire_marks(masks::And::Dom, table, order, wire)
+    origins::wire_marks(construction::And::Dom, table, order, wire)
 }
 
 #[no_mangle]
@@ -161,7 +161,7 @@ pub extern "C" fn masks_map_dom(
         r ⌝ }
 {
     mapping::map_tape(
-        masks::And::Dom,
+        construction::And::Dom,
         table,
         order,
         first,

@@ -99,7 +99,7 @@ fn made(folder: &Folder, table: &[u8], and: And, order: u8) -> Result<(), String
     ensure(folder.read("made")? == masked, &ran, "OUT is another table")?;
     let theorem = found.at("theorem").and_then(|theorem| theorem.at("file"));
     let file = theorem.map(Json::text).unwrap_or_default();
-    ensure(file.ends_with("crates/maps/proofs/Whole.antt"), &ran, "the theorem's file is another")?;
+    ensure(file.ends_with("crates/secrecy/proofs/Whole.antt"), &ran, "the theorem's file is another")?;
     let sizes = model::forecast(table, order).map_err(|refusal| format!("FAILED: {refusal:?}"))?;
     let (plain_sum, masked_sum) = (folder.sum("table")?, folder.sum("made")?);
     let due = |out: &str| {

@@ -3,9 +3,9 @@
 use mathlib.Core.Path.{_≡_}
 use mathlib.Core.Bool.{true}
 use borrow.Author.Needs.{needs}
-use Rattle.masks.specs.Says.{orderOk, decodeFault}
+use Rattle.construction.specs.Says.{orderOk, decodeFault}
 use Rattle.tables.proofs.Answers.{refused-same, refused-passed, first-of}
-use Rattle.masks.proofs.Orders.{order-passed}
+use Rattle.construction.proofs.Orders.{order-passed}
 use Rattle.decoding.proofs.Faults.{decode-many, decode-count, decode-rest}
 use Rattle.decoding.proofs.decode_fault.Statement.{statement}
 use Rattle.decoding.proofs.decode_fault.Tie as tie

@@ -8,9 +8,9 @@ use native.Mathlib.Omega.{arith}
 use lib.ListN.{length}
 use borrow.Author.Needs.{needs}
 use Rattle.tables.proofs.Answers.{refused-passed, writes-refused, writes-done}
-use Rattle.masks.specs.Codes.{decode}
-use Rattle.masks.proofs.Codes.{decode-length}
-use Rattle.masks.proofs.CodeFaults.{DecodePassed, decode-passed}
+use Rattle.construction.specs.Codes.{decode}
+use Rattle.construction.proofs.Codes.{decode-length}
+use Rattle.construction.proofs.CodeFaults.{DecodePassed, decode-passed}
 use Rattle.decoding.proofs.decode_shares.Statement.{statement}
 use Rattle.decoding.proofs.decode_shares.Tie as tie
 

@@ -5,9 +5,9 @@ use mathlib.Core.Bool.{true}
 use native.Mathlib.Omega.{arith}
 use lib.ListN.{length}
 use borrow.Author.Needs.{needs}
-use Rattle.masks.specs.Says.{orderOk, encodeFault}
+use Rattle.construction.specs.Says.{orderOk, encodeFault}
 use Rattle.tables.proofs.Answers.{refused-same, refused-passed, first-of}
-use Rattle.masks.proofs.Orders.{order-passed, order-range}
+use Rattle.construction.proofs.Orders.{order-passed, order-range}
 use Rattle.encoding.proofs.Faults.{shares-fit, encode-many, encode-count, encode-rest}
 use Rattle.encoding.proofs.encode_fault.Statement.{statement}
 use Rattle.encoding.proofs.encode_fault.Tie as tie

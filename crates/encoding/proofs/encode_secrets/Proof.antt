@@ -7,9 +7,9 @@ use borrow.Author.Needs.{needs}
 use Rattle.tables.specs.Packing.{tapeOf}
 use Rattle.tables.proofs.Packing.{tape-long}
 use Rattle.tables.proofs.Answers.{refused-passed, writes-refused, writes-done}
-use Rattle.masks.specs.Codes.{encode}
-use Rattle.masks.proofs.Codes.{encode-length}
-use Rattle.masks.proofs.CodeFaults.{EncodePassed, encode-passed}
+use Rattle.construction.specs.Codes.{encode}
+use Rattle.construction.proofs.Codes.{encode-length}
+use Rattle.construction.proofs.CodeFaults.{EncodePassed, encode-passed}
 use Rattle.encoding.proofs.encode_secrets.Statement.{statement}
 use Rattle.encoding.proofs.encode_secrets.Tie as tie
 

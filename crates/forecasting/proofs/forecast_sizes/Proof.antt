@@ -1,7 +1,7 @@
 -- `forecasting::forecast_sizes` meets its contract: the plan's refusal, or its figures.
 -- Assumes nothing.
-use Rattle.masks.specs.declared.And.the-variants.{Isw}
-use Rattle.sizing.proofs.Planning.{planned-as, planned-ready, plan-fits}
+use Rattle.construction.specs.declared.And.the-variants.{Isw}
+use Rattle.planning.proofs.Planning.{planned-as, planned-ready, plan-fits}
 use Rattle.forecasting.proofs.Forecast.{forecast-refused, forecast-ready}
 use borrow.Author.Needs.{needs}
 use Rattle.forecasting.proofs.forecast_sizes.Statement.{statement}

@@ -6,7 +6,7 @@ use native.Mathlib.Omega.{arith}
 use lib.ListN.{length-append}
 use Rattle.text.specs.Text.{decimal, lineOf}
 use Rattle.text.proofs.Writing.{next-room, puts-then}
-use Rattle.masks.specs.declared.Sizes as DS
+use Rattle.construction.specs.declared.Sizes as DS
 use borrow.Author.Needs.{needs}
 use Rattle.forecasting.proofs.put_figures.Statement.{statement}
 use Rattle.forecasting.proofs.put_figures.Tie as tie

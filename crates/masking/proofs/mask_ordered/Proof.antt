@@ -1,6 +1,6 @@
 -- `masking::mask_ordered` meets its contract: nothing, or an order byte and a table.
 -- Assumes nothing.
-use Rattle.masks.specs.Gadgets.{gadgetOf}
+use Rattle.construction.specs.Gadgets.{gadgetOf}
 use Rattle.masking.proofs.Masked.{ordered-none, ordered-part}
 use borrow.Author.Needs.{needs}
 use Rattle.masking.proofs.mask_ordered.Statement.{statement}

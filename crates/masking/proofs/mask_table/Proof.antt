@@ -1,10 +1,10 @@
 -- `masking::mask_table` meets its contract: the plan's refusal, 9, or the masked table.
 -- Assumes nothing.
 use native.Mathlib.Omega.{arith}
-use Rattle.masks.specs.Gadgets.{gadgetOf}
-use Rattle.masks.specs.Says.{plainFault}
-use Rattle.sizing.specs.Plans.{PlanSays}
-use Rattle.sizing.proofs.Planning.{planned-as, planned-ready, plan-fits}
+use Rattle.construction.specs.Gadgets.{gadgetOf}
+use Rattle.construction.specs.Says.{plainFault}
+use Rattle.planning.specs.Plans.{PlanSays}
+use Rattle.planning.proofs.Planning.{planned-as, planned-ready, plan-fits}
 use Rattle.masking.proofs.Masked.{mask-refused, mask-short, mask-done}
 use borrow.Author.Needs.{needs}
 use Rattle.masking.proofs.mask_table.Statement.{statement}

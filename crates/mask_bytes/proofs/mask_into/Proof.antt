@@ -1,0 +1,40 @@
+-- `assembling::mask_into` meets its contract: with little stack where it can be, and else with more.
+-- Assumes nothing.
+use native.Mathlib.Omega.{arith}
+use Rattle.share_places.proofs.Turns.{plan-sized}
+use borrow.Author.Needs.{needs}
+use Rattle.mask_bytes.proofs.mask_into.Statement.{statement}
+use Rattle.mask_bytes.proofs.mask_into.Tie as tie
+
+add-if1 : tie.Need-add-if1
+add-if1 c = omega (arith, plan-sized (c .before .before .before .pre .0) .plain)
+
+mask-lean-requires : tie.Need-mask-lean-requires
+mask-lean-requires c κs = search needs
+
+same-length : tie.Need-same-length
+same-length c = search needs
+
+returns : tie.Need-returns
+returns c = search needs
+
+mask-any-requires : tie.Need-mask-any-requires
+mask-any-requires c κs = search needs
+
+same-length-2 : tie.Need-same-length-2
+same-length-2 c = search needs
+
+returns-2 : tie.Need-returns-2
+returns-2 c = search needs
+
+pub mask-into-spec : {M : Type 1} → statement M
+mask-into-spec =
+    tie.close
+    (tie.spec
+    add-if1
+    mask-lean-requires
+    same-length
+    returns
+    mask-any-requires
+    same-length-2
+    returns-2)
