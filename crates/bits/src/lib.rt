@@ -6,7 +6,7 @@ ghost use lib.ListN.{length, getD, set};
 ghost use Rattle.tables.specs.Refusals.{badBit};
 ghost use Rattle.tables.specs.Runs.{xor};
 ghost use Rattle.tables.specs.Packing.{bytesFor, unpacked, spareFault};
-ghost use Rattle.tables.specs.Says.{Refused};
+ghost use Rattle.tables.specs.Inside.{Refused};
 ghost use Rattle.bits.specs.Scan.{FirstBad};
 
 // A bit of a secret.

@@ -20,7 +20,7 @@ use Rattle.construction.specs.Codes.{xorAll, encode, decodeFrom, decode, masked
 use Rattle.construction.specs.Says.{plainFault, encodeFault}
 use Rattle.text.specs.Text.{digits, lineOf}
 use Rattle.forecasting.specs.Lines.{lineFault, forecastLine}
-use Rattle.secrecy.specs.Maps.{freeFrom, freeShare, flipped, inputFlips, mapGates, mappedAt}
+use Rattle.secrecy.specs.Maps.{freeFrom, freeShare, flipped, eachFlip, mapGates, mappedAt}
 use Rattle.secrecy.specs.Says.{badProbe, supplyFault, probesFault, roomFault, mapFault}
 use Rattle.cases.specs.Cases.{MCases}
 
@@ -36,7 +36,7 @@ pub m-cases : MCases
 unfolding badBit tableOf tableFault gatesFrom wordsFrom gatesFault outputsFault randomFault kindBytes pairBytes
     wordBytes tableBytes run runFrom readAll total upFrom inTurn pairsFrom tri pairAt row adding andWires
     inputOrigins masked sharesAfter outputShares maskedTable origins tapeLong xorAll encode decodeFrom decode
-    maskedRun plainFault digits lineOf lineFault forecastLine ofEach freeFrom freeShare flipped inputFlips
+    maskedRun plainFault digits lineOf lineFault forecastLine ofEach freeFrom freeShare flipped eachFlip
     mapGates mappedAt badProbe supplyFault probesFault roomFault mapFault numberOf digitsOf packFrom packed unpacked
     tapeOf spare spareFault encodeFault insert joined probeMarks
 m-cases =

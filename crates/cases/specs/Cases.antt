@@ -12,13 +12,12 @@ use Rattle.tables.specs.Runs.{readAll, outputsOf, probeReads}
 use Rattle.tables.specs.Packing.{packed, tapeOf}
 use Rattle.construction.specs.Shares.{sharesOf, tri}
 use Rattle.construction.specs.Gadgets.{isw, dom}
-use Rattle.construction.specs.Wires.{cost, maskedTable, wireMarks, probeMarks}
+use Rattle.construction.specs.Wires.{cost, maskedTable, tapeLong, wireMarks, probeMarks}
 use Rattle.construction.specs.Codes.{decode, maskedRun}
 use Rattle.construction.specs.Says.{plainFault, encodeFault}
 use Rattle.forecasting.specs.Lines.{forecastLine}
 use Rattle.secrecy.specs.Maps.{freeShare, mapped}
 use Rattle.secrecy.specs.Says.{mapFault}
-use Rattle.secrecy.specs.Packed.{packedRun, packedMap}
 
 -- "02 00 01 00 01 00, 02, 00 00 01 00, 02 00": two inputs, one AND of them, output
 abbrev pub andBytes : List ℕ
@@ -78,10 +77,10 @@ tapeByte = 89 ∷ []
 
 -- the same of packed tapes
 abbrev pub packedOut : List ℕ → List ℕ → List ℕ
-packedOut xs s = outputsOf (maskedTable isw 1 theAnd) (packedRun isw 1 theAnd xs s)
+packedOut xs s = outputsOf (maskedTable isw 1 theAnd) (maskedRun isw 1 theAnd xs (tapeOf (tapeLong isw 1 theAnd) s))
 
 abbrev pub packedTo : List ℕ → List ℕ → List ℕ
-packedTo ys ps = packedMap isw (probeMarks isw) 1 theAnd secrets ys tapeByte ps
+packedTo ys ps = packed (mapped isw (probeMarks isw) 1 theAnd secrets ys (tapeOf (tapeLong isw 1 theAnd) tapeByte) ps)
 
 -- mapping with the order 1, a packed tape and the probes ps, into buffers of just the right length
 abbrev pub mappedFault : List ℕ → List ℕ → Fault

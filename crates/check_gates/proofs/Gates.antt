@@ -10,7 +10,7 @@ use lib.Dec.{eqb, leb}
 use lib.ListN.{length, drop, drop-of-length-le}
 use lib.Seq.{drop-cons}
 use borrow.Author.Tests.{lt-ltb, le-leb, lt-leb, eq-eqb, ne-eqb}
-use Rattle.tables.specs.declared.GateFields as DG
+use Rattle.tables.specs.declared.GateFields as DGateFields
 use Rattle.tables.specs.Refusals.{Fault, fault, none, orElse}
 use Rattle.tables.specs.Tables.{kindOf, gate, noGate, Table, gateOf, known, both-read, operandsOf, operandsOk, gateFault, gatesFault}
 use Rattle.tables.specs.Inside.{GateIs}
@@ -88,7 +88,7 @@ gates-good-start t w = record { others = rw add-zero }
 module _
     {t : Table}
     {w g : ℕ}
-    {x : DG.GateFields}
+    {x : DGateFields.GateFields}
     (number : ℕ)
     (good : GatesGood t w g)
     (more : g < length (t .gates))
@@ -125,7 +125,7 @@ pub flawless-start : (t : Table) (w gap : ℕ) → w + gap ≡ 65536 → Flawles
 flawless-start t w gap e = record { wire = omega (arith, e); good = λ _ _. gates-good-start t w }
 
 pub flawless-step :
-    {t : Table} {w flaws k gap g : ℕ} {x : DG.GateFields} (here most : ℕ) → Flawless t w flaws k gap g → 1 ≤ gap
+    {t : Table} {w flaws k gap g : ℕ} {x : DGateFields.GateFields} (here most : ℕ) → Flawless t w flaws k gap g → 1 ≤ gap
     → g < length (t .gates) → GateIs (gateOf t g) x
     → (here ≡ 0 → x .kind ≤ 5 → (v : ℕ) → v + gap ≡ 65536
     → (i : ℕ) → gateFault i v (gate (kindOf (x .kind)) (x .left) (x .right)) ≡ none)

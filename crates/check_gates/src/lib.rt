@@ -5,8 +5,7 @@ ghost use Prim.Native.Nat.{ℕ, _+_, _≤_, _<_};
 ghost use lib.Dec.{eqb};
 ghost use Rattle.tables.specs.Refusals.{fault, none};
 ghost use Rattle.tables.specs.Tables.{kindOf, gate, tableOf, operandsOf, operandsOk, gateFault, gatesFault};
-ghost use Rattle.tables.specs.Says.{Refused};
-ghost use Rattle.tables.specs.Inside.{HasGates};
+ghost use Rattle.tables.specs.Inside.{Refused, HasGates};
 
 // Whether the operands of a gate that drives wire w are earlier wires, and 0 where the kind does not read them; a constant's left
 // one is a bit.

@@ -1,8 +1,8 @@
 // Checking a gate table: refusals 1 to 5 in document 01's order.
 ghost use Prim.Native.Nat.{_≤_};
 ghost use Rattle.tables.specs.Tables.{tableOf, outputsFault, tableFault};
-ghost use Rattle.tables.specs.Says.{Refused, CheckSays};
-ghost use Rattle.tables.specs.Inside.{HasOutputs};
+ghost use Rattle.tables.specs.Says.{CheckSays};
+ghost use Rattle.tables.specs.Inside.{Refused, HasOutputs};
 
 // The first output that is no wire.
 fn outputs_fault(table: &[u8], gates: usize, outputs: usize, wires: usize) -> tables::Refusal

@@ -8,7 +8,7 @@ use borrow.Author.Tests.{ltb-false, eqb-true, not-false}
 use lib.Dec.{ltb, eqb}
 use lib.ListN.{length}
 use Rattle.tables.specs.Refusals.{passed, orElse, refusedIf, badBit}
-use Rattle.tables.specs.Runs.{Bits}
+use Rattle.tables.specs.Inside.{Bits}
 use Rattle.tables.specs.Packing.{bytesFor, spareFault}
 use Rattle.tables.proofs.Tests.{both-passed, not-refused}
 use Rattle.tables.proofs.Bad.{bad-bits}

@@ -2,13 +2,14 @@
 -- groups, all modulo 2.
 -- Assumes nothing.
 use mathlib.Core.Path.{_≡_, refl, sym, ap, _∙_}
-use mathlib.Core.List.{List, [], _∷_, _++_, map}
+use mathlib.Core.List.{List, [], _∷_, _++_, map, flatten}
 use Prim.Native.Nat.{ℕ, zero, suc, _+_, _*_, _/_, _%_, _≤_, _<_}
 use native.Mathlib.Nat.{zero-add, mul-zero, mul-le-mul-left, div-eq-of-eq-mul-right}
 use native.Mathlib.Omega.{arith}
 use lib.ListN.{length, getD, take, drop, length-append, length-drop, List·getD-append}
 use lib.Seq.{length-take-le, append-snoc, drop-drop, getD-drop, take-at, drop-at, drop-append-add, drop-cons}
-use Rattle.tables.specs.Runs.{xor, Bits}
+use Rattle.tables.specs.Runs.{xor}
+use Rattle.tables.specs.Inside.{Bits}
 use Rattle.tables.proofs.Lists.{All, bits-nil, bits-cons, bits-append, bits-take, bits-drop}
 use Rattle.construction.specs.Shares.{sharesOf}
 use Rattle.construction.specs.Codes.{xorAll, encode, decodeFrom, decode}
@@ -126,33 +127,28 @@ pub encode-adds :
     → sumOf (λ b. b) (take (sharesOf o) (drop (sharesOf o * i) (encode o xs ts))) % 2 ≡ getD xs i 0
 encode-adds o xs ts i long hx h = rw (encode-group o xs ts i long h) (group-adds (getD xs i 0) (bitsOf o ts i) (hx i))
 
--- lists one after another
-unfoldable pub joined : {A : Type 0} → List (List A) → List A
-joined [] = []
-joined (g ∷ gs) = g ++ joined gs
-
-joined-length :
-    {A : Type 0} (n : ℕ) (gs : List (List A)) → All (λ g. length g ≡ n) gs → length (joined gs) ≡ n * length gs
-unfolding joined All
-joined-length n [] a = omega arith
-joined-length n (g ∷ gs) a = omega (arith, length-append g (joined gs), a .0, joined-length n gs (a .1))
+flatten-length :
+    {A : Type 0} (n : ℕ) (gs : List (List A)) → All (λ g. length g ≡ n) gs → length (flatten gs) ≡ n * length gs
+unfolding flatten All
+flatten-length n [] a = omega arith
+flatten-length n (g ∷ gs) a = omega (arith, length-append g (flatten gs), a .0, flatten-length n gs (a .1))
 
 -- the groups are decoded one by one
 decode-from-groups :
     (n : ℕ) (gs : List (List ℕ)) → All (λ g. length g ≡ n) gs
-    → decodeFrom (length gs) n (joined gs) ≡ map (λ g. sumOf (λ b. b) g % 2) gs
-unfolding joined All decodeFrom
+    → decodeFrom (length gs) n (flatten gs) ≡ map (λ g. sumOf (λ b. b) g % 2) gs
+unfolding flatten All decodeFrom
 decode-from-groups n [] a = refl
 decode-from-groups n (g ∷ gs) a =
     let adds : xorAll 0 g ≡ sumOf (λ b. b) g % 2 = xor-all 0 g (omega arith) ∙ rw (zero-add (sumOf (λ b. b) g)) in
-    rw (take-at g (joined gs) n (a .0), drop-at g (joined gs) n (a .0), adds, decode-from-groups n gs (a .1))
+    rw (take-at g (flatten gs) n (a .0), drop-at g (flatten gs) n (a .0), adds, decode-from-groups n gs (a .1))
 
 pub decode-groups :
     (o : ℕ) (gs : List (List ℕ)) → All (λ g. length g ≡ sharesOf o) gs
-    → decode o (joined gs) ≡ map (λ g. sumOf (λ b. b) g % 2) gs
+    → decode o (flatten gs) ≡ map (λ g. sumOf (λ b. b) g % 2) gs
 unfolding decode
 decode-groups o gs a =
-    rw (div-eq-of-eq-mul-right {n = suc (2 * o)} {k = length gs} (omega arith) (joined-length (sharesOf o) gs a))
+    rw (div-eq-of-eq-mul-right {n = suc (2 * o)} {k = length gs} (omega arith) (flatten-length (sharesOf o) gs a))
     (decode-from-groups (sharesOf o) gs a)
 
 pub decode-from-length : (c n : ℕ) (bs : List ℕ) → length (decodeFrom c n bs) ≡ c
@@ -169,8 +165,8 @@ unfoldable pub groups : ℕ → List ℕ → List ℕ → List (List ℕ)
 groups o [] ts = []
 groups o (x ∷ xs) ts = group x (take (2 * o) ts) ∷ groups o xs (drop (2 * o) ts)
 
-encode-groups : (o : ℕ) (xs ts : List ℕ) → encode o xs ts ≡ joined (groups o xs ts)
-unfolding encode groups joined
+encode-groups : (o : ℕ) (xs ts : List ℕ) → encode o xs ts ≡ flatten (groups o xs ts)
+unfolding encode groups flatten
 encode-groups o [] ts = refl
 encode-groups o (x ∷ xs) ts = encode-cons o x xs ts ∙ rw (encode-groups o xs (drop (2 * o) ts))
 

@@ -15,7 +15,8 @@ use Rattle.tables.proofs.Lists.{All}
 use Rattle.construction.specs.Shares.{sharesOf, upFrom, inTurn, pairs, pairsFrom, tri, pairAt, row}
 use Rattle.construction.specs.Gadgets.{Gadget, isw}
 use Rattle.construction.specs.Wires.{Part, sum, inAnd, lastNot, Origin, andPart, xorShare, constantShare, orPart, wire, driverOf}
-use Rattle.construction.specs.Wires.{Wire, share, firstOn, andShares, adding, pairWires, rowWires, pairWire, andWires, andCost, newWires, cost, draws}
+use Rattle.construction.specs.Wires.{Wire, share, firstOn, andShares, adding, pairWires, rowWires, pairWire, andWires, andCost, newWires, cost}
+use Rattle.construction.specs.Counts.{draws}
 use Rattle.construction.specs.Wires.{masked, maskedWires}
 use Rattle.construction.specs.Wires.{maskedTable, tapeLong, inputShare, inputOrigins, sharesAfter, outputShares}
 use Rattle.construction.proofs.Sum.{up-length, up-all}

@@ -7,25 +7,25 @@ use Prim.Native.Nat.{ℕ, _+_, _*_}
 use native.Mathlib.Omega.{arith}
 use lib.Dec.{ltb}
 use lib.ListN.{length}
-use Rattle.tables.specs.declared.Counts as DC
+use Rattle.tables.specs.declared.Counts as DCounts
 use Rattle.tables.specs.Refusals.{Fault, fault, none, passed, orElse, refusedIf}
 use Rattle.tables.specs.Tables.{Table, wires, tableOf, tableBytes, tableFault, randomFault}
 use Rattle.tables.specs.Counted.{countsOf}
 use Rattle.tables.proofs.Format.{table-long}
 use Rattle.tables.proofs.Accept.{Plain, accepted-plain}
-use Rattle.construction.specs.declared.Sizes as DS
+use Rattle.construction.specs.declared.Sizes as DSizes
 use Rattle.construction.specs.Shares.{sharesOf, tri}
 use Rattle.construction.specs.Gadgets.{Gadget}
-use Rattle.construction.specs.Wires.{cost, draws, maskedTable, tapeLong}
+use Rattle.construction.specs.Wires.{cost, maskedTable, tapeLong}
 use Rattle.construction.specs.Says.{orderOk, orderFault, tooMany, plainFault, Forecast, ForecastSays}
-use Rattle.construction.specs.Counts.{refused8, figuresBy, tooManyBy, forecastBy}
+use Rattle.construction.specs.Counts.{draws, refused8, figuresBy, tooManyBy, forecastBy}
 use Rattle.construction.proofs.Lawful.{Lawful}
 use Rattle.construction.proofs.Placed.{masked-outputs}
 use Rattle.construction.proofs.Costs.{masked-wires, masked-tape}
 use Rattle.construction.proofs.Figures.{total-counted}
 
 -- so many ANDs and no other gate
-abbrev andsAlone : ℕ → DC.Counts
+abbrev andsAlone : ℕ → DCounts.Counts
 andsAlone a = record { nots = 0; xors = 0; ands = a; randoms = 0; constants = 0; ors = 0 }
 
 -- "3 30 7 132"
@@ -43,7 +43,7 @@ unfolding tri
 most-outputs = (refl, refl)
 
 -- the figures of a table by its counts
-abbrev pub figuresOf : ℕ → Table → DS.Sizes
+abbrev pub figuresOf : ℕ → Table → DSizes.Sizes
 figuresOf o t = figuresBy o (t .inputs) (length (t .outputs)) (countsOf (t .gates))
 
 abbrev pub manyOf : ℕ → Table → Bool
@@ -89,7 +89,7 @@ module _ (G : Gadget) (s : List ℕ) (o : ℕ) (table : passed (tableFault s) �
 
   -- the forecast by the counts
   pub forecast-counted :
-      Lawful G → {r : DS.Sizes} → ForecastSays G s o r
+      Lawful G → {r : DSizes.Sizes} → ForecastSays G s o r
       → r ≡ forecastBy o (tableOf s .inputs) (length (tableOf s .outputs)) (countsOf (tableOf s .gates))
   forecast-counted L {r} F = by-case (manyOf o (tableOf s)) (plainFault G s o) eight-counted F
     where

@@ -14,8 +14,8 @@ use borrow.Author.Tests.{eqb-true, eqb-false, ne-eqb}
 use Rattle.tables.specs.Tables.{Kind, NOT, XOR, AND, RANDOM, CONSTANT, OR, UNKNOWN, kindOf, Gate, total}
 use Rattle.tables.specs.Counted.{ofKind, countsOf}
 use Rattle.construction.specs.Shares.{tri}
-use Rattle.construction.specs.Wires.{andCost, cost, draws}
-use Rattle.construction.specs.Counts.{counted}
+use Rattle.construction.specs.Wires.{cost}
+use Rattle.construction.specs.Counts.{draws, counted}
 use Rattle.construction.proofs.Rows.{tri-closed}
 
 pub square-small : (n : ℕ) → n ≤ 31 → n * n ≤ 961

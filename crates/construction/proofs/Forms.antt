@@ -9,7 +9,7 @@ use lib.Dec.{eqb, ltb}
 use lib.ListN.{length}
 use borrow.Author.Tests.{eqb-true, eq-eqb, ne-eqb, lt-ltb, le-ltb}
 use Rattle.tables.specs.Runs.{xor, ofEach}
-use Rattle.construction.specs.declared.PairForm as DF
+use Rattle.construction.specs.declared.PairForm as DPairForm
 use Rattle.construction.specs.declared.And as DAnd
 use Rattle.construction.specs.declared.And.the-variants.{Isw, Dom}
 use Rattle.construction.specs.Gadgets.{Five, first, second, third, fourth, fifth, indexOf, Gadget, isw, dom, gadgetOf}
@@ -26,10 +26,10 @@ index-below fifth = omega arith
 at-0 : (w : ℕ) → w + 0 ≡ w
 at-0 w = omega arith
 
-abbrev pub iswForm : DF.PairForm
+abbrev pub iswForm : DPairForm.PairForm
 iswForm = record { third = record { left = 0; right = 1 }; fifth = record { left = 2; right = 3 }; low = 0; high = 4; both = 1 }
 
-abbrev pub domForm : DF.PairForm
+abbrev pub domForm : DPairForm.PairForm
 domForm = record { third = record { left = 1; right = 0 }; fifth = record { left = 3; right = 0 }; low = 2; high = 4; both = 0 }
 
 -- the marks of a probe on a wire of a pair i < j: what the wire and its pins carry, joined
@@ -69,7 +69,7 @@ module _ (i j : ℕ) (h : i < j) where
   dom-marks fifth = simp (same-i, same-j, other-i, other-j, lower, upper)
 
 -- one share number, or two
-pub form-few : (r : DF.PairForm) (i j f : ℕ) → length (formMarks r i j f) ≤ 2
+pub form-few : (r : DPairForm.PairForm) (i j f : ℕ) → length (formMarks r i j f) ≤ 2
 form-few r i j f = go (eqb f 0 && eqb f (r .low))
   where
     go : (t : Bool) → length (cond t (i ∷ []) (i ∷ j ∷ [])) ≤ 2
@@ -150,11 +150,11 @@ dom-form e =
     })
 
 -- the wires that rows add are two of the five
-pub form-below : {G : Gadget} {r : DF.PairForm} → FormSays G r → (r .low < 5) × (r .high < 5)
+pub form-below : {G : Gadget} {r : DPairForm.PairForm} → FormSays G r → (r .low < 5) × (r .high < 5)
 form-below {G} F = (omega (arith, F .low, index-below (G .low)), omega (arith, F .high, index-below (G .high)))
 
 -- what a pair flips, by the tests of the code
-module _ {G : Gadget} {r : DF.PairForm} (F : FormSays G r) (k i j p q : ℕ) (hq : q ≤ 1) where
+module _ {G : Gadget} {r : DPairForm.PairForm} (F : FormSays G r) (k i j p q : ℕ) (hq : q ≤ 1) where
   pub flip-lower : i ≡ k → xor (r .both * p) q ≡ G .flip k i j p q
   flip-lower e = sym (F .flip k i j p q hq ∙ rw (eq-eqb i k e))
 

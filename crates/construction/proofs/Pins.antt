@@ -27,7 +27,8 @@ use Rattle.construction.proofs.Each.{Each, each-append, each-at, each-u
 use Rattle.construction.proofs.Joined.{alone-joined}
 use Rattle.construction.proofs.Lawful.{Lawful}
 use Rattle.construction.proofs.Costs.{and-length, orAnd}
-use Rattle.construction.proofs.Origins.{noWire, origin-map, origins-share, origins-input, origins-gate, pair-origin, own-origin, sum-origin, masked-here, masked-past}
+use Rattle.construction.proofs.Origins.{noWire, origin-map, origins-share, origins-input, origins-gate}
+use Rattle.construction.proofs.Origins.{pair-origin, own-origin, sum-origin, masked-here, masked-past}
 use Rattle.construction.proofs.Origins.{share-origin, first-origin, last-origin, inner-origin}
 use Rattle.construction.proofs.Placed.{index-small, row-ends, drop-share, plain-inputs}
 use Rattle.construction.proofs.Products.{rowTerms, fiveWire, each-five, and-share-at, each-and}

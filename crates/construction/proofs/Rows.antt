@@ -10,7 +10,8 @@ use lib.ListN.{length, getD, length-append, List·getD-append}
 use lib.Seq.{getD-append-add}
 use Rattle.tables.proofs.Lists.{All, all-append, all-map}
 use Rattle.construction.specs.Shares.{upFrom, Pair, pairOf, pairsFrom, pairs, tri, pairAt, row}
-use Rattle.construction.proofs.Sum.{sumOf, sum-append, sum-add, sum-cong, up-length, up-at, up-shift, up-plus, up-append, up-all, up-ids, sum-from}
+use Rattle.construction.proofs.Sum.{sumOf, sum-append, sum-add, sum-cong, up-length, up-at}
+use Rattle.construction.proofs.Sum.{up-shift, up-plus, up-append, up-all, up-ids, sum-from}
 
 pub pairs-length : (c i : ℕ) → length (pairsFrom c i) ≡ tri c
 unfolding pairsFrom tri

@@ -17,7 +17,8 @@ use Rattle.tables.proofs.Accept.{PlainGate, PlainGates}
 use Rattle.construction.specs.Shares.{upFrom}
 use Rattle.construction.specs.Gadgets.{Gadget}
 use Rattle.construction.specs.Wires.{Part, inAnd, Origin, andPart, xorShare, constantShare, orPart, wire, driverOf, share, firstOn}
-use Rattle.construction.specs.Wires.{andWires, andShares, andCost, newWires, cost, draws, newShares, masked, sharesAfter}
+use Rattle.construction.specs.Wires.{andWires, andShares, andCost, newWires, cost, newShares, masked, sharesAfter}
+use Rattle.construction.specs.Counts.{draws}
 use Rattle.construction.proofs.Sum.{sumOf, sum-add, sum-cong, sum-parity, up-length, up-all, sum-from, sum-by-index}
 use Rattle.construction.proofs.Lawful.{Lawful}
 use Rattle.construction.proofs.Costs.{orAnd, or-and-length, or-driven, new-length, new-draws}

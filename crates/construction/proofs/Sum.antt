@@ -1,7 +1,7 @@
 -- One sum over any list and the laws that move it: over appended lists, over counted lists, and over the pairs of a square.
 -- Assumes nothing.
 use mathlib.Core.Path.{_≡_, refl, ap, _∙_}
-use mathlib.Core.List.{List, [], _∷_, _++_, map}
+use mathlib.Core.List.{List, [], _∷_, _++_}
 use Prim.Native.Nat.{ℕ, zero, suc, _+_, _*_, _%_, _≤_, _<_}
 use native.Mathlib.Nat.{add-suc, suc-add, zero-add, add-zero}
 use native.Mathlib.Omega.{arith}
@@ -44,11 +44,6 @@ pub sum-parity :
 unfolding sumOf All
 sum-parity f g [] a = refl
 sum-parity f g (x ∷ xs) a = omega (arith, a .0, sum-parity f g xs (a .1))
-
-sum-map : {A B : Type 0} (f : B → ℕ) (g : A → B) (xs : List A) → sumOf f (map g xs) ≡ sumOf (λ x. f (g x)) xs
-unfolding sumOf
-sum-map f g [] = refl
-sum-map f g (x ∷ xs) = ap (λ (m : ℕ). f (g x) + m) (sum-map f g xs)
 
 pub up-length : {A : Type 0} (c s : ℕ) (f : ℕ → A) → length (upFrom c s f) ≡ c
 unfolding upFrom
@@ -93,12 +88,6 @@ unfolding upFrom All
 up-all P zero s f h = tt
 up-all P (suc c) s f h =
     (h s (omega arith) (omega arith), up-all P c (suc s) f (λ i a b. h i (omega arith) (omega arith)))
-
-up-map :
-    {A B : Type 0} (h : A → B) (c s : ℕ) (f : ℕ → A) → map h (upFrom c s f) ≡ upFrom c s (λ i. h (f i))
-unfolding upFrom
-up-map h zero s f = refl
-up-map h (suc c) s f = ap {A = List _} {B = List _} (λ y. h (f s) ∷ y) (up-map h c (suc s) f)
 
 pub up-ids :
     {A : Type 0} (f : A → ℕ) (c s : ℕ) (g : ℕ → A)

@@ -10,12 +10,12 @@ use lib.Dec.{eqb}
 use lib.ListN.{getD}
 use Rattle.tables.specs.Tables.{XOR, AND, RANDOM, Gate, gate, pins}
 use Rattle.tables.specs.Runs.{xor, ofEach}
-use Rattle.construction.specs.declared.PairForm as DF
+use Rattle.construction.specs.declared.PairForm as DPairForm
 use Rattle.construction.specs.Gadgets.{Five, allFive, indexOf, Gadget}
 use Rattle.construction.specs.Wires.{joined}
 
 -- the five gates of a pair, from wire w on, by the operands of its third and fifth
-abbrev pub formGates : DF.PairForm → ℕ → ℕ → ℕ → ℕ → ℕ → List Gate
+abbrev pub formGates : DPairForm.PairForm → ℕ → ℕ → ℕ → ℕ → ℕ → List Gate
 formGates r w ai bj aj bi =
     gate RANDOM 0 0
     ∷ gate AND ai bj
@@ -46,15 +46,15 @@ withPins G =
 
 -- the marks of a probe on the wire at place f of a pair of shares i and j: the first wire has no pins, and carries i alone where row i
 -- adds it; every other one carries both
-abbrev pub formMarks : DF.PairForm → ℕ → ℕ → ℕ → List ℕ
+abbrev pub formMarks : DPairForm.PairForm → ℕ → ℕ → ℕ → List ℕ
 formMarks r i j f = cond (eqb f 0 && eqb f (r .low)) (i ∷ []) (i ∷ j ∷ [])
 
 -- what a pair of shares i and j flips, p and q being whether a_i·b_j and a_j·b_i differ
-abbrev pub formFlip : DF.PairForm → ℕ → ℕ → ℕ → ℕ → ℕ → ℕ
+abbrev pub formFlip : DPairForm.PairForm → ℕ → ℕ → ℕ → ℕ → ℕ → ℕ
 formFlip r k i j p q = cond (eqb i k) (xor (r .both * p) q) (cond (eqb j k) ((1 - r .both) * p) 0)
 
 -- the form is that of the gadget; an operand stands before the wire that reads it
-pub record FormSays (G : Gadget) (r : DF.PairForm) : Type 0 where
+pub record FormSays (G : Gadget) (r : DPairForm.PairForm) : Type 0 where
   pub third : (r .third .left < 2) × (r .third .right < 2)
   pub fifth : (r .fifth .left < 4) × (r .fifth .right < 4)
   pub gates : (w ai bj aj bi : ℕ) → formGates r w ai bj aj bi ≡ map (G .gates w ai bj aj bi) allFive

@@ -7,9 +7,9 @@ use mathlib.Core.List.{List}
 use Prim.Native.Nat.{ℕ, suc, _*_, _/_, _%_}
 use lib.Dec.{eqb, ltb, leb}
 use lib.ListN.{length, getD}
-use Rattle.tables.specs.declared.Answer as DA
-use Rattle.construction.specs.declared.Sizes as DS
-use Rattle.construction.specs.declared.Marks as DM
+use Rattle.tables.specs.declared.Answer as DAnswer
+use Rattle.construction.specs.declared.Sizes as DSizes
+use Rattle.construction.specs.declared.Marks as DMarks
 use Rattle.tables.specs.Refusals.{Fault, passed, orElse, refusedIf, badBit}
 use Rattle.tables.specs.Tables.{Table, wires, tableOf, tableFault, randomFault, tableBytes}
 use Rattle.tables.specs.Packing.{bytesFor, tapeOf, spareFault}
@@ -40,7 +40,7 @@ plainFault G s o =
     (orElse (orderFault o) (orElse (randomFault 0 (t .gates)) (refusedIf (tooMany G o t) 8)))
 
 -- forecasting with the fault f: "The four figures are those of the table that masking writes"
-pub record Forecast (G : Gadget) (f : Fault) (t : Table) (o : ℕ) (r : DS.Sizes) : Type 0 where
+pub record Forecast (G : Gadget) (f : Fault) (t : Table) (o : ℕ) (r : DSizes.Sizes) : Type 0 where
   pub number : r .number ≡ f .number
   pub place : r .place ≡ f .place
   pub shares : r .shares ≡ cond (passed f) (sharesOf o) 0
@@ -49,7 +49,7 @@ pub record Forecast (G : Gadget) (f : Fault) (t : Table) (o : ℕ) (r : DS.Sizes
   pub bytes : r .bytes ≡ cond (passed f) (length (tableBytes (maskedTable G o t))) 0
 
 -- forecasting: 1 to 8
-abbrev pub ForecastSays : Gadget → List ℕ → ℕ → DS.Sizes → Type 0
+abbrev pub ForecastSays : Gadget → List ℕ → ℕ → DSizes.Sizes → Type 0
 ForecastSays G s o r = Forecast G (plainFault G s o) (tableOf s) o r
 
 -- the bytes that masking writes
@@ -61,7 +61,7 @@ unfoldable pub maskFault : Gadget → List ℕ → ℕ → ℕ → Fault
 maskFault G s o room = orElse (plainFault G s o) (refusedIf (ltb room (length (maskedBytes G s o))) 9)
 
 -- masking answers the bytes written
-abbrev pub MaskSays : Gadget → List ℕ → ℕ → List ℕ → List ℕ → DA.Answer → Type 0
+abbrev pub MaskSays : Gadget → List ℕ → ℕ → List ℕ → List ℕ → DAnswer.Answer → Type 0
 MaskSays G s o b b′ r = Writes (maskFault G s o (length b)) (maskedBytes G s o) b b′ r
 
 -- encoding with a packed tape: 6, 8 ("share bits alone"), 10, 11, 9
@@ -79,7 +79,7 @@ encodeFault o xs ts room =
     (refusedIf (ltb room (sharesOf o * length xs)) 9))))
 
 -- encoding answers the bits written: "it writes n share bits a secret"
-abbrev pub EncodeSays : ℕ → List ℕ → List ℕ → List ℕ → List ℕ → DA.Answer → Type 0
+abbrev pub EncodeSays : ℕ → List ℕ → List ℕ → List ℕ → List ℕ → DAnswer.Answer → Type 0
 EncodeSays o xs ts b b′ r =
     Writes (encodeFault o xs ts (length b)) (encode o xs (tapeOf (2 * o * length xs) ts)) b b′ r
 
@@ -95,7 +95,7 @@ decodeFault o bs room =
     (orElse (badBit 0 bs) (refusedIf (ltb room (length bs / suc (2 * o))) 9))))
 
 -- decoding answers the bits written: "it writes one bit for each n"
-abbrev pub DecodeSays : ℕ → List ℕ → List ℕ → List ℕ → DA.Answer → Type 0
+abbrev pub DecodeSays : ℕ → List ℕ → List ℕ → List ℕ → DAnswer.Answer → Type 0
 DecodeSays o bs b b′ r = Writes (decodeFault o bs (length b)) (decode o bs) b b′ r
 
 -- marks: 1 to 8, then 13 with place 0
@@ -103,12 +103,12 @@ unfoldable pub marksFault : Gadget → List ℕ → ℕ → ℕ → Fault
 marksFault G s o w = orElse (plainFault G s o) (refusedIf (leb (wires (maskedTable G o (tableOf s))) w) 13)
 
 -- one or two share numbers ms, 0 for none, with the fault f
-pub record Marked (f : Fault) (ms : List ℕ) (r : DM.Marks) : Type 0 where
+pub record Marked (f : Fault) (ms : List ℕ) (r : DMarks.Marks) : Type 0 where
   pub number : r .number ≡ f .number
   pub place : r .place ≡ f .place
   pub first : r .first ≡ cond (passed f) (getD ms 0 0) 0
   pub second : r .second ≡ cond (passed f) (getD ms 1 0) 0
 
 -- the marks call answers the marks of a probe on a wire
-abbrev pub MarksSay : Gadget → (ℕ → Table → ℕ → List ℕ) → List ℕ → ℕ → ℕ → DM.Marks → Type 0
+abbrev pub MarksSay : Gadget → (ℕ → Table → ℕ → List ℕ) → List ℕ → ℕ → ℕ → DMarks.Marks → Type 0
 MarksSay G mk s o w r = Marked (marksFault G s o w) (mk o (tableOf s) w) r

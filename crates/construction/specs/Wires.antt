@@ -144,16 +144,6 @@ cost CONSTANT n = n
 cost OR n = andCost n + 3
 cost (UNKNOWN k) n = 0
 
--- "of which n(n−1)/2 are random"
-abbrev pub draws : Kind → ℕ → ℕ
-draws NOT n = 0
-draws XOR n = 0
-draws AND n = tri n
-draws RANDOM n = 0
-draws CONSTANT n = 0
-draws OR n = tri n
-draws (UNKNOWN k) n = 0
-
 -- the wires that carry the shares of the result
 abbrev pub newShares : Kind → ℕ → ℕ → List ℕ → List ℕ
 newShares NOT n w a = firstOn w a

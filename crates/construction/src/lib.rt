@@ -3,11 +3,12 @@ ghost use mathlib.Core.Path.{_≡_};
 ghost use Prim.Native.Nat.{_≤_, ℕ};
 ghost use lib.ListN.{length, getD};
 ghost use Rattle.tables.specs.Tables.{kindOf};
-ghost use Rattle.tables.specs.Says.{Refused};
+ghost use Rattle.tables.specs.Inside.{Refused};
 ghost use Rattle.construction.specs.Shares.{tri};
 ghost use Rattle.construction.specs.Gadgets.{gadgetOf};
 ghost use Rattle.construction.specs.Forms.{FormSays};
-ghost use Rattle.construction.specs.Wires.{andCost, cost, draws};
+ghost use Rattle.construction.specs.Wires.{andCost, cost};
+ghost use Rattle.construction.specs.Counts.{draws};
 ghost use Rattle.construction.specs.Says.{orderFault};
 
 // What forecasting answers: a refusal's number and place, or 0, 0 and the masked table's four figures.
@@ -37,7 +38,7 @@ pub enum And {
 }
 
 // The operands of a gate that reads two wires of its own pair, by their place among the five, from 0.
-pub struct Operands {
+pub struct PairOperands {
     pub left: usize,
     pub right: usize,
 }
@@ -45,8 +46,8 @@ pub struct Operands {
 // What sets the pairs of one AND apart from those of another: what the third and the fifth wire read, which wires row i and row j of
 // a pair (i, j) add, and 1 where the fifth wire adds both products, 0 where it adds a_j·b_i alone.
 pub struct PairForm {
-    pub third: Operands,
-    pub fifth: Operands,
+    pub third: PairOperands,
+    pub fifth: PairOperands,
     pub low: usize,
     pub high: usize,
     pub both: u8,
@@ -58,15 +59,15 @@ pub fn pair_form(and: And) -> PairForm
 {
     match and {
         And::Isw => PairForm {
-            third: Operands { left: 0, right: 1 },
-            fifth: Operands { left: 2, right: 3 },
+            third: PairOperands { left: 0, right: 1 },
+            fifth: PairOperands { left: 2, right: 3 },
             low: 0,
             high: 4,
             both: 1,
         },
         And::Dom => PairForm {
-            third: Operands { left: 1, right: 0 },
-            fifth: Operands { left: 3, right: 0 },
+            third: PairOperands { left: 1, right: 0 },
+            fifth: PairOperands { left: 3, right: 0 },
             low: 2,
             high: 4,
             both: 0,

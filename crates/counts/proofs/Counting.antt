@@ -7,13 +7,13 @@ use native.Mathlib.Numerals.{add-one}
 use native.Mathlib.Omega.{arith}
 use lib.ListN.{length, getD, take}
 use lib.Seq.{take-all, length-take-le}
-use Rattle.tables.specs.declared.Counts as DC
+use Rattle.tables.specs.declared.Counts as DCounts
 use Rattle.tables.specs.Tables.{Kind, NOT, XOR, AND, RANDOM, CONSTANT, OR, UNKNOWN, Gate, noGate, tableOf, total}
 use Rattle.tables.specs.Counted.{ofKind, countsOf}
 use Rattle.tables.specs.Inside.{HasGates}
 use Rattle.tables.proofs.Accept.{gates-are}
 use Rattle.tables.proofs.Total.{total-take, count-small}
-use Rattle.counts.specs.declared.ThreeKinds as DT
+use Rattle.counts.specs.declared.ThreeKinds as DThreeKinds
 use Rattle.counts.specs.Three.{threeOf}
 
 -- the kind with byte b: c gates before number `from` and v from there on make those before number i
@@ -48,20 +48,20 @@ counting-small {s} {b = b} {i = i} H C h =
     omega (arith, C .sum, count-small b (take i gs), length-take-le i gs (omega (arith, h, gates-are H)), H .few)
 
 -- three kinds, the first with byte b
-pub record Block (b : ℕ) (gs : List Gate) (from i : ℕ) (c : DT.ThreeKinds) (u v w : ℕ) : Type 0 where
+pub record Block (b : ℕ) (gs : List Gate) (from i : ℕ) (c : DThreeKinds.ThreeKinds) (u v w : ℕ) : Type 0 where
   pub first : Counting b gs from i (c .first) u
   pub second : Counting (b + 1) gs from i (c .second) v
   pub third : Counting (b + 2) gs from i (c .third) w
 
 pub block-start :
-    {b : ℕ} {gs : List Gate} {from : ℕ} {c : DT.ThreeKinds} → c ≡ threeOf b (take from gs) → Block b gs from from c 0 0 0
+    {b : ℕ} {gs : List Gate} {from : ℕ} {c : DThreeKinds.ThreeKinds} → c ≡ threeOf b (take from gs) → Block b gs from from c 0 0 0
 block-start e = record {
-  first = counting-start (ap (λ (x : DT.ThreeKinds). x .first) e);
-  second = counting-start (ap (λ (x : DT.ThreeKinds). x .second) e);
-  third = counting-start (ap (λ (x : DT.ThreeKinds). x .third) e);
+  first = counting-start (ap (λ (x : DThreeKinds.ThreeKinds). x .first) e);
+  second = counting-start (ap (λ (x : DThreeKinds.ThreeKinds). x .second) e);
+  third = counting-start (ap (λ (x : DThreeKinds.ThreeKinds). x .third) e);
 }
 
-module _ {b : ℕ} {gs : List Gate} {from i : ℕ} {c : DT.ThreeKinds} {u v w : ℕ} (B : Block b gs from i c u v w) where
+module _ {b : ℕ} {gs : List Gate} {from i : ℕ} {c : DThreeKinds.ThreeKinds} {u v w : ℕ} (B : Block b gs from i c u v w) where
   -- what one gate adds to each
   pub block-turn :
       {kind : Kind} {u′ v′ w′ : ℕ} → i < length gs → kind ≡ getD gs i noGate .kind
@@ -79,7 +79,7 @@ module _ {b : ℕ} {gs : List Gate} {from i : ℕ} {c : DT.ThreeKinds} {u v w : 
 
 -- no more than the gates of the table
 pub block-small :
-    {s : List ℕ} {g b from i : ℕ} {c : DT.ThreeKinds} {u v w : ℕ} → HasGates s g → Block b (tableOf s .gates) from i c u v w
+    {s : List ℕ} {g b from i : ℕ} {c : DThreeKinds.ThreeKinds} {u v w : ℕ} → HasGates s g → Block b (tableOf s .gates) from i c u v w
     → i ≤ g → (c .first + u ≤ 65535) × (c .second + v ≤ 65535) × (c .third + w ≤ 65535)
 block-small H B h = (counting-small H (B .first) h, counting-small H (B .second) h, counting-small H (B .third) h)
 
@@ -90,11 +90,11 @@ none-counted b gs = refl
 
 -- where there are no more than i gates, those before number i are all
 pub all-counted :
-    (b : ℕ) (gs : List Gate) (i : ℕ) {c : DT.ThreeKinds} → c ≡ threeOf b (take i gs) → length gs ≤ i → c ≡ threeOf b gs
-all-counted b gs i e h = e ∙ ap {A = List Gate} {B = DT.ThreeKinds} (threeOf b) (take-all i gs h)
+    (b : ℕ) (gs : List Gate) (i : ℕ) {c : DThreeKinds.ThreeKinds} → c ≡ threeOf b (take i gs) → length gs ≤ i → c ≡ threeOf b gs
+all-counted b gs i e h = e ∙ ap {A = List Gate} {B = DThreeKinds.ThreeKinds} (threeOf b) (take-all i gs h)
 
 -- three kinds and three more
-abbrev pub sixKinds : DT.ThreeKinds → DT.ThreeKinds → DC.Counts
+abbrev pub sixKinds : DThreeKinds.ThreeKinds → DThreeKinds.ThreeKinds → DCounts.Counts
 sixKinds l h = record {
   nots = l .first;
   xors = l .second;
@@ -105,11 +105,11 @@ sixKinds l h = record {
 }
 
 pub six-counted :
-    (gs : List Gate) {l h : DT.ThreeKinds} → l ≡ threeOf 0 gs → h ≡ threeOf 3 gs → sixKinds l h ≡ countsOf gs
+    (gs : List Gate) {l h : DThreeKinds.ThreeKinds} → l ≡ threeOf 0 gs → h ≡ threeOf 3 gs → sixKinds l h ≡ countsOf gs
 six-counted gs e f = λ j. sixKinds (e j) (f j)
 
 -- all of three kinds together
-abbrev pub sumOf : DT.ThreeKinds → ℕ
+abbrev pub sumOf : DThreeKinds.ThreeKinds → ℕ
 sumOf c = c .first + c .second + c .third
 
 -- no gate is of two kinds
@@ -129,12 +129,12 @@ sum-small (g ∷ gs) = omega (arith, one-kind (g .kind), sum-small gs)
 
 -- no more than the gates of the table
 pub three-small :
-    {s : List ℕ} {g : ℕ} {c : DT.ThreeKinds} → HasGates s g → c ≡ threeOf 0 (tableOf s .gates) → sumOf c ≤ 65535
+    {s : List ℕ} {g : ℕ} {c : DThreeKinds.ThreeKinds} → HasGates s g → c ≡ threeOf 0 (tableOf s .gates) → sumOf c ≤ 65535
 three-small {s} H e = rw e (omega (arith, sum-small (tableOf s .gates), gates-are H, H .few))
 
 -- where the first three kinds are all gates, there are none of the others
 pub none-further :
-    (gs : List Gate) {l : DT.ThreeKinds} → l ≡ threeOf 0 gs → length gs ≤ sumOf l
+    (gs : List Gate) {l : DThreeKinds.ThreeKinds} → l ≡ threeOf 0 gs → length gs ≤ sumOf l
     → record { first = 0; second = 0; third = 0 } ≡ threeOf 3 gs
 none-further gs e all =
     let full : length gs ≤ sumOf (threeOf 0 gs) = rw e at all in

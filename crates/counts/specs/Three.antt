@@ -4,10 +4,10 @@ use mathlib.Core.List.{List}
 use Prim.Native.Nat.{ℕ, _+_}
 use Rattle.tables.specs.Tables.{Gate, total}
 use Rattle.tables.specs.Counted.{ofKind}
-use Rattle.counts.specs.declared.ThreeKinds as DT
+use Rattle.counts.specs.declared.ThreeKinds as DThreeKinds
 
 -- the gates of the kind with byte b, and of the two kinds after it
-abbrev pub threeOf : ℕ → List Gate → DT.ThreeKinds
+abbrev pub threeOf : ℕ → List Gate → DThreeKinds.ThreeKinds
 threeOf b gs = record {
   first = total (ofKind b) gs;
   second = total (ofKind (b + 1)) gs;

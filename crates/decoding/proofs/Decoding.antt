@@ -8,7 +8,8 @@ use native.Mathlib.Omega.{arith}
 use lib.Bits.{bitXor}
 use lib.ListN.{length, getD, take, drop, set}
 use lib.Seq.{drop-drop}
-use Rattle.tables.specs.Runs.{Bits, xor}
+use Rattle.tables.specs.Runs.{xor}
+use Rattle.tables.specs.Inside.{Bits}
 use Rattle.tables.specs.Says.{over}
 use Rattle.tables.proofs.Lists.{part, part-next, part-end}
 use Rattle.tables.proofs.Put.{Writing, writing-front, writing-inside, writing-byte, writing-long, writing-end, over-length}

@@ -2,8 +2,8 @@
 ghost use mathlib.Core.Path.{_≡_};
 ghost use Prim.Native.Nat.{_+_, _*_, _≤_};
 ghost use lib.ListN.{length, take, drop};
-ghost use Rattle.tables.specs.Runs.{Bits};
-ghost use Rattle.tables.specs.Says.{over, Refused};
+ghost use Rattle.tables.specs.Inside.{Refused, Bits};
+ghost use Rattle.tables.specs.Says.{over};
 ghost use Rattle.construction.specs.Codes.{xorAll, decodeFrom};
 ghost use Rattle.construction.specs.Says.{decodeFault, DecodeSays};
 

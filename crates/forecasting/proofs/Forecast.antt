@@ -3,20 +3,20 @@
 use mathlib.Core.Path.{_≡_, sym, _∙_}
 use mathlib.Core.List.{List}
 use Prim.Native.Nat.{ℕ}
-use Rattle.tables.specs.declared.Refusal as DR
+use Rattle.tables.specs.declared.Refusal as DRefusal
 use Rattle.tables.proofs.Answers.{refused-fails}
-use Rattle.construction.specs.declared.Sizes as DS
+use Rattle.construction.specs.declared.Sizes as DSizes
 use Rattle.construction.specs.declared.And.the-variants.{Isw}
 use Rattle.construction.specs.Gadgets.{isw}
 use Rattle.construction.specs.Says.{plainFault, ForecastSays}
-use Rattle.planning.specs.declared.Plan as DP
+use Rattle.planning.specs.declared.Plan as DPlan
 use Rattle.planning.specs.declared.Planned.the-variants as Planned
 use Rattle.planning.specs.Plans.{PlanSays}
 use Rattle.planning.proofs.Planning.{Planned-Ready, planned-refused, plan-bytes}
 use Rattle.forecasting.specs.Figures.{FiguresSay}
 
 pub forecast-ready :
-    {s : List ℕ} {o : ℕ} {p : DP.Plan} {r : DS.Sizes} → Planned-Ready (plainFault isw s o) s o p → FiguresSay p r
+    {s : List ℕ} {o : ℕ} {p : DPlan.Plan} {r : DSizes.Sizes} → Planned-Ready (plainFault isw s o) s o p → FiguresSay p r
     → ForecastSays isw s o r
 forecast-ready {s} {o} {p} P F =
     let R = P .ready in
@@ -32,7 +32,7 @@ forecast-ready {s} {o} {p} P F =
     })
 
 pub forecast-refused :
-    {s : List ℕ} {o : ℕ} {r : DR.Refusal} → PlanSays (plainFault isw s o) s o (Planned.Refused r)
+    {s : List ℕ} {o : ℕ} {r : DRefusal.Refusal} → PlanSays (plainFault isw s o) s o (Planned.Refused r)
     → ForecastSays isw s o (record { number = r .number; place = r .place; shares = 0; wires = 0; tape = 0; bytes = 0 })
 forecast-refused P =
     let R = planned-refused P in

@@ -10,21 +10,22 @@ use lib.ListN.{length, getD, take, drop}
 use Rattle.tables.specs.Refusals.{passed}
 use Rattle.tables.specs.Tables.{wires, tableOf, tableBytes}
 use Rattle.tables.proofs.Cut.{input-empty, input-part}
-use Rattle.construction.specs.declared.Sizes as DS
+use Rattle.construction.specs.declared.Sizes as DSizes
 use Rattle.construction.specs.Shares.{sharesOf}
 use Rattle.construction.specs.Gadgets.{isw}
 use Rattle.construction.specs.Wires.{maskedTable, tapeLong}
 use Rattle.construction.specs.Says.{plainFault, ForecastSays}
 use Rattle.text.specs.Text.{decimal, lineOf, refusalLine}
 use Rattle.text.proofs.Writing.{number-long, refusal-long}
-use Rattle.forecasting.specs.Lines.{lineFault, figuresLine, forecastLine, sizesLine}
+use Rattle.forecasting.specs.Lines.{lineFault, figuresLine, forecastLine}
+use Rattle.forecasting.specs.Figures.{sizesLine}
 
 -- the number says which line
-pub refused-line : (z : DS.Sizes) → (z .number ≡ 0 → ⊥) → refusalLine (z .number) (z .place) ≡ sizesLine z
+pub refused-line : (z : DSizes.Sizes) → (z .number ≡ 0 → ⊥) → refusalLine (z .number) (z .place) ≡ sizesLine z
 unfolding sizesLine
 refused-line z h = rw (ne-eqb (z .number) 0 h)
 
-pub figures-line : (z : DS.Sizes) → z .number ≡ 0 → figuresLine (z .shares) (z .wires) (z .tape) (z .bytes) ≡ sizesLine z
+pub figures-line : (z : DSizes.Sizes) → z .number ≡ 0 → figuresLine (z .shares) (z .wires) (z .tape) (z .bytes) ≡ sizesLine z
 unfolding sizesLine
 figures-line z h = rw (eq-eqb (z .number) 0 h)
 
@@ -43,7 +44,7 @@ same-line true a b c d x = refl
 same-line false a b c d x = refl
 
 line-forecast :
-    (s : List ℕ) (r : DS.Sizes) → length s ≤ 65536 → ForecastSays isw (drop 1 s) (getD s 0 0) r → sizesLine r ≡ forecastLine s
+    (s : List ℕ) (r : DSizes.Sizes) → length s ≤ 65536 → ForecastSays isw (drop 1 s) (getD s 0 0) r → sizesLine r ≡ forecastLine s
 unfolding lineFault forecastLine sizesLine
 line-forecast s r h F =
     let o = getD s 0 0 in
@@ -55,12 +56,12 @@ line-forecast s r h F =
 
 -- "No input counts as order 0 and an empty table"
 pub line-empty :
-    (s : List ℕ) (r : DS.Sizes) → length s ≡ 0 → ForecastSays isw s 0 r → sizesLine r ≡ forecastLine s
+    (s : List ℕ) (r : DSizes.Sizes) → length s ≡ 0 → ForecastSays isw s 0 r → sizesLine r ≡ forecastLine s
 line-empty s r e F = line-forecast s r (omega (arith, e)) (input-empty (λ t o. ForecastSays isw t o r) s e F)
 
 -- the order byte and what follows it
 pub line-part :
-    (s : List ℕ) (r : DS.Sizes) → length s ≤ 65536 → ForecastSays isw (take (length s - 1) (drop 1 s)) (getD s 0 0) r
+    (s : List ℕ) (r : DSizes.Sizes) → length s ≤ 65536 → ForecastSays isw (take (length s - 1) (drop 1 s)) (getD s 0 0) r
     → sizesLine r ≡ forecastLine s
 line-part s r h F = line-forecast s r h (input-part (λ t o. ForecastSays isw t o r) s F)
 

@@ -3,12 +3,11 @@
 use mathlib.Core.Bool.{cond}
 use mathlib.Core.List.{List, [], _∷_}
 use Prim.Native.Nat.{ℕ, _≤_}
-use lib.Dec.{ltb, eqb}
+use lib.Dec.{ltb}
 use lib.ListN.{length, getD, drop}
 use Rattle.tables.specs.Refusals.{Fault, passed, orElse, refusedIf}
 use Rattle.tables.specs.Tables.{wires, tableOf, tableBytes}
 use Rattle.text.specs.Text.{decimal, lineOf, refusalLine, PutsAll}
-use Rattle.construction.specs.declared.Sizes as DS
 use Rattle.construction.specs.Shares.{sharesOf}
 use Rattle.construction.specs.Gadgets.{isw}
 use Rattle.construction.specs.Wires.{maskedTable, tapeLong}
@@ -33,13 +32,6 @@ forecastLine s =
     cond (passed f)
     (figuresLine (sharesOf o) (wires m) (tapeLong isw o t) (length (tableBytes m)))
     (refusalLine (f .number) (f .place))
-
--- the line of a forecast's answer
-unfoldable pub sizesLine : DS.Sizes → List ℕ
-sizesLine z =
-    cond (eqb (z .number) 0)
-    (figuresLine (z .shares) (z .wires) (z .tape) (z .bytes))
-    (refusalLine (z .number) (z .place))
 
 -- the line of an input stands at the front of the lent bytes, of which 64 hold every line; fewer than it has are left as they were
 pub record LineSays (s b b′ : List ℕ) (r : ℕ) : Type 0 where

@@ -6,8 +6,8 @@ ghost use Rattle.text.specs.Text.{Puts};
 ghost use Rattle.construction.specs.Gadgets.{isw};
 ghost use Rattle.construction.specs.Says.{ForecastSays};
 ghost use Rattle.planning.specs.Plans.{PlanFits};
-ghost use Rattle.forecasting.specs.Figures.{FiguresSay};
-ghost use Rattle.forecasting.specs.Lines.{figuresLine, forecastLine, sizesLine, LineSays};
+ghost use Rattle.forecasting.specs.Figures.{sizesLine, FiguresSay};
+ghost use Rattle.forecasting.specs.Lines.{figuresLine, forecastLine, LineSays};
 
 // The four figures of a plan.
 fn plan_figures(p: planning::Plan) -> construction::Sizes

@@ -13,9 +13,9 @@ use Rattle.construction.specs.Shares.{upFrom, inTurn, Pair, pairOf, pairs, tri,
 use Rattle.construction.specs.Gadgets.{first, Gadget}
 use Rattle.construction.specs.Wires.{Part, sum, inAnd, Origin, andPart, xorShare, constantShare, orPart, driverOf, wire, share, firstOn, pairWires}
 use Rattle.construction.specs.Wires.{adding, pairWire, rowWires, andWires, andShares, andCost, newWires}
-use Rattle.layout.specs.Layout.{joined, sumGates, highGates, lowGates, rowGates, rowsGates}
+use Rattle.layout.specs.Layout.{piecesFrom, sumGates, highGates, lowGates, rowGates, rowsGates}
 use Rattle.layout.specs.Layout.{xorGates, constantGates, andGates, orGates}
-use Rattle.layout.proofs.Bytes.{joined-long, joined-same}
+use Rattle.layout.proofs.Bytes.{pieces-long, pieces-same}
 use Rattle.construction.proofs.Sum.{up-length, up-plus, up-shift}
 use Rattle.construction.proofs.Rows.{pairs-length, pair-below, pair-closed}
 use Rattle.construction.proofs.Costs.{and-length, or-driven}
@@ -24,18 +24,18 @@ use Rattle.construction.proofs.Forms.{index-below}
 -- blocks for a counted list, from block c on: the block c starts at wire w + size·c
 in-turn-from :
     {A B : Type 0} (size w m s c : ℕ) (g : ℕ → A) (F : ℕ → A → List B)
-    → inTurn size (w + size * c) (upFrom m (s + c) g) F ≡ joined m c (λ d. F (w + size * d) (g (s + d)))
-unfolding joined inTurn upFrom
+    → inTurn size (w + size * c) (upFrom m (s + c) g) F ≡ piecesFrom m c (λ d. F (w + size * d) (g (s + d)))
+unfolding piecesFrom inTurn upFrom
 in-turn-from size w zero s c g F = refl
 in-turn-from size w (suc m) s c g F =
     let e : w + size * c + size ≡ w + size * suc c = omega arith in
     let k : suc (s + c) ≡ s + suc c = omega arith in
     rw (e, k, in-turn-from size w m s (suc c) g F) refl
 
-pub in-turn-joined :
+pub in-turn-pieces :
     {A B : Type 0} (size w m s : ℕ) (g : ℕ → A) (F : ℕ → A → List B)
-    → inTurn size w (upFrom m s g) F ≡ joined m 0 (λ d. F (w + size * d) (g (s + d)))
-in-turn-joined size w m s g F =
+    → inTurn size w (upFrom m s g) F ≡ piecesFrom m 0 (λ d. F (w + size * d) (g (s + d)))
+in-turn-pieces size w m s g F =
     let e : w ≡ w + size * 0 = omega arith in
     let k : s ≡ s + 0 = omega arith in
     ap (λ (v : ℕ). inTurn size v (upFrom m s g) F) e
@@ -64,12 +64,12 @@ pairNumber n c = getD (pairs n) c (pairOf 0 0)
 -- blocks for all pairs, by the pairs' numbers
 pub pairs-in-turn :
     {B : Type 0} (n size w : ℕ) (F : ℕ → Pair → List B)
-    → inTurn size w (pairs n) F ≡ joined (tri n) 0 (λ c. F (w + size * c) (pairNumber n c))
+    → inTurn size w (pairs n) F ≡ piecesFrom (tri n) 0 (λ c. F (w + size * c) (pairNumber n c))
 pairs-in-turn n size w F =
     let all = up-get (pairs n) (pairOf 0 0) in
     ap {A = List Pair} (λ ps. inTurn size w ps F) all
-    ∙ (simp zero-add at (in-turn-joined size w (length (pairs n)) 0 (pairNumber n) F))
-    ∙ ap (λ (m : ℕ). joined m 0 (λ c. F (w + size * c) (pairNumber n c))) (pairs-length n 0)
+    ∙ (simp zero-add at (in-turn-pieces size w (length (pairs n)) 0 (pairNumber n) F))
+    ∙ ap (λ (m : ℕ). piecesFrom m 0 (λ c. F (w + size * c) (pairNumber n c))) (pairs-length n 0)
 
 -- a running sum's wires, those of the first sums and those of the others
 adding-append :
@@ -85,16 +85,16 @@ adding-append o m last (x ∷ xs) ys =
 
 adding-from :
     (o : ℕ → Origin) (m last c s : ℕ) (z : ℕ → ℕ)
-    → map driverOf (adding o m (last + s) (suc (last + s)) (upFrom c s z)) ≡ joined c s (sumGates last z)
-unfolding adding joined upFrom
+    → map driverOf (adding o m (last + s) (suc (last + s)) (upFrom c s z)) ≡ piecesFrom c s (sumGates last z)
+unfolding adding piecesFrom upFrom
 adding-from o m last zero s z = refl
 adding-from o m last (suc c) s z =
     let e : suc (last + s) ≡ last + suc s = omega arith in rw (e, adding-from o (suc m) last c (suc s) z) refl
 
-adding-joined :
+adding-pieces :
     (o : ℕ → Origin) (m last c : ℕ) (z : ℕ → ℕ)
-    → map driverOf (adding o m last (suc last) (upFrom c 0 z)) ≡ joined c 0 (sumGates last z)
-adding-joined o m last c z = rw add-zero at (adding-from o m last c 0 z)
+    → map driverOf (adding o m last (suc last) (upFrom c 0 z)) ≡ piecesFrom c 0 (sumGates last z)
+adding-pieces o m last c z = rw add-zero at (adding-from o m last c 0 z)
 
 -- z is the wire after the pair (j, i), while there is one, and the first wire of the pair (i, i + 1) where j is i
 abbrev pub Upright : ℕ → ℕ → ℕ → ℕ → ℕ → Type 0
@@ -123,10 +123,10 @@ upright-low n w i j z h k e =
 -- the wires of the pairs (i, j) follow one another
 pub low-same :
     (G : Gadget) (n w i z v m : ℕ) → m ≡ n - suc i → (suc i < n → z ≡ pairWire w first (pairAt n i (suc i)))
-    → joined (n - suc i) 0 (sumGates v (λ j. pairWire w (G .low) (pairAt n i (suc i + j)))) ≡ lowGates G z v m
+    → piecesFrom (n - suc i) 0 (sumGates v (λ j. pairWire w (G .low) (pairAt n i (suc i + j)))) ≡ lowGates G z v m
 low-same G n w i z v m e h =
     rw e
-    (joined-same (n - suc i) 0 _ _
+    (pieces-same (n - suc i) 0 _ _
     (λ c k.
     ap (λ (y : ℕ). gate XOR (v + c) y ∷ [])
     (omega (
@@ -150,13 +150,13 @@ low-within G n w i z c e h =
 
 pub high-long : (G : Gadget) (n w v i : ℕ) → length (highGates G n w v i) ≡ i
 high-long G n w v i =
-    omega (arith, joined-long 1 i 0 (sumGates v (λ j. pairWire w (G .high) (pairAt n j i))) (λ _ _. refl))
+    omega (arith, pieces-long 1 i 0 (sumGates v (λ j. pairWire w (G .high) (pairAt n j i))) (λ _ _. refl))
 
 pub row-long : (G : Gadget) (n w v : ℕ) (a b : List ℕ) (i : ℕ) → i < n → length (rowGates G n w v a b i) ≡ n
 row-long G n w v a b i h =
     let lasts = sumGates (v + i) (λ j. pairWire w (G .low) (pairAt n i (suc i + j))) in
-    let low = joined-long 1 (n - suc i) 0 lasts (λ _ _. refl) in
-    omega (arith, high-long G n w v i, length-append (highGates G n w v i) (joined (n - suc i) 0 lasts))
+    let low = pieces-long 1 (n - suc i) 0 lasts (λ _ _. refl) in
+    omega (arith, high-long G n w v i, length-append (highGates G n w v i) (piecesFrom (n - suc i) 0 lasts))
 
 -- a row's wires
 row-gates :
@@ -175,26 +175,26 @@ row-gates G n part w v a b i =
       map-append,
       long,
       moved,
-      adding-joined o 1 v i high,
-      adding-joined o (1 + i) (v + i) (n - suc i) (λ j. low (suc i + j)),
+      adding-pieces o 1 v i high,
+      adding-pieces o (1 + i) (v + i) (n - suc i) (λ j. low (suc i + j)),
     )
     refl)
 
 -- one gate for each share
 shares-from :
     (m c : ℕ) (f : ℕ → Gate) (o : ℕ → Origin)
-    → map driverOf (upFrom m c (λ s. wire (f s) (o s))) ≡ joined m c (λ s. f s ∷ [])
-unfolding joined upFrom
+    → map driverOf (upFrom m c (λ s. wire (f s) (o s))) ≡ piecesFrom m c (λ s. f s ∷ [])
+unfolding piecesFrom upFrom
 shares-from zero c f o = refl
 shares-from (suc m) c f o = rw (shares-from m (suc c) f o) refl
 
 pub xor-gates :
-    (G : Gadget) (l n g w : ℕ) (a b : List ℕ) → map driverOf (newWires G XOR l n g w a b) ≡ joined n 0 (xorGates a b)
+    (G : Gadget) (l n g w : ℕ) (a b : List ℕ) → map driverOf (newWires G XOR l n g w a b) ≡ piecesFrom n 0 (xorGates a b)
 xor-gates G l n g w a b = shares-from n 0 (λ s. gate XOR (share a s) (share b s)) (xorShare g)
 
 pub constant-gates :
     (G : Gadget) (l n g w : ℕ) (a b : List ℕ)
-    → map driverOf (newWires G CONSTANT l n g w a b) ≡ joined n 0 (constantGates l)
+    → map driverOf (newWires G CONSTANT l n g w a b) ≡ piecesFrom n 0 (constantGates l)
 constant-gates G l n g w a b = shares-from n 0 (λ s. gate CONSTANT (cond (eqb s 0) l 0) 0) (constantShare g)
 
 pub and-gates :
@@ -208,8 +208,8 @@ and-gates G n part w a b =
     let is = upFrom n 0 (λ i. i) in
     let ofRows : map driverOf (inTurn n v is R) ≡ rowsGates G n w v a b =
     in-turn-map n v is R driverOf
-    ∙ (simp zero-add at (in-turn-joined n v n 0 (λ i. i) (λ u i. map driverOf (R u i))))
-    ∙ joined-same n 0 _ _ (λ i _. row-gates G n part w (v + n * i) a b i) in
+    ∙ (simp zero-add at (in-turn-pieces n v n 0 (λ i. i) (λ u i. map driverOf (R u i))))
+    ∙ pieces-same n 0 _ _ (λ i _. row-gates G n part w (v + n * i) a b i) in
     map-append driverOf (inTurn 5 w (pairs n) F) (inTurn n v is R)
     ∙ ap₂ {A = List Gate} {B = List Gate} {C = List Gate} (λ x y. x ++ y) (in-turn-map 5 w (pairs n) F driverOf) ofRows
 

@@ -6,17 +6,17 @@ use mathlib.Core.List.{List, [], _∷_, _++_, map}
 use Prim.Native.Nat.{ℕ, zero, suc, _+_, _-_, _*_, _<_, _≤_}
 use lib.Dec.{eqb}
 use Rattle.tables.specs.Tables.{NOT, XOR, AND, CONSTANT, Gate, gate, pairBytes}
-use Rattle.layout.specs.declared.Places as DP
+use Rattle.layout.specs.declared.Places as DPlaces
 use Rattle.construction.specs.Shares.{upFrom, inTurn, Pair, pairs, tri, pairAt}
 use Rattle.construction.specs.Gadgets.{allFive, Gadget}
 use Rattle.construction.specs.Wires.{Wire, driverOf, share, firstOn, pairWire, andShares}
 
 -- share 1 on wire head, share s on wire base + (s − 2)·step
-abbrev pub shareWires : ℕ → DP.Places → List ℕ
+abbrev pub shareWires : ℕ → DPlaces.Places → List ℕ
 shareWires n a = a .head ∷ upFrom (n - 1) 0 (λ s. a .base + s * a .step)
 
 -- the wires of n shares are below 65,536
-abbrev pub LowShares : ℕ → DP.Places → Type 0
+abbrev pub LowShares : ℕ → DPlaces.Places → Type 0
 LowShares n a = (i : ℕ) → i < n → share (shareWires n a) i < 65536
 
 -- the operands of wires, as bytes
@@ -24,9 +24,9 @@ abbrev pub operandBytes : List Wire → List ℕ
 operandBytes xs = pairBytes (map driverOf xs)
 
 -- c pieces one after another, the first being the piece s
-unfoldable pub joined : {A : Type 0} → ℕ → ℕ → (ℕ → List A) → List A
-joined zero s f = []
-joined (suc c) s f = f s ++ joined c (suc s) f
+unfoldable pub piecesFrom : {A : Type 0} → ℕ → ℕ → (ℕ → List A) → List A
+piecesFrom zero s f = []
+piecesFrom (suc c) s f = f s ++ piecesFrom c (suc s) f
 
 -- the five gates of a pair, from wire w on
 abbrev pub pairGates : Gadget → List ℕ → List ℕ → ℕ → Pair → List Gate
@@ -41,22 +41,22 @@ sumGates last z c = gate XOR (last + c) (z c) ∷ []
 
 -- row i's first sums, which add one wire each of the pairs (j, i), j rising
 abbrev pub highGates : Gadget → ℕ → ℕ → ℕ → ℕ → List Gate
-highGates G n w last i = joined i 0 (sumGates last (λ j. pairWire w (G .high) (pairAt n j i)))
+highGates G n w last i = piecesFrom i 0 (sumGates last (λ j. pairWire w (G .high) (pairAt n j i)))
 
 -- m sums that add one wire each of pairs that follow one another, from wire z on
 abbrev pub lowGates : Gadget → ℕ → ℕ → ℕ → List Gate
-lowGates G z last m = joined m 0 (sumGates last (pairWire z (G .low)))
+lowGates G z last m = piecesFrom m 0 (sumGates last (pairWire z (G .low)))
 
 -- row i from wire v on: its own product, the sums of the pairs (j, i), those of the pairs (i, j)
 abbrev pub rowGates : Gadget → ℕ → ℕ → ℕ → List ℕ → List ℕ → ℕ → List Gate
 rowGates G n w v a b i =
     gate AND (share a i) (share b i)
     ∷ (highGates G n w v i
-    ++ joined (n - suc i) 0 (sumGates (v + i) (λ j. pairWire w (G .low) (pairAt n i (suc i + j)))))
+    ++ piecesFrom (n - suc i) 0 (sumGates (v + i) (λ j. pairWire w (G .low) (pairAt n i (suc i + j)))))
 
 -- all rows, from wire v on
 abbrev pub rowsGates : Gadget → ℕ → ℕ → ℕ → List ℕ → List ℕ → List Gate
-rowsGates G n w v a b = joined n 0 (λ i. rowGates G n w (v + n * i) a b i)
+rowsGates G n w v a b = piecesFrom n 0 (λ i. rowGates G n w (v + n * i) a b i)
 
 -- one share of an XOR
 abbrev pub xorGates : List ℕ → List ℕ → ℕ → List Gate
@@ -79,7 +79,7 @@ orGates G n w a b =
     ++ (gate NOT (share (andShares n (suc (suc w))) 0) 0 ∷ []))
 
 -- the wires of both operands' n shares are below 65,536
-pub record ReadsShares (n : ℕ) (a b : DP.Places) : Type 0 where
+pub record ReadsShares (n : ℕ) (a b : DPlaces.Places) : Type 0 where
   pub few : n ≤ 31
   pub left : LowShares n a
   pub right : LowShares n b

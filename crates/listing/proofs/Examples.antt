@@ -1,11 +1,11 @@
 -- Tables in words, computed from the definitions: document 01's AND, a gate of each kind, and five bytes.
 -- Assumes nothing.
 use mathlib.Core.Path.{_≡_, refl}
-use mathlib.Core.List.{List, [], _∷_, _++_}
+use mathlib.Core.List.{List, [], _∷_, _++_, flatten}
 use Prim.Native.Nat.{ℕ}
 use Rattle.tables.specs.Tables.{gatesFrom, wordsFrom, tableOf, gatesFault, outputsFault, tableFault}
 use Rattle.text.specs.Text.{digits, lineOf}
-use Rattle.listing.specs.Listing.{gateLines, outputLines, joined, tableText}
+use Rattle.listing.specs.Listing.{gateLines, outputLines, tableText}
 
 -- `inputs 2`
 abbrev twoLine : List ℕ
@@ -41,7 +41,7 @@ outLine = 111 ∷ 117 ∷ 116 ∷ 48 ∷ 32 ∷ 61 ∷ 32 ∷ 119 ∷ 50 ∷ 10 
 
 -- document 01's AND
 pub the-and : tableText (2 ∷ 0 ∷ 1 ∷ 0 ∷ 1 ∷ 0 ∷ 2 ∷ 0 ∷ 0 ∷ 1 ∷ 0 ∷ 2 ∷ 0 ∷ []) ≡ twoLine ++ (andLine ++ outLine)
-unfolding tableText tableFault tableOf gatesFrom wordsFrom gatesFault outputsFault gateLines outputLines joined lineOf digits
+unfolding tableText tableFault tableOf gatesFrom wordsFrom gatesFault outputsFault gateLines outputLines flatten lineOf digits
 the-and = refl
 
 -- AND, NOT, XOR, a random bit, a constant and OR
@@ -50,12 +50,12 @@ pub each-kind :
     (2 ∷ 0 ∷ 6 ∷ 0 ∷ 1 ∷ 0 ∷ 2 ∷ 0 ∷ 1 ∷ 3 ∷ 4 ∷ 5
     ∷ 0 ∷ 0 ∷ 1 ∷ 0 ∷ 0 ∷ 0 ∷ 0 ∷ 0 ∷ 1 ∷ 0 ∷ 2 ∷ 0 ∷ 0 ∷ 0 ∷ 0 ∷ 0 ∷ 1 ∷ 0 ∷ 0 ∷ 0 ∷ 2 ∷ 0 ∷ 3 ∷ 0 ∷ 2 ∷ 0 ∷ [])
     ≡ twoLine ++ (andLine ++ (notLine ++ (xorLine ++ (randomLine ++ (constantLine ++ (orLine ++ outLine))))))
-unfolding tableText tableFault tableOf gatesFrom wordsFrom gatesFault outputsFault gateLines outputLines joined lineOf digits
+unfolding tableText tableFault tableOf gatesFrom wordsFrom gatesFault outputsFault gateLines outputLines flatten lineOf digits
 each-kind = refl
 
 -- five bytes: `refused 1 0`
 pub five-bytes :
     tableText (1 ∷ 0 ∷ 0 ∷ 0 ∷ 1 ∷ [])
     ≡ 114 ∷ 101 ∷ 102 ∷ 117 ∷ 115 ∷ 101 ∷ 100 ∷ 32 ∷ 49 ∷ 32 ∷ 48 ∷ 10 ∷ []
-unfolding tableText tableFault tableOf gatesFrom wordsFrom gatesFault outputsFault gateLines outputLines joined lineOf digits
+unfolding tableText tableFault tableOf gatesFrom wordsFrom gatesFault outputsFault gateLines outputLines flatten lineOf digits
 five-bytes = refl

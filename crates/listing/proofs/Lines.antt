@@ -2,7 +2,7 @@
 -- Assumes nothing.
 use mathlib.Core.Path.{_≡_, refl, ap}
 use mathlib.Core.Bool.{true}
-use mathlib.Core.List.{List, [], _∷_, _++_}
+use mathlib.Core.List.{List, [], _∷_, _++_, flatten}
 use Prim.Native.Nat.{ℕ, zero, suc, _+_, _*_, _≤_, _<_}
 use native.Mathlib.Omega.{arith}
 use lib.ListN.{length, length-append}
@@ -14,7 +14,7 @@ use Rattle.tables.proofs.Accept.{Accepted, accepted, gates-of-length, outputs-o
 use Rattle.tables.proofs.Format.{passed-sound-gates, sound-earlier}
 use Rattle.text.specs.Text.{decimal, lineOf}
 use Rattle.text.proofs.Writing.{digits-few}
-use Rattle.listing.specs.Listing.{equalsWord, kindWords, inputsLine, gateLines, outputLines, tableLines, joined}
+use Rattle.listing.specs.Listing.{equalsWord, kindWords, inputsLine, gateLines, outputLines, tableLines}
 use Rattle.listing.specs.Listing.{listRoom, Listed, lineAt}
 
 -- what stands after a gate's wire, by its kind's byte
@@ -111,16 +111,16 @@ unfolding outputLines
 output-lines-length o [] = refl
 output-lines-length o (w ∷ ws) = ap suc (output-lines-length (suc o) ws)
 
-joined-long : (k : ℕ) (ls : List (List ℕ)) → All (λ l. length l ≤ k) ls → length (joined ls) ≤ k * length ls
-unfolding All joined
-joined-long k [] a = omega arith
-joined-long k (l ∷ ls) a = omega (arith, length-append l (joined ls), a .0, joined-long k ls (a .1))
+flatten-long : (k : ℕ) (ls : List (List ℕ)) → All (λ l. length l ≤ k) ls → length (flatten ls) ≤ k * length ls
+unfolding All flatten
+flatten-long k [] a = omega arith
+flatten-long k (l ∷ ls) a = omega (arith, length-append l (flatten ls), a .0, flatten-long k ls (a .1))
 
-joined-append : (ls ms : List (List ℕ)) → length (joined (ls ++ ms)) ≡ length (joined ls) + length (joined ms)
-unfolding joined
-joined-append [] ms = omega arith
-joined-append (l ∷ ls) ms =
-    omega (arith, length-append l (joined (ls ++ ms)), length-append l (joined ls), joined-append ls ms)
+flatten-append : (ls ms : List (List ℕ)) → length (flatten (ls ++ ms)) ≡ length (flatten ls) + length (flatten ms)
+unfolding flatten
+flatten-append [] ms = omega arith
+flatten-append (l ∷ ls) ms =
+    omega (arith, length-append l (flatten (ls ++ ms)), length-append l (flatten ls), flatten-append ls ms)
 
 -- the lines of a table that passed
 module _ (s : List ℕ) (H : Listed s) where
@@ -166,19 +166,19 @@ module _ (s : List ℕ) (H : Listed s) where
   line-short j h =
       all-getD (λ l. length l ≤ 32) (tableLines (tableOf s)) j [] (omega (arith, inputs-fit), later-fit) h
 
-  pub lines-short : length (joined (tableLines (tableOf s))) ≤ listRoom
-  unfolding joined
+  pub lines-short : length (flatten (tableLines (tableOf s))) ≤ listRoom
+  unfolding flatten
   lines-short =
       let t = tableOf s in
       let gates = gateLines (t .inputs) (t .gates) in
       let outputs = outputLines 0 (t .outputs) in
       omega (
         arith,
-        length-append (inputsLine (t .inputs)) (joined (gates ++ outputs)),
+        length-append (inputsLine (t .inputs)) (flatten (gates ++ outputs)),
         inputs-fit,
-        joined-append gates outputs,
-        joined-long 27 gates gates-fit,
-        joined-long 18 outputs outputs-fit,
+        flatten-append gates outputs,
+        flatten-long 27 gates gates-fit,
+        flatten-long 18 outputs outputs-fit,
         gate-lines-length (t .inputs) (t .gates),
         output-lines-length 0 (t .outputs),
         ok .few-wires,

@@ -2,7 +2,7 @@
 -- Assumes nothing.
 use mathlib.Core.Path.{_≡_, refl, sym, ap, _∙_}
 use mathlib.Core.Bool.{Bool, true, false}
-use mathlib.Core.List.{List, [], _∷_, _++_}
+use mathlib.Core.List.{List, [], _∷_, _++_, flatten}
 use Prim.Native.Nat.{ℕ, zero, suc, _+_, _-_, _≤_, _<_}
 use native.Mathlib.Nat.{zero-add, add-zero}
 use native.Mathlib.Numerals.{add-one}
@@ -10,46 +10,45 @@ use native.Mathlib.Omega.{arith}
 use borrow.Author.Tests.{eq-eqb, ne-eqb}
 use lib.ListN.{length, getD, take, drop, length-append, drop-of-length-le, List·getD-append}
 use lib.Seq.{drop-cons, getD-append-add}
-use Rattle.tables.specs.declared.Refusal as DR
+use Rattle.tables.specs.declared.Refusal as DRefusal
 use Rattle.tables.specs.Refusals.{passed}
 use Rattle.tables.specs.Tables.{Gate, gate, noGate, gateOf, word, kindOf, known, tableOf, tableFault}
-use Rattle.tables.specs.Says.{Refused}
-use Rattle.tables.specs.declared.GateFields as DG
-use Rattle.tables.specs.Inside.{putAt, GateIs}
+use Rattle.tables.specs.declared.GateFields as DGateFields
+use Rattle.tables.specs.Inside.{Refused, putAt, GateIs}
 use Rattle.tables.proofs.Accept.{accepted, inputs-of, gates-of-length, outputs-of-length}
 use Rattle.tables.proofs.Format.{SoundGates, Bytes, passed-sound-gates, passed-sound}
 use Rattle.tables.proofs.Cut.{cut-fault, cut-refused}
 use Rattle.tables.proofs.Put.{Writing, put-length, writing-start, writing-long, writing-piece, writing-end}
 use Rattle.text.specs.Text.{refusalLine, Puts, PutsAll}
 use Rattle.text.proofs.Writing.{refusal-long}
-use Rattle.listing.specs.Listing.{inputsLine, gateLine, outputLine, gateLines, outputLines, tableLines, joined, tableText}
+use Rattle.listing.specs.Listing.{inputsLine, gateLine, outputLine, gateLines, outputLines, tableLines, tableText}
 use Rattle.listing.specs.Listing.{listRoom, Listed, lineAt, ListSays}
 use Rattle.listing.proofs.Lines.{gate-lines-length, lines-length, lines-short}
 
 -- the lines from number j on are left, and those before it take up `at` bytes
 pub record Left (ls : List (List ℕ)) (j at : ℕ) : Type 0 where
   pub within : j ≤ length ls
-  pub sum : at + length (joined (drop j ls)) ≡ length (joined ls)
+  pub sum : at + length (flatten (drop j ls)) ≡ length (flatten ls)
 
 pub left-start : (ls : List (List ℕ)) → Left ls 0 0
 left-start ls = record { within = omega arith; sum = zero-add _ }
 
-joined-step : (ls : List (List ℕ)) (j : ℕ) → j < length ls → joined (drop j ls) ≡ getD ls j [] ++ joined (drop (suc j) ls)
-unfolding joined
-joined-step ls j h = ap {A = List (List ℕ)} {B = List ℕ} joined (drop-cons ls j [] h)
+flatten-step : (ls : List (List ℕ)) (j : ℕ) → j < length ls → flatten (drop j ls) ≡ getD ls j [] ++ flatten (drop (suc j) ls)
+unfolding flatten
+flatten-step ls j h = ap {A = List (List ℕ)} {B = List ℕ} flatten (drop-cons ls j [] h)
 
 module _ {ls : List (List ℕ)} {j at : ℕ} (L : Left ls j at) where
-  pub left-end : length ls ≤ j → at ≡ length (joined ls)
-  unfolding joined
+  pub left-end : length ls ≤ j → at ≡ length (flatten ls)
+  unfolding flatten
   left-end h =
-      let none = ap {A = List (List ℕ)} {B = ℕ} (λ ms. length (joined ms)) (drop-of-length-le ls {i = j} h) in
+      let none = ap {A = List (List ℕ)} {B = ℕ} (λ ms. length (flatten ms)) (drop-of-length-le ls {i = j} h) in
       omega (arith, L .sum, none)
 
   module _ (h : j < length ls) where
-    left-length : length (joined (drop j ls)) ≡ length (getD ls j []) + length (joined (drop (suc j) ls))
-    left-length = ap length (joined-step ls j h) ∙ length-append (getD ls j []) (joined (drop (suc j) ls))
+    left-length : length (flatten (drop j ls)) ≡ length (getD ls j []) + length (flatten (drop (suc j) ls))
+    left-length = ap length (flatten-step ls j h) ∙ length-append (getD ls j []) (flatten (drop (suc j) ls))
 
-    pub left-most : at + length (getD ls j []) ≤ length (joined ls)
+    pub left-most : at + length (getD ls j []) ≤ length (flatten ls)
     left-most = omega (arith, L .sum, left-length)
 
     pub left-turn : {r : ℕ} → r ≡ at + length (getD ls j []) → Left ls (j + 1) r
@@ -58,28 +57,28 @@ module _ {ls : List (List ℕ)} {j at : ℕ} (L : Left ls j at) where
 -- and the lines so far are put at the front of b
 pub record Putting (ls : List (List ℕ)) (b out : List ℕ) (j at : ℕ) : Type 0 where
   pub rest : Left ls j at
-  pub writing : Writing (putAt 0 (joined ls) b) at (joined (drop j ls)) out
+  pub writing : Writing (putAt 0 (flatten ls) b) at (flatten (drop j ls)) out
 
-module _ {ls : List (List ℕ)} {b : List ℕ} (room : length (joined ls) ≤ length b) where
+module _ {ls : List (List ℕ)} {b : List ℕ} (room : length (flatten ls) ≤ length b) where
   pub putting-start : Putting ls b b 0 0
-  putting-start = record { rest = left-start ls; writing = writing-start 0 (joined ls) b (omega (arith, room)) }
+  putting-start = record { rest = left-start ls; writing = writing-start 0 (flatten ls) b (omega (arith, room)) }
 
   module _ {out : List ℕ} {j at : ℕ} (P : Putting ls b out j at) where
     pub putting-long : length out ≡ length b
-    putting-long = writing-long (P .writing) ∙ put-length 0 (joined ls) b (omega (arith, room))
+    putting-long = writing-long (P .writing) ∙ put-length 0 (flatten ls) b (omega (arith, room))
 
     pub putting-turn : {out′ : List ℕ} {r : ℕ} → j < length ls → Puts at (getD ls j []) out out′ r → Putting ls b out′ (j + 1) r
     putting-turn h Q =
         let next = Q .next in
         record {
           rest = left-turn (P .rest) h next;
-          writing = rw add-one (writing-piece (P .writing) (getD ls j []) (joined (drop (suc j) ls)) (joined-step ls j h) (Q .bytes) next);
+          writing = rw add-one (writing-piece (P .writing) (getD ls j []) (flatten (drop (suc j) ls)) (flatten-step ls j h) (Q .bytes) next);
         }
 
-    pub putting-end : length ls ≤ j → Puts 0 (joined ls) b out at
-    unfolding joined
+    pub putting-end : length ls ≤ j → Puts 0 (flatten ls) b out at
+    unfolding flatten
     putting-end h =
-        let none = ap {A = List (List ℕ)} {B = List ℕ} joined (drop-of-length-le ls {i = j} h) in
+        let none = ap {A = List (List ℕ)} {B = List ℕ} flatten (drop-of-length-le ls {i = j} h) in
         record { bytes = writing-end (P .writing) none; next = left-end (P .rest) h ∙ sym (zero-add _) }
 
 -- a gate's line, an output's line
@@ -107,12 +106,12 @@ known-at w (g ∷ gs) (suc j) S h = known-at (suc w) gs j (S .1) (omega arith)
 
 -- line number j after the first of a table of n gates that passed
 module _ (s : List ℕ) (H : Listed s) (j : ℕ) {n : ℕ} (en : n ≡ word s 2) where
-  pub line-known : {x : DG.GateFields} → j < n → GateIs (gateOf (tableOf s) j) x → known (kindOf (x .kind)) ≡ true
+  pub line-known : {x : DGateFields.GateFields} → j < n → GateIs (gateOf (tableOf s) j) x → known (kindOf (x .kind)) ≡ true
   line-known h G =
       rw (G .kind) (known-at (tableOf s .inputs) (tableOf s .gates) j (passed-sound-gates s (H .0)) (omega (arith, gates-of-length s)))
 
   pub gate-line :
-      {i : ℕ} {x : DG.GateFields} → j < n → i ≡ word s 0 → GateIs (gateOf (tableOf s) j) x
+      {i : ℕ} {x : DGateFields.GateFields} → j < n → i ≡ word s 0 → GateIs (gateOf (tableOf s) j) x
       → gateLine (i + j) (gate (kindOf (x .kind)) (x .left) (x .right)) ≡ lineAt s (suc j)
   gate-line h ei G =
       let t = tableOf s in
@@ -149,7 +148,7 @@ module _ (s : List ℕ) {j : ℕ} where
   later-line h = ap (λ (i : ℕ). lineAt s i) {x = suc (j - 1)} {y = j} (omega arith)
 
 -- the call's answer: the refusal, nothing, or the lines
-module _ (s : List ℕ) {f : DR.Refusal} (R : Refused (tableFault s) f) where
+module _ (s : List ℕ) {f : DRefusal.Refusal} (R : Refused (tableFault s) f) where
   pub list-refused :
       {b out : List ℕ} {r : ℕ} → (f .number ≡ 0 → ⊥) → PutsAll (refusalLine (f .number) (f .place)) b out r → ListSays s b out r
   unfolding tableText
@@ -170,7 +169,7 @@ module _ (s : List ℕ) {f : DR.Refusal} (R : Refused (tableFault s) f) where
       let H : Listed s = (list-passed e, omega (arith, eo .0, eo .1)) in (H, omega (arith, eg, eo .0, lines-length s H))
 
   pub list-lines :
-      {b out : List ℕ} {r : ℕ} → f .number ≡ 0 → PutsAll (joined (tableLines (tableOf s))) b out r → ListSays s b out r
+      {b out : List ℕ} {r : ℕ} → f .number ≡ 0 → PutsAll (flatten (tableLines (tableOf s))) b out r → ListSays s b out r
   unfolding tableText
   list-lines e P = rw (list-passed e) P
 

@@ -5,7 +5,7 @@
 -- Assumes nothing.
 use mathlib.Core.Path.{_≡_}
 use mathlib.Core.Bool.{true, cond}
-use mathlib.Core.List.{List, [], _∷_, _++_}
+use mathlib.Core.List.{List, [], _∷_, _++_, flatten}
 use Prim.Native.Nat.{ℕ, suc, _<_}
 use lib.ListN.{getD}
 use Rattle.tables.specs.Refusals.{passed}
@@ -100,15 +100,10 @@ outputLines o (w ∷ ws) = outputLine o w ∷ outputLines (suc o) ws
 abbrev pub tableLines : Table → List (List ℕ)
 tableLines t = inputsLine (t .inputs) ∷ (gateLines (t .inputs) (t .gates) ++ outputLines 0 (t .outputs))
 
--- lines one after the other
-unfoldable pub joined : List (List ℕ) → List ℕ
-joined [] = []
-joined (l ∷ ls) = l ++ joined ls
-
--- the text of the bytes of a table
+-- the text of the bytes of a table: its lines one after the other, or the line of its refusal
 unfoldable pub tableText : List ℕ → List ℕ
 tableText s =
-    let f = tableFault s in cond (passed f) (joined (tableLines (tableOf s))) (refusalLine (f .number) (f .place))
+    let f = tableFault s in cond (passed f) (flatten (tableLines (tableOf s))) (refusalLine (f .number) (f .place))
 
 -- the bytes that hold every table's text: 27 a gate and 18 an output, 65,536 of each; a table has fewer, so that its first line of 13
 -- fits too

@@ -6,7 +6,8 @@ ghost use Prim.Native.Nat.{suc, _+_, _≤_, _<_};
 ghost use lib.ListN.{length};
 ghost use Rattle.tables.specs.Tables.{kindOf, gate, known, tableOf};
 ghost use Rattle.text.specs.Text.{lineOf, refusalLine, Puts, PutsAll};
-ghost use Rattle.listing.specs.Listing.{equalsWord, kindWords, gateLine, outputLine, tableLines, joined};
+ghost use Rattle.listing.specs.Listing.{equalsWord, kindWords, gateLine, outputLine, tableLines};
+ghost use mathlib.Core.List.{flatten};
 ghost use Rattle.listing.specs.Listing.{Listed, lineAt, ListSays};
 
 // Bytes that hold the text of every table: 27 a gate and 18 an output, 65,536 of each; a table has fewer, so that its first line of 13
@@ -104,7 +105,7 @@ fn line_long(table: &[u8], j: usize) -> usize
 // How long the lines of a table are together.
 fn lines_long(table: &[u8], lines: usize) -> usize
     requires { ⌜ Listed (now table) × (lines ≡ length (tableLines (tableOf (now table)))) ⌝ }
-    ensures { λ r. ⌜ r ≡ length (joined (tableLines (tableOf (now (table .entry))))) ⌝ }
+    ensures { λ r. ⌜ r ≡ length (flatten (tableLines (tableOf (now (table .entry))))) ⌝ }
 {
     let mut long = 0;
     let mut j = 0;
@@ -118,8 +119,8 @@ fn lines_long(table: &[u8], lines: usize) -> usize
 // Puts the lines of a table at the front, and answers their length.
 fn put_lines(out: &mut [u8], table: &[u8], lines: usize) -> usize
     requires { ⌜ Listed (now table) × (lines ≡ length (tableLines (tableOf (now table))))
-        × (length (joined (tableLines (tableOf (now table)))) ≤ length (now out)) ⌝ }
-    ensures { λ r. ⌜ Puts 0 (joined (tableLines (tableOf (now (table .entry))))) (now (out .entry)) (now (out .exit)) r ⌝ }
+        × (length (flatten (tableLines (tableOf (now table)))) ≤ length (now out)) ⌝ }
+    ensures { λ r. ⌜ Puts 0 (flatten (tableLines (tableOf (now (table .entry))))) (now (out .entry)) (now (out .exit)) r ⌝ }
 {
     let mut at = 0;
     let mut j = 0;

@@ -222,7 +222,8 @@ pub one-pair :
     → ai ≡ share a i → bj ≡ share b j → aj ≡ share a j → bi ≡ share b i → p ≡ suc i → q ≡ suc j
     → let v : ℕ → ℕ = λ p. getD x p 0 in
     let u : ℕ → ℕ = λ p. getD y p 0 in
-    BothFlip (map (G .gates w ai bj aj bi) allFive) (G .flip k p q (differs (v ai) (v bj) (u ai) (u bj)) (differs (v aj) (v bi) (u aj) (u bi)) ∷ []) ts at w
+    BothFlip (map (G .gates w ai bj aj bi) allFive)
+    (G .flip k p q (differs (v ai) (v bj) (u ai) (u bj)) (differs (v aj) (v bi) (u aj) (u bi)) ∷ []) ts at w
     m m′ x x′ y y′
     → BothFlip (inTurn 5 w (pairOf i j ∷ []) (pairGates G a b)) (map (wiresFlip G k a b v u) (pairOf i j ∷ [])) ts at w
     m m′ x x′ y y′

@@ -3,7 +3,7 @@
 use mathlib.Core.List.{List, map}
 use Prim.Native.Nat.{ℕ, suc, _-_}
 use lib.ListN.{getD}
-use Rattle.layout.specs.declared.Places as DP
+use Rattle.layout.specs.declared.Places as DPlaces
 use Rattle.construction.specs.Shares.{upFrom, inTurn, Pair, pairOf}
 use Rattle.construction.specs.Gadgets.{Gadget}
 use Rattle.secrecy.specs.Both.{wiresFlip, BothFlip}
@@ -15,7 +15,7 @@ sharePairs n i = upFrom (n - suc i) (suc i) (λ j. pairOf i j)
 
 -- the pairs ps run on in both runs, and what they flip is read off the values x and y so far
 abbrev pub PairsRan :
-    Gadget → ℕ → ℕ → DP.Places → DP.Places → List Pair → List ℕ → ℕ → ℕ
+    Gadget → ℕ → ℕ → DPlaces.Places → DPlaces.Places → List Pair → List ℕ → ℕ → ℕ
     → List ℕ → List ℕ → List ℕ → List ℕ → List ℕ → List ℕ → Type 0
 PairsRan G n k a b ps ts at w m m′ x x′ y y′ =
     BothFlip

@@ -25,7 +25,8 @@ fn map_share(
     requires { ⌜ (i < n) × SharesBefore n w a b
         × BothReady w (5 * (n - suc i)) at (n - suc i) (unpacked (now tape)) (unpacked (now mapped)) (now one) (now other) ⌝ }
     ensures { λ _. ⌜ PairsRan (gadgetOf and) n k a b (sharePairs n i) (unpacked (now (tape .entry))) at w
-        (unpacked (now (mapped .entry))) (unpacked (now (mapped .exit))) (now (one .entry)) (now (one .exit)) (now (other .entry)) (now (other .exit)) ⌝ }
+        (unpacked (now (mapped .entry))) (unpacked (now (mapped .exit))) (now (one .entry))
+        (now (one .exit)) (now (other .entry)) (now (other .exit)) ⌝ }
 {
     let ai = layout::share_wire(a, i);
     let bi = layout::share_wire(b, i);
@@ -72,7 +73,8 @@ pub fn map_pairs(
     requires { ⌜ SharesBefore n w a b × (w + 5 * tri n ≤ 65535)
         × BothReady w (5 * tri n) at (tri n) (unpacked (now tape)) (unpacked (now mapped)) (now one) (now other) ⌝ }
     ensures { λ _. ⌜ PairsRan (gadgetOf and) n k a b (pairs n) (unpacked (now (tape .entry))) at w
-        (unpacked (now (mapped .entry))) (unpacked (now (mapped .exit))) (now (one .entry)) (now (one .exit)) (now (other .entry)) (now (other .exit)) ⌝ }
+        (unpacked (now (mapped .entry))) (unpacked (now (mapped .exit))) (now (one .entry))
+        (now (one .exit)) (now (other .entry)) (now (other .exit)) ⌝ }
 {
     let mut v = w;
     let mut next = at;

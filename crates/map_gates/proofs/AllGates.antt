@@ -7,15 +7,16 @@ use native.Mathlib.Numerals.{add-one}
 use native.Mathlib.Omega.{arith}
 use lib.ListN.{length, getD, take, drop, drop-of-length-le}
 use lib.Seq.{drop-cons}
-use Rattle.tables.specs.declared.GateFields as DG
+use Rattle.tables.specs.declared.GateFields as DGateFields
 use Rattle.tables.specs.Tables.{kindOf, Gate, noGate, Table, gateOf, tableOf, operandsOf, total}
 use Rattle.tables.specs.Inside.{ranOn, GateIs}
 use Rattle.tables.proofs.Run.{read-left, read-right}
 use Rattle.construction.specs.Gadgets.{Gadget}
-use Rattle.construction.specs.Wires.{driverOf, share, newWires, newShares, cost, draws, masked, inputShares, sharesAfter}
+use Rattle.construction.specs.Wires.{driverOf, share, newWires, newShares, cost, masked, inputShares, sharesAfter}
+use Rattle.construction.specs.Counts.{draws}
 use Rattle.construction.proofs.Lawful.{Lawful}
 use Rattle.construction.proofs.Placed.{placed-at, placed-inputs, share-below, new-wires-read}
-use Rattle.planning.specs.declared.Plan as DP
+use Rattle.planning.specs.declared.Plan as DPlan
 use Rattle.planning.specs.Plans.{PlanReady}
 use Rattle.planning.proofs.Planning.{plan-passed}
 use Rattle.secrecy.specs.Maps.{flipped, gateFlips, mapGates}
@@ -24,7 +25,7 @@ use Rattle.construction.proofs.Placed.{plain-inputs}
 use Rattle.secrecy.proofs.Flips.{gate-flips-read}
 use Rattle.secrecy.proofs.Both.{left-long}
 use Rattle.secrecy.proofs.MapGates.{GatesLeft, gates-start, gates-ready, gates-more, gates-end}
-use Rattle.layout.specs.declared.Places as DW
+use Rattle.layout.specs.declared.Places as DPlaces
 use Rattle.layout.specs.Layout.{shareWires}
 use Rattle.share_places.specs.Located.{placesAt, Room, Located, sharesTo, gateWire}
 use Rattle.share_places.proofs.Located.{gate-wire-next, shares-to-next, shares-to-length, located-at}
@@ -58,7 +59,7 @@ Going G t n k ts at₀ m₀ x₀ y₀ g w at m x y =
     Stepping G t n k ts (flipsAt at₀ (flipped rs ss) m₀) (ranOn (allGates G t n) rs w₀ x₀) (ranOn (allGates G t n) ss w₀ y₀) g w at m x y
 
 pub steps-start :
-    {G : Gadget} → Lawful G → {s : List ℕ} {p : DP.Plan} (k : ℕ) {w at : ℕ} {ts m x y : List ℕ} → PlanReady s p → w ≡ p .shares * p .inputs
+    {G : Gadget} → Lawful G → {s : List ℕ} {p : DPlan.Plan} (k : ℕ) {w at : ℕ} {ts m x y : List ℕ} → PlanReady s p → w ≡ p .shares * p .inputs
     → BothReady (p .shares * tableOf s .inputs) (total (λ kd. cost kd (p .shares)) (tableOf s .gates)) at
     (total (λ kd. draws kd (p .shares)) (tableOf s .gates)) ts m x y
     → Going G (tableOf s) (p .shares) k ts at m x y 0 w at m x y
@@ -79,7 +80,8 @@ steps-start L {s} {p} k {w} R e both =
     })
 
 -- at gate g, whose fields are r, where the arrays say where its operands' shares are
-module _ {G : Gadget} (L : Lawful G) {s : List ℕ} {p : DP.Plan} {k : ℕ} {ts M A B : List ℕ} {g w at : ℕ} {m x y : List ℕ} {r : DG.GateFields}
+module _ {G : Gadget} (L : Lawful G) {s : List ℕ} {p : DPlan.Plan} {k : ℕ} {ts M A B : List ℕ}
+    {g w at : ℕ} {m x y : List ℕ} {r : DGateFields.GateFields}
     {H D T : List ℕ}
     (R : PlanReady s p)
     (P : Stepping G (tableOf s) (p .shares) k ts M A B g w at m x y)
@@ -92,10 +94,10 @@ module _ {G : Gadget} (L : Lawful G) {s : List ℕ} {p : DP.Plan} {k : ℕ} {ts 
   abbrev n : ℕ
   n = p .shares
 
-  abbrev a : DW.Places
+  abbrev a : DPlaces.Places
   a = placesAt H D T (r .left)
 
-  abbrev b : DW.Places
+  abbrev b : DPlaces.Places
   b = placesAt H D T (r .right)
 
   abbrev this : Gate

@@ -15,14 +15,14 @@ use Rattle.construction.proofs.Rows.{pairs-length}
 use Rattle.construction.proofs.Lawful.{Lawful}
 use Rattle.secrecy.specs.Both.{wiresFlip, BothFlip, BothReady}
 use Rattle.secrecy.proofs.Both.{flips-after, flips-append, both-none, both-less}
-use Rattle.layout.specs.declared.Places as DP
+use Rattle.layout.specs.declared.Places as DPlaces
 use Rattle.layout.specs.Layout.{shareWires, pairGates, rowGates, rowsGates}
-use Rattle.layout.proofs.Bytes.{joined-long}
+use Rattle.layout.proofs.Bytes.{pieces-long}
 use Rattle.layout.proofs.Pieces.{row-long}
 use Rattle.map_all_pairs.specs.Pairing.{PairsRan}
 use Rattle.map_all_pairs.proofs.Pairs.{pairs-long, pairs-draw}
 
-module _ {G : Gadget} (L : Lawful G) (n k w : ℕ) (a b : DP.Places) {ts : List ℕ} {at : ℕ} {m x y m₁ x₁ y₁ : List ℕ}
+module _ {G : Gadget} (L : Lawful G) (n k w : ℕ) (a b : DPlaces.Places) {ts : List ℕ} {at : ℕ} {m x y m₁ x₁ y₁ : List ℕ}
     (R : BothReady w (cost AND n) at (tri n) ts m x y)
     (ran : PairsRan G n k a b (pairs n) ts at w m m₁ x x₁ y y₁) where
   abbrev A : List ℕ
@@ -45,7 +45,7 @@ module _ {G : Gadget} (L : Lawful G) (n k w : ℕ) (a b : DP.Places) {ts : List 
 
   rows-long : length rows ≡ n * n
   rows-long =
-      joined-long n n 0 (λ i. rowGates G n w (w + 5 * tri n + n * i) A B i)
+      pieces-long n n 0 (λ i. rowGates G n w (w + 5 * tri n + n * i) A B i)
       (λ i h. row-long G n w (w + 5 * tri n + n * i) A B i (omega arith))
 
   flips-long : length flips ≡ tri n

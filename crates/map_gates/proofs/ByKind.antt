@@ -13,14 +13,14 @@ use Rattle.construction.specs.Wires.{andPart, driverOf, newWires}
 use Rattle.secrecy.specs.Maps.{gateFlips}
 use Rattle.secrecy.specs.Both.{BothFlip}
 use Rattle.secrecy.proofs.Both.{both-none}
-use Rattle.layout.specs.declared.Places as DP
-use Rattle.layout.specs.Layout.{shareWires, joined, xorGates, constantGates}
+use Rattle.layout.specs.declared.Places as DPlaces
+use Rattle.layout.specs.Layout.{shareWires, piecesFrom, xorGates, constantGates}
 use Rattle.layout.proofs.Pieces.{and-gates, or-gates, xor-gates, constant-gates}
 use Rattle.map_values.specs.Driving.{SharesBefore}
 use Rattle.map_gates.specs.Steps.{productKind, productGates, StepReady, GateRan}
 use Rattle.map_gates.proofs.Or.{ProductReady}
 
-module _ {kind left n w : ℕ} {a b : DP.Places} {ts : List ℕ} {at : ℕ} {m x y : List ℕ} (R : StepReady kind left n w a b ts at m x y) where
+module _ {kind left n w : ℕ} {a b : DPlaces.Places} {ts : List ℕ} {at : ℕ} {m x y : List ℕ} (R : StepReady kind left n w a b ts at m x y) where
   ready-as : (k : ℕ) → kind ≡ k → StepReady k left n w a b ts at m x y
   ready-as k e = subst (λ (z : ℕ). StepReady z left n w a b ts at m x y) e R
 
@@ -39,30 +39,30 @@ module _ {kind left n w : ℕ} {a b : DP.Places} {ts : List ℕ} {at : ℕ} {m x
 
 -- gates that draw nothing
 none-drawn :
-    (G : Gadget) (kind left n k g w : ℕ) (a b : DP.Places) (ts : List ℕ) (at : ℕ) {m x x′ y y′ : List ℕ} (gs : List Gate)
+    (G : Gadget) (kind left n k g w : ℕ) (a b : DPlaces.Places) (ts : List ℕ) (at : ℕ) {m x x′ y y′ : List ℕ} (gs : List Gate)
     → map driverOf (newWires G (kindOf kind) left n g w (shareWires n a) (shareWires n b)) ≡ gs
     → gateFlips G (kindOf kind) n k (shareWires n a) (shareWires n b) (λ p. getD x p 0) (λ p. getD y p 0) ≡ []
     → x′ ≡ ranOn gs [] w x → y′ ≡ ranOn gs [] w y → GateRan G kind left n k g w a b ts at m m x x′ y y′
 none-drawn G kind left n k g w a b ts at {m} {x} {x′} {y} {y′} gs are none one other =
     subst₂ (λ (hs : List Gate) (fs : List ℕ). BothFlip hs fs ts at w m m x x′ y y′) (sym are) (sym none) (both-none gs at w ts m one other)
 
-module _ (G : Gadget) {kind : ℕ} (left n k g w : ℕ) (a b : DP.Places) (ts : List ℕ) (at : ℕ) {m x x′ y y′ : List ℕ} where
+module _ (G : Gadget) {kind : ℕ} (left n k g w : ℕ) (a b : DPlaces.Places) (ts : List ℕ) (at : ℕ) {m x x′ y y′ : List ℕ} where
   pub xor-gate :
-      kind ≡ 1 → x′ ≡ ranOn (joined n 0 (xorGates (shareWires n a) (shareWires n b))) [] w x
-      → y′ ≡ ranOn (joined n 0 (xorGates (shareWires n a) (shareWires n b))) [] w y
+      kind ≡ 1 → x′ ≡ ranOn (piecesFrom n 0 (xorGates (shareWires n a) (shareWires n b))) [] w x
+      → y′ ≡ ranOn (piecesFrom n 0 (xorGates (shareWires n a) (shareWires n b))) [] w y
       → GateRan G kind left n k g w a b ts at m m x x′ y y′
   xor-gate e one other =
-      none-drawn G kind left n k g w a b ts at (joined n 0 (xorGates (shareWires n a) (shareWires n b)))
+      none-drawn G kind left n k g w a b ts at (piecesFrom n 0 (xorGates (shareWires n a) (shareWires n b)))
       (rw e (xor-gates G left n g w (shareWires n a) (shareWires n b)))
       (rw e)
       one
       other
 
   pub constant-gate :
-      {l : ℕ} → kind ≡ 4 → l ≡ left → x′ ≡ ranOn (joined n 0 (constantGates l)) [] w x → y′ ≡ ranOn (joined n 0 (constantGates l)) [] w y
+      {l : ℕ} → kind ≡ 4 → l ≡ left → x′ ≡ ranOn (piecesFrom n 0 (constantGates l)) [] w x → y′ ≡ ranOn (piecesFrom n 0 (constantGates l)) [] w y
       → GateRan G kind left n k g w a b ts at m m x x′ y y′
   constant-gate {l} e value one other =
-      none-drawn G kind left n k g w a b ts at (joined n 0 (constantGates l))
+      none-drawn G kind left n k g w a b ts at (piecesFrom n 0 (constantGates l))
       (rw (e, value) (constant-gates G left n g w (shareWires n a) (shareWires n b)))
       (rw e)
       one
@@ -85,7 +85,7 @@ product-cases P and or (suc (suc (suc (suc (suc zero))))) plain h k l = or
 product-cases P and or (suc (suc (suc (suc (suc (suc kind)))))) plain h k l = absurd (omega (arith, plain .0))
 
 pub product-ready :
-    {kind left n w : ℕ} {a b : DP.Places} {ts : List ℕ} {at : ℕ} {m x y : List ℕ} → StepReady kind left n w a b ts at m x y
+    {kind left n w : ℕ} {a b : DPlaces.Places} {ts : List ℕ} {at : ℕ} {m x y : List ℕ} → StepReady kind left n w a b ts at m x y
     → (kind ≡ 4 → ⊥) → (kind ≡ 0 → ⊥) → (kind ≡ 1 → ⊥) → ProductReady (eqb kind 5) n w a b ts at m x y
 product-ready {kind} {left} {n} {w} {a} {b} {ts} {at} {m} {x} {y} R h k l =
     product-cases (λ z. StepReady z left n w a b ts at m x y → ProductReady (eqb z 5) n w a b ts at m x y)
@@ -99,7 +99,7 @@ product-ready {kind} {left} {n} {w} {a} {b} {ts} {at} {m} {x} {y} R h k l =
     R
 
 pub product-gate :
-    (G : Gadget) (kind left n k g w : ℕ) (a b : DP.Places) (ts : List ℕ) (at : ℕ) {m m′ x x′ y y′ : List ℕ} → PlainByte kind → (kind ≡ 4 → ⊥)
+    (G : Gadget) (kind left n k g w : ℕ) (a b : DPlaces.Places) (ts : List ℕ) (at : ℕ) {m m′ x x′ y y′ : List ℕ} → PlainByte kind → (kind ≡ 4 → ⊥)
     → (kind ≡ 0 → ⊥) → (kind ≡ 1 → ⊥)
     → BothFlip (productGates G (eqb kind 5) n w (shareWires n a) (shareWires n b))
     (gateFlips G (productKind (eqb kind 5)) n k (shareWires n a) (shareWires n b) (λ p. getD x p 0) (λ p. getD y p 0)) ts at w m m′ x x′ y y′
@@ -120,13 +120,13 @@ product-gate G kind left n k g w a b ts at {m} {m′} {x} {x′} {y} {y′} plai
 
 -- places that were read are where the shares are
 pub ready-where :
-    {kind left n w : ℕ} {a a′ b b′ : DP.Places} {ts : List ℕ} {at : ℕ} {m x y : List ℕ} → StepReady kind left n w a′ b′ ts at m x y → a ≡ a′
+    {kind left n w : ℕ} {a a′ b b′ : DPlaces.Places} {ts : List ℕ} {at : ℕ} {m x y : List ℕ} → StepReady kind left n w a′ b′ ts at m x y → a ≡ a′
     → b ≡ b′ → StepReady kind left n w a b ts at m x y
 ready-where {kind} {left} {n} {w} {ts = ts} {at} {m} {x} {y} R ea eb =
-    subst₂ {A = DP.Places} {B = DP.Places} (λ a b. StepReady kind left n w a b ts at m x y) (sym ea) (sym eb) R
+    subst₂ {A = DPlaces.Places} {B = DPlaces.Places} (λ a b. StepReady kind left n w a b ts at m x y) (sym ea) (sym eb) R
 
 pub ran-where :
-    (G : Gadget) (kind left n k g w : ℕ) {a a′ b b′ : DP.Places} (ts : List ℕ) (at : ℕ) (m m′ x x′ y y′ : List ℕ) → a ≡ a′ → b ≡ b′
+    (G : Gadget) (kind left n k g w : ℕ) {a a′ b b′ : DPlaces.Places} (ts : List ℕ) (at : ℕ) (m m′ x x′ y y′ : List ℕ) → a ≡ a′ → b ≡ b′
     → GateRan G kind left n k g w a b ts at m m′ x x′ y y′ → GateRan G kind left n k g w a′ b′ ts at m m′ x x′ y y′
 ran-where G kind left n k g w ts at m m′ x x′ y y′ ea eb ran =
-    subst₂ {A = DP.Places} {B = DP.Places} (λ a b. GateRan G kind left n k g w a b ts at m m′ x x′ y y′) ea eb ran
+    subst₂ {A = DPlaces.Places} {B = DPlaces.Places} (λ a b. GateRan G kind left n k g w a b ts at m m′ x x′ y y′) ea eb ran

@@ -24,7 +24,7 @@ use Rattle.secrecy.specs.Maps.{gateFlips}
 use Rattle.secrecy.specs.Both.{BothFlip, BothReady}
 use Rattle.secrecy.proofs.Flips.{gate-flips-length, pairs-flips-same, first-not-same, first-not-flips}
 use Rattle.secrecy.proofs.Both.{run-after, flips-after, flips-append, both-none, both-less}
-use Rattle.layout.specs.declared.Places as DP
+use Rattle.layout.specs.declared.Places as DPlaces
 use Rattle.layout.specs.Layout.{shareWires, andGates, orGates}
 use Rattle.layout.proofs.ShareWires.{first-each}
 use Rattle.layout.proofs.Pieces.{and-gates, and-gates-long}
@@ -53,7 +53,7 @@ nots-ran w l r {x} {x₁} hl hr fits e =
       keep = λ p h. sym (ap (λ (l : List ℕ). getD l p 0) e ∙ ran-keep gs [] w x fits p h);
     }
 
-module _ (n w : ℕ) (a b p q : DP.Places) {ts : List ℕ} {at : ℕ} {m x y x₁ y₁ : List ℕ}
+module _ (n w : ℕ) (a b p q : DPlaces.Places) {ts : List ℕ} {at : ℕ} {m x y x₁ y₁ : List ℕ}
     (some : 1 ≤ n)
     (before : SharesBefore n w a b)
     (R : BothReady w (cost OR n) at (tri n) ts m x y)
@@ -172,7 +172,7 @@ module _ (n w : ℕ) (a b p q : DP.Places) {ts : List ℕ} {at : ℕ} {m x y x�
 
 -- an AND or an OR that has begun: its AND is from wire v on, between shares at p and q; the values are x₁ and y₁, where they were
 -- x and y
-pub record Begun (or : Bool) (n w : ℕ) (a b p q : DP.Places) (v : ℕ) (x y x₁ y₁ : List ℕ) : Type 0 where
+pub record Begun (or : Bool) (n w : ℕ) (a b p q : DPlaces.Places) (v : ℕ) (x y x₁ y₁ : List ℕ) : Type 0 where
   pub wire : v ≡ cond or (w + 2) w
   pub left : shareWires n p ≡ firstOn (cond or w (a .head)) (shareWires n a)
   pub right : shareWires n q ≡ firstOn (cond or (w + 1) (b .head)) (shareWires n b)
@@ -180,19 +180,19 @@ pub record Begun (or : Bool) (n w : ℕ) (a b p q : DP.Places) (v : ℕ) (x y x�
   pub other : y₁ ≡ cond or (ranOn (notGates (a .head) (b .head)) [] w y) y
 
 -- what `map_product` takes
-abbrev pub ProductReady : Bool → ℕ → ℕ → DP.Places → DP.Places → List ℕ → ℕ → List ℕ → List ℕ → List ℕ → Type 0
+abbrev pub ProductReady : Bool → ℕ → ℕ → DPlaces.Places → DPlaces.Places → List ℕ → ℕ → List ℕ → List ℕ → List ℕ → Type 0
 ProductReady or n w a b ts at m x y =
     (1 ≤ n) × SharesBefore n w a b × (w + cost (productKind or) n ≤ 65535) × BothReady w (cost (productKind or) n) at (tri n) ts m x y
 
 pub product-nots-ready :
-    (or : Bool) {n w : ℕ} {a b : DP.Places} {ts : List ℕ} {at : ℕ} {m x y : List ℕ} → ProductReady or n w a b ts at m x y → or ≡ true
+    (or : Bool) {n w : ℕ} {a b : DPlaces.Places} {ts : List ℕ} {at : ℕ} {m x y : List ℕ} → ProductReady or n w a b ts at m x y → or ≡ true
     → RunsTo w 2 x × RunsTo w 2 y × (a .head < w) × (b .head < w)
 product-nots-ready true P e =
     (runs-less 2 (P .3 .one) (omega arith), runs-less 2 (P .3 .other) (omega arith), P .1 .left 0 (P .0), P .1 .right 0 (P .0))
 product-nots-ready false P e = absurd (false≢true e)
 
 pub product-and-ready :
-    (or : Bool) {n w v : ℕ} {a b p q : DP.Places} {ts : List ℕ} {at : ℕ} {m x y x₁ y₁ : List ℕ} → ProductReady or n w a b ts at m x y
+    (or : Bool) {n w v : ℕ} {a b p q : DPlaces.Places} {ts : List ℕ} {at : ℕ} {m x y x₁ y₁ : List ℕ} → ProductReady or n w a b ts at m x y
     → Begun or n w a b p q v x y x₁ y₁ → SharesBefore n v p q × (v + cost AND n ≤ 65535) × BothReady v (cost AND n) at (tri n) ts m x₁ y₁
 product-and-ready true {n} {w} {a = a} {b} {p} {q} P S =
     let ready = or-and-ready n w a b p q (P .0) (P .1) (P .3) (S .left) (S .right) (S .one) (S .other) (omega (arith, P .2)) in
@@ -212,13 +212,13 @@ product-and-ready false {n} {w} P S =
 
 -- the AND has run on
 abbrev AndRan :
-    Gadget → ℕ → ℕ → DP.Places → DP.Places → ℕ → List ℕ → ℕ → List ℕ → List ℕ → List ℕ → List ℕ → List ℕ → List ℕ → Type 0
+    Gadget → ℕ → ℕ → DPlaces.Places → DPlaces.Places → ℕ → List ℕ → ℕ → List ℕ → List ℕ → List ℕ → List ℕ → List ℕ → List ℕ → Type 0
 AndRan G n k p q v ts at m m₂ x₁ x₂ y₁ y₂ =
     BothFlip (andGates G n v (shareWires n p) (shareWires n q))
     (gateFlips G AND n k (shareWires n p) (shareWires n q) (λ i. getD x₁ i 0) (λ i. getD y₁ i 0)) ts at v m m₂ x₁ x₂ y₁ y₂
 
 pub product-last-ready :
-    {G : Gadget} → Lawful G → (or : Bool) (k : ℕ) {n w v : ℕ} {a b p q : DP.Places} {ts : List ℕ} {at : ℕ} {m m₂ x y x₁ y₁ x₂ y₂ : List ℕ}
+    {G : Gadget} → Lawful G → (or : Bool) (k : ℕ) {n w v : ℕ} {a b p q : DPlaces.Places} {ts : List ℕ} {at : ℕ} {m m₂ x y x₁ y₁ x₂ y₂ : List ℕ}
     → ProductReady or n w a b ts at m x y → Begun or n w a b p q v x y x₁ y₁ → AndRan G n k p q v ts at m m₂ x₁ x₂ y₁ y₂ → or ≡ true
     → (1 ≤ n) × (n ≤ 31) × (v + andCost n ≤ 65535) × RunsTo (v + andCost n) 1 x₂ × RunsTo (v + andCost n) 1 y₂
 product-last-ready L true k {n} {w} {a = a} {b} {p} {q} P S ran e =
@@ -227,7 +227,7 @@ product-last-ready L true k {n} {w} {a = a} {b} {p} {q} P S ran e =
 product-last-ready L false k P S ran e = absurd (false≢true e)
 
 pub product-ran :
-    {G : Gadget} → Lawful G → (or : Bool) (k : ℕ) {n w v : ℕ} {a b p q : DP.Places} {ts : List ℕ} {at : ℕ} {m m₂ x y x₁ y₁ x₂ y₂ x₃ y₃ : List ℕ}
+    {G : Gadget} → Lawful G → (or : Bool) (k : ℕ) {n w v : ℕ} {a b p q : DPlaces.Places} {ts : List ℕ} {at : ℕ} {m m₂ x y x₁ y₁ x₂ y₂ x₃ y₃ : List ℕ}
     → ProductReady or n w a b ts at m x y → Begun or n w a b p q v x y x₁ y₁ → AndRan G n k p q v ts at m m₂ x₁ x₂ y₁ y₂
     → x₃ ≡ cond or (ranOn (lastGates n v) [] (v + andCost n) x₂) x₂ → y₃ ≡ cond or (ranOn (lastGates n v) [] (v + andCost n) y₂) y₂
     → BothFlip (productGates G or n w (shareWires n a) (shareWires n b))

@@ -9,8 +9,9 @@ use lib.ListN.{getD, take, drop}
 use Rattle.tables.specs.Tables.{Kind, NOT, AND, OR, kindOf, Gate, gate, Table, total}
 use Rattle.tables.specs.Inside.{PlainByte}
 use Rattle.construction.specs.Gadgets.{Gadget}
-use Rattle.construction.specs.Wires.{driverOf, share, andShares, newWires, cost, draws, masked, inputShares}
-use Rattle.layout.specs.declared.Places as DP
+use Rattle.construction.specs.Wires.{driverOf, share, andShares, newWires, cost, masked, inputShares}
+use Rattle.construction.specs.Counts.{draws}
+use Rattle.layout.specs.declared.Places as DPlaces
 use Rattle.layout.specs.Layout.{shareWires, andGates, orGates}
 use Rattle.secrecy.specs.Maps.{gateFlips, mapGates}
 use Rattle.secrecy.specs.Both.{BothRan, BothFlip, BothReady}
@@ -33,7 +34,7 @@ abbrev pub lastGates : ℕ → ℕ → List Gate
 lastGates n w = gate NOT (share (andShares n w) 0) 0 ∷ []
 
 -- a gate of a plain table, from wire w and from a place of the tape on; a constant reads no shares, and its left operand is a bit
-pub record StepReady (kind left n w : ℕ) (a b : DP.Places) (ts : List ℕ) (at : ℕ) (m x y : List ℕ) : Type 0 where
+pub record StepReady (kind left n w : ℕ) (a b : DPlaces.Places) (ts : List ℕ) (at : ℕ) (m x y : List ℕ) : Type 0 where
   pub plain : PlainByte kind
   pub value : kind ≡ 4 → left ≤ 1
   pub some : 1 ≤ n
@@ -43,7 +44,7 @@ pub record StepReady (kind left n w : ℕ) (a b : DP.Places) (ts : List ℕ) (at
 
 -- plain gate g has run on in both runs, and what it flips is read off the values x and y so far
 abbrev pub GateRan :
-    Gadget → ℕ → ℕ → ℕ → ℕ → ℕ → ℕ → DP.Places → DP.Places → List ℕ → ℕ
+    Gadget → ℕ → ℕ → ℕ → ℕ → ℕ → ℕ → DPlaces.Places → DPlaces.Places → List ℕ → ℕ
     → List ℕ → List ℕ → List ℕ → List ℕ → List ℕ → List ℕ → Type 0
 GateRan G kind left n k g w a b ts at m m′ x x′ y y′ =
     BothFlip

@@ -9,7 +9,8 @@ ghost use Rattle.tables.specs.Inside.{ranOn, RunsTo};
 ghost use Rattle.tables.specs.Packing.{unpacked};
 ghost use Rattle.construction.specs.Shares.{pairs, tri};
 ghost use Rattle.construction.specs.Gadgets.{gadgetOf};
-ghost use Rattle.construction.specs.Wires.{andCost, cost, draws};
+ghost use Rattle.construction.specs.Wires.{andCost, cost};
+ghost use Rattle.construction.specs.Counts.{draws};
 ghost use Rattle.secrecy.specs.Maps.{gateFlips};
 ghost use Rattle.secrecy.specs.Both.{wiresFlip, BothFlip, BothReady};
 ghost use Rattle.planning.specs.Plans.{PlanReady};
@@ -40,7 +41,8 @@ fn map_and(
         (wiresFlip (gadgetOf and) k (shareWires n a) (shareWires n b) (λ p. getD (now (one .entry)) p 0) (λ p. getD (now (other .entry)) p 0))
         (pairs n))
         (unpacked (now (tape .entry))) at w
-        (unpacked (now (mapped .entry))) (unpacked (now (mapped .exit))) (now (one .entry)) (now (one .exit)) (now (other .entry)) (now (other .exit)) ⌝ }
+        (unpacked (now (mapped .entry))) (unpacked (now (mapped .exit))) (now (one .entry))
+        (now (one .exit)) (now (other .entry)) (now (other .exit)) ⌝ }
 {
     let v = w + 5 * construction::pair_count(n);
     map_all_pairs::map_pairs(and, k, n, w, a, b, tape, at, mapped, one, other);
@@ -94,9 +96,11 @@ fn map_product(
         × BothReady w (cost (productKind or) n) at (tri n) (unpacked (now tape)) (unpacked (now mapped)) (now one) (now other) ⌝ }
     ensures { λ _. ⌜ BothFlip
         (productGates (gadgetOf and) or n w (shareWires n a) (shareWires n b))
-        (gateFlips (gadgetOf and) (productKind or) n k (shareWires n a) (shareWires n b) (λ p. getD (now (one .entry)) p 0) (λ p. getD (now (other .entry)) p 0))
+        (gateFlips (gadgetOf and) (productKind or) n k (shareWires n a) (shareWires n b)
+        (λ p. getD (now (one .entry)) p 0) (λ p. getD (now (other .entry)) p 0))
         (unpacked (now (tape .entry))) at w
-        (unpacked (now (mapped .entry))) (unpacked (now (mapped .exit))) (now (one .entry)) (now (one .exit)) (now (other .entry)) (now (other .exit)) ⌝ }
+        (unpacked (now (mapped .entry))) (unpacked (now (mapped .exit))) (now (one .entry))
+        (now (one .exit)) (now (other .entry)) (now (other .exit)) ⌝ }
 {
     let x = layout::first_on(tables::either(or, w, a.head), a);
     let y = layout::first_on(tables::either(or, w + 1, b.head), b);
@@ -131,7 +135,8 @@ fn map_gate(
         (placesAt (now (head .entry)) (now (base .entry)) (now (step .entry)) left)
         (placesAt (now (head .entry)) (now (base .entry)) (now (step .entry)) right)
         (unpacked (now (tape .entry))) at
-        (unpacked (now (mapped .entry))) (unpacked (now (mapped .exit))) (now (one .entry)) (now (one .exit)) (now (other .entry)) (now (other .exit))) ⌝ }
+        (unpacked (now (mapped .entry))) (unpacked (now (mapped .exit))) (now (one .entry))
+        (now (one .exit)) (now (other .entry)) (now (other .exit))) ⌝ }
 {
     if kind == 4 {
         map_values::run_constants(one, w, n, left as u8);
@@ -173,7 +178,8 @@ pub fn map_gates(
         × BothReady (p .shares * tableOf (now table) .inputs) (total (λ kd. cost kd (p .shares)) (tableOf (now table) .gates)) at
         (total (λ kd. draws kd (p .shares)) (tableOf (now table) .gates)) (unpacked (now tape)) (unpacked (now mapped)) (now one) (now other) ⌝ }
     ensures { λ _. ⌜ GatesRan (gadgetOf and) (p .shares) k (tableOf (now (table .entry))) (unpacked (now (tape .entry))) at
-        (unpacked (now (mapped .entry))) (unpacked (now (mapped .exit))) (now (one .entry)) (now (one .exit)) (now (other .entry)) (now (other .exit)) ⌝ }
+        (unpacked (now (mapped .entry))) (unpacked (now (mapped .exit))) (now (one .entry))
+        (now (one .exit)) (now (other .entry)) (now (other .exit)) ⌝ }
 {
     let n = p.shares;
     let gates = p.gates;

@@ -6,18 +6,17 @@ use Prim.Native.Nat.{ℕ, _*_, _≤_}
 use native.Mathlib.Omega.{arith}
 use lib.ListN.{length, take, drop}
 use lib.Seq.{take-at}
-use Rattle.tables.specs.Runs.{Bits}
 use Rattle.tables.specs.Packing.{unpacked, tapeOf}
 use Rattle.tables.specs.Says.{over}
-use Rattle.tables.specs.Inside.{putAt}
+use Rattle.tables.specs.Inside.{Bits, putAt}
 use Rattle.tables.proofs.Lists.{bits-take}
 use Rattle.tables.proofs.Put.{put-zero, over-length}
 use Rattle.tables.proofs.Packing.{unpacked-length, unpacked-bits, tape-long, tape-bits}
 use Rattle.construction.specs.Shares.{sharesOf}
 use Rattle.construction.specs.Codes.{encode}
 use Rattle.construction.proofs.Codes.{encode-length, encode-bits}
-use Rattle.secrecy.specs.Maps.{flipped, inputFlips}
-use Rattle.secrecy.specs.Both.{flipsAt, eachFlip}
+use Rattle.secrecy.specs.Maps.{flipped, eachFlip, inputFlips}
+use Rattle.secrecy.specs.Both.{flipsAt}
 use Rattle.secrecy.proofs.Inputs.{encode-flipped}
 use Rattle.secrecy.proofs.FlipsAt.{flips-at-front}
 use Rattle.map_inputs.specs.Flipping.{FlipReady, BeginReady, BegunSays}

@@ -8,10 +8,12 @@ use native.Mathlib.Numerals.{add-one}
 use native.Mathlib.Omega.{arith}
 use lib.ListN.{length, getD, take, drop, set, length-append, length-set, drop-of-length-le}
 use lib.Seq.{drop-cons, getD-take}
-use Rattle.tables.specs.Runs.{Bits, xor}
+use Rattle.tables.specs.Runs.{xor}
+use Rattle.tables.specs.Inside.{Bits}
 use Rattle.construction.specs.Shares.{upFrom}
 use Rattle.construction.proofs.Sum.{up-length}
-use Rattle.secrecy.specs.Both.{flipsAt, eachFlip}
+use Rattle.secrecy.specs.Maps.{eachFlip}
+use Rattle.secrecy.specs.Both.{flipsAt}
 use Rattle.secrecy.proofs.Inputs.{onlyAt, only-before, zero-append}
 use Rattle.secrecy.proofs.FlipsAt.{flips-at-nil, flips-at-append, flips-at-one, flips-at-none, flips-at-bits, flips-at-only}
 use Rattle.map_inputs.specs.Flipping.{FlipReady}

@@ -5,7 +5,7 @@ use mathlib.Core.Path.{_≡_}
 use mathlib.Core.List.{List}
 use Prim.Native.Nat.{ℕ, _+_, _*_, _≤_, _<_}
 use lib.ListN.{length, take}
-use Rattle.tables.specs.Runs.{Bits}
+use Rattle.tables.specs.Inside.{Bits}
 use Rattle.tables.specs.Packing.{unpacked, tapeOf}
 use Rattle.tables.specs.Says.{over}
 use Rattle.construction.specs.Shares.{sharesOf}

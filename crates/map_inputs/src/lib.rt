@@ -4,8 +4,8 @@ ghost use Prim.Native.Nat.{_*_, _≤_};
 ghost use lib.ListN.{length};
 ghost use Rattle.tables.specs.Packing.{unpacked};
 ghost use Rattle.tables.specs.Inside.{putAt};
-ghost use Rattle.secrecy.specs.Maps.{inputFlips};
-ghost use Rattle.secrecy.specs.Both.{flipsAt, eachFlip};
+ghost use Rattle.secrecy.specs.Maps.{eachFlip, inputFlips};
+ghost use Rattle.secrecy.specs.Both.{flipsAt};
 ghost use Rattle.map_inputs.specs.Flipping.{FlipReady, BeginReady, BegunSays};
 
 // Writes bytes at the front of a buffer.

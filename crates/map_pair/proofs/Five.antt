@@ -11,7 +11,7 @@ use Rattle.tables.specs.Runs.{xor, randoms}
 use Rattle.tables.specs.Inside.{ranOn, RunsTo}
 use Rattle.tables.proofs.Lists.{bits-nil, bits-cons}
 use Rattle.tables.proofs.Ran.{Ran, ran-one, ran-keep, ran-start, ran-more, runs-less, runs-bit}
-use Rattle.construction.specs.declared.PairForm as DF
+use Rattle.construction.specs.declared.PairForm as DPairForm
 use Rattle.construction.specs.Gadgets.{allFive, Gadget}
 use Rattle.construction.specs.Forms.{FormSays}
 use Rattle.map_pair.specs.Crossing.{fifthValue, BitAt, PairBits, PairBefore}
@@ -24,7 +24,7 @@ gate-more R g d none ran next room = ran-more R (g ∷ []) [] d (sym none) bits-
 
 -- by the form r of a gadget's pairs
 module _
-    {G : Gadget} {r : DF.PairForm} (F : FormSays G r) {w ai bj aj bi bit : ℕ} {b₀ : List ℕ} (R : RunsTo w 5 b₀) (P : PairBefore w ai bj aj bi)
+    {G : Gadget} {r : DPairForm.PairForm} (F : FormSays G r) {w ai bj aj bi bit : ℕ} {b₀ : List ℕ} (R : RunsTo w 5 b₀) (P : PairBefore w ai bj aj bi)
     (h : bit ≤ 1)
   where
     abbrev thirdGate : Gate

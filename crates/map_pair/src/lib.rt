@@ -108,7 +108,8 @@ pub fn map_pair(
         (wiresDiffer (now (one .entry)) (now (other .entry)) ai bj)
         (wiresDiffer (now (one .entry)) (now (other .entry)) aj bi) ∷ [])
         (unpacked (now (tape .entry))) at w
-        (unpacked (now (mapped .entry))) (unpacked (now (mapped .exit))) (now (one .entry)) (now (one .exit)) (now (other .entry)) (now (other .exit)) ⌝ }
+        (unpacked (now (mapped .entry))) (unpacked (now (mapped .exit))) (now (one .entry))
+        (now (one .exit)) (now (other .entry)) (now (other .exit)) ⌝ }
 {
     let bit = bits::tape_bit(tape, at);
     let flip = flip_pair(and, k, i, j, one, other, ai, bj, aj, bi, mapped, at);

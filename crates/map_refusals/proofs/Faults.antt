@@ -7,11 +7,11 @@ use native.Mathlib.Omega.{arith}
 use lib.ListN.{length, getD, drop, drop-of-length-le}
 use lib.Seq.{drop-cons}
 use borrow.Author.Tests.{eq-eqb, ne-eqb, lt-ltb, le-ltb}
-use Rattle.tables.specs.declared.Refusal as DR
+use Rattle.tables.specs.declared.Refusal as DRefusal
 use Rattle.tables.specs.Refusals.{Fault, fault, none, orElse, badBit}
 use Rattle.tables.specs.Tables.{wires, tableOf}
 use Rattle.tables.specs.Packing.{bytesFor, spareFault}
-use Rattle.tables.specs.Says.{Refused}
+use Rattle.tables.specs.Inside.{Refused}
 use Rattle.tables.proofs.Tests.{first-passed, first-refused}
 use Rattle.tables.proofs.Answers.{refused-same, refused-passed, refused-fails}
 use Rattle.construction.specs.Shares.{sharesOf}
@@ -19,12 +19,12 @@ use Rattle.construction.specs.declared.And as DAnd
 use Rattle.construction.specs.Gadgets.{gadgetOf}
 use Rattle.construction.specs.Wires.{maskedTable, tapeLong}
 use Rattle.construction.specs.Says.{plainFault}
-use Rattle.planning.specs.declared.Plan as DP
+use Rattle.planning.specs.declared.Plan as DPlan
 use Rattle.planning.specs.declared.Planned.the-variants as Planned
 use Rattle.planning.specs.Plans.{PlanReady, PlanSays}
 use Rattle.planning.proofs.Planning.{refuses, planned-refused, planned-ready, plan-fits}
 use Rattle.secrecy.specs.Says.{badProbe, supplyFault, probesFault, roomFault, callFault, mapFault}
-use Rattle.secrecy.proofs.Faults.{bits-joined, map-good}
+use Rattle.secrecy.proofs.Faults.{bad-both, map-good}
 
 -- the counts, as the code tests them
 module _ (i l : ℕ) (xs ys ts : List ℕ) where
@@ -49,7 +49,7 @@ module _ (i l : ℕ) (xs ys ts : List ℕ) where
           ≡ orElse (orElse (badBit 0 xs) (badBit (length xs) ys)) (spareFault (length xs + length ys) l ts)
       unfolding supplyFault
       counts-right g =
-          rw (eq-eqb (length xs) i e, eq-eqb (length ys) i f, eq-eqb (length ts) (bytesFor l) g, bits-joined xs ys)
+          rw (eq-eqb (length xs) i e, eq-eqb (length ys) i f, eq-eqb (length ts) (bytesFor l) g, bad-both xs ys)
 
 -- the probes: those before j are wires
 pub record Probing (ps : List ℕ) (w j : ℕ) : Type 0 where
@@ -105,7 +105,7 @@ module _ (l w a b c : ℕ) where
       room-enough h = rw (le-ltb a (bytesFor l) k, le-ltb b w j, le-ltb c w h)
 
 -- the inputs and the tape bits of a plan are few
-pub plan-small : {s : List ℕ} {p : DP.Plan} → PlanReady s p → (p .inputs ≤ 65535) × (p .tape ≤ 65535)
+pub plan-small : {s : List ℕ} {p : DPlan.Plan} → PlanReady s p → (p .inputs ≤ 65535) × (p .tape ≤ 65535)
 plan-small {s} {p} R =
     let fits = plan-fits R in
     let e : p .shares * p .inputs ≡ sharesOf (p .order) * p .inputs = rw (R .shares) in
@@ -128,13 +128,13 @@ module _ (A : DAnd.And) (s : List ℕ) (o : ℕ) (xs ys ts ps : List ℕ) (a b c
   chain = refl
 
   pub map-plan-refused :
-      {r : DR.Refusal} → PlanSays (plainFault (gadgetOf A) s o) s o (Planned.Refused r) → PlanSays all s o (Planned.Refused r)
+      {r : DRefusal.Refusal} → PlanSays (plainFault (gadgetOf A) s o) s o (Planned.Refused r) → PlanSays all s o (Planned.Refused r)
   map-plan-refused P =
       let R = planned-refused P in
       let e : all ≡ plainFault (gadgetOf A) s o = chain ∙ first-refused (plainFault (gadgetOf A) s o) _ (refused-fails (R .0) (R .1)) in
       rw e P
 
-  module _ {p : DP.Plan} (P : PlanSays (plainFault (gadgetOf A) s o) s o (Planned.Ready p)) {r : DR.Refusal}
+  module _ {p : DPlan.Plan} (P : PlanSays (plainFault (gadgetOf A) s o) s o (Planned.Ready p)) {r : DRefusal.Refusal}
       (R : Refused (callFault o (p .inputs) (p .tape) (p .wires) xs ys ts ps a b c) r) where
     all-refused : Refused all r
     all-refused =
@@ -144,7 +144,8 @@ module _ (A : DAnd.And) (s : List ℕ) (o : ℕ) (xs ys ts ps : List ℕ) (a b c
         ≡ rest (tableOf s .inputs) (tapeLong (gadgetOf A) o (tableOf s)) (wires (maskedTable (gadgetOf A) o (tableOf s))) =
         ap₂ (λ (i l : ℕ). rest i l (p .wires)) (M .inputs) (M .tape A)
         ∙ ap₂ (λ (q q′ : ℕ). rest (tableOf s .inputs) (tapeLong (gadgetOf A) q (tableOf s)) q′) (Q .order) (M .wires A)
-        ∙ ap (λ (q : ℕ). rest (tableOf s .inputs) (tapeLong (gadgetOf A) o (tableOf s)) (wires (maskedTable (gadgetOf A) q (tableOf s)))) (Q .order) in
+        ∙ ap (λ (q : ℕ). rest (tableOf s .inputs) (tapeLong (gadgetOf A) o (tableOf s)) (wires (maskedTable (gadgetOf A) q (tableOf s))))
+        (Q .order) in
         refused-same chain (refused-same (first-passed (plainFault (gadgetOf A) s o) _ (rw (Q .none))) (rw same at R))
 
     pub map-call-refused : (r .number ≡ 0 → ⊥) → PlanSays all s o (Planned.Refused r)

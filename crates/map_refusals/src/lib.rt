@@ -1,6 +1,6 @@
 // The refusals of a mapping call.
 ghost use Prim.Native.Nat.{_≤_};
-ghost use Rattle.tables.specs.Says.{Refused};
+ghost use Rattle.tables.specs.Inside.{Refused};
 ghost use Rattle.construction.specs.declared.And as DAnd;
 ghost use Rattle.construction.specs.Gadgets.{gadgetOf};
 ghost use Rattle.planning.specs.Plans.{PlanSays};

@@ -8,10 +8,10 @@ use native.Mathlib.Omega.{arith}
 use lib.ListN.{length, getD, take, drop, length-append, length-drop, take-append-drop}
 use lib.Seq.{take-take, take-at, drop-at, getD-drop}
 use Rattle.tables.specs.Tables.{Table, tableOf, total}
-use Rattle.tables.specs.Runs.{Bits, run, runFrom, randoms}
+use Rattle.tables.specs.Runs.{run, runFrom, randoms}
 use Rattle.tables.specs.Packing.{packed, unpacked, tapeOf}
 use Rattle.tables.specs.Says.{over}
-use Rattle.tables.specs.Inside.{ranOn, RunsTo}
+use Rattle.tables.specs.Inside.{Bits, ranOn, RunsTo}
 use Rattle.tables.proofs.Lists.{all-append, bits-back, drop-take}
 use Rattle.tables.proofs.Packing.{unpacked-length, unpacked-bits, tape-long, tape-bits, packed-tape, packed-bytes, bytes-all, bytes-same, packed-over}
 use Rattle.tables.proofs.Run.{run-length}
@@ -21,13 +21,14 @@ use Rattle.tables.proofs.Put.{over-length, over-over}
 use Rattle.construction.specs.Shares.{sharesOf}
 use Rattle.construction.specs.declared.And as DAnd
 use Rattle.construction.specs.Gadgets.{Gadget, gadgetOf}
-use Rattle.construction.specs.Wires.{driverOf, inputShares, cost, draws, masked, maskedTable, tapeLong}
+use Rattle.construction.specs.Wires.{driverOf, inputShares, cost, masked, maskedTable, tapeLong}
+use Rattle.construction.specs.Counts.{draws}
 use Rattle.construction.specs.Codes.{encode, maskedRun}
 use Rattle.construction.proofs.Orders.{order-range}
 use Rattle.construction.proofs.Lawful.{lawful}
 use Rattle.construction.proofs.Costs.{masked-draws, masked-wires}
 use Rattle.construction.proofs.Codes.{encode-bits}
-use Rattle.planning.specs.declared.Plan as DP
+use Rattle.planning.specs.declared.Plan as DPlan
 use Rattle.planning.specs.Plans.{PlanReady}
 use Rattle.planning.proofs.Planning.{plan-passed, plan-fits}
 use Rattle.secrecy.specs.Maps.{flipped, inputFlips, mapGates, mappedAt}
@@ -40,7 +41,7 @@ use Rattle.map_inputs.specs.Flipping.{BeginReady, BegunSays}
 use Rattle.map_gates.specs.Steps.{GatesRan}
 use Rattle.map_runs.specs.Working.{WorkReady, WorkSays}
 
-module _ (and : DAnd.And) {s : List ℕ} {p : DP.Plan} {k : ℕ} {xs ys ts m a b : List ℕ} (W : WorkReady s p k xs ys ts m a b) where
+module _ (and : DAnd.And) {s : List ℕ} {p : DPlan.Plan} {k : ℕ} {xs ys ts m a b : List ℕ} (W : WorkReady s p k xs ys ts m a b) where
   abbrev G : Gadget
   G = gadgetOf and
 

@@ -9,16 +9,16 @@ use lib.ListN.{length}
 use Rattle.tables.specs.Tables.{tableOf}
 use Rattle.tables.specs.Packing.{bytesFor, packed, tapeOf, spare}
 use Rattle.tables.specs.Says.{over}
-use Rattle.tables.specs.Runs.{Bits}
+use Rattle.tables.specs.Inside.{Bits}
 use Rattle.construction.specs.Gadgets.{Gadget}
 use Rattle.construction.specs.Wires.{tapeLong}
 use Rattle.construction.specs.Codes.{maskedRun}
-use Rattle.planning.specs.declared.Plan as DP
+use Rattle.planning.specs.declared.Plan as DPlan
 use Rattle.planning.specs.Plans.{PlanReady}
 use Rattle.secrecy.specs.Maps.{mappedAt}
 
 -- a plan, a share number k, both secrets, a packed tape, and room for the mapped tape and both runs
-pub record WorkReady (s : List ℕ) (p : DP.Plan) (k : ℕ) (xs ys ts m a b : List ℕ) : Type 0 where
+pub record WorkReady (s : List ℕ) (p : DPlan.Plan) (k : ℕ) (xs ys ts m a b : List ℕ) : Type 0 where
   pub plan : PlanReady s p
   pub from-1 : 1 ≤ k
   pub to-n : k ≤ p .shares

@@ -3,13 +3,13 @@
 use mathlib.Core.Path.{_≡_}
 use Prim.Native.Nat.{ℕ, suc, _≤_, _<_}
 use native.Mathlib.Omega.{arith}
-use Rattle.layout.specs.declared.Places as DP
+use Rattle.layout.specs.declared.Places as DPlaces
 use Rattle.construction.specs.Wires.{share}
 use Rattle.layout.specs.Layout.{shareWires}
 use Rattle.layout.proofs.ShareWires.{share-low}
 use Rattle.map_values.specs.Driving.{SharesBefore}
 
-module _ {n w : ℕ} {a b : DP.Places} (B : SharesBefore n w a b) {i : ℕ} (h : i < n) where
+module _ {n w : ℕ} {a b : DPlaces.Places} (B : SharesBefore n w a b) {i : ℕ} (h : i < n) where
   pub left-low : share (shareWires (suc i) a) i < 65536
   left-low = share-low n i a (λ j k. omega (arith, B .left j k, B .low)) h
 
@@ -25,7 +25,7 @@ module _ {n w : ℕ} {a b : DP.Places} (B : SharesBefore n w a b) {i : ℕ} (h :
 
 -- they come before every later wire too
 pub before-later :
-    {n w : ℕ} {a b : DP.Places} (v : ℕ) → SharesBefore n w a b → w ≤ v → v ≤ 65535 → SharesBefore n v a b
+    {n w : ℕ} {a b : DPlaces.Places} (v : ℕ) → SharesBefore n w a b → w ≤ v → v ≤ 65535 → SharesBefore n v a b
 before-later v B h k =
     record {
       few = B .few;

@@ -16,18 +16,18 @@ use Rattle.tables.specs.Inside.{ranOn, RunsTo}
 use Rattle.tables.proofs.Lists.{bits-nil}
 use Rattle.tables.proofs.Run.{total-append}
 use Rattle.tables.proofs.Ran.{Ran, ran-one, ran-start, ran-more, runs-less}
-use Rattle.layout.specs.Layout.{joined, constantGates}
-use Rattle.layout.proofs.Bytes.{joined-snoc}
+use Rattle.layout.specs.Layout.{piecesFrom, constantGates}
+use Rattle.layout.proofs.Bytes.{pieces-snoc}
 
 -- of m pieces c have run on, and the next one begins at wire v
 pub record InPieces (size w m : ℕ) (f : ℕ → List Gate) (b₀ : List ℕ) (v c : ℕ) (b : List ℕ) : Type 0 where
-  pub ran : Ran (joined c 0 f) [] w b₀ v (size * m - size * c) b
+  pub ran : Ran (piecesFrom c 0 f) [] w b₀ v (size * m - size * c) b
   pub place : v ≡ w + size * c
   pub within : c ≤ m
 
 pub pieces-start :
     (size w m : ℕ) (f : ℕ → List Gate) (b : List ℕ) {v : ℕ} → v ≡ w → RunsTo w (size * m) b → InPieces size w m f b v 0 b
-unfolding joined
+unfolding piecesFrom
 pieces-start size w m f b {v} e R =
     rw e
     (record {
@@ -48,8 +48,8 @@ module _ {size w m : ℕ} {f : ℕ → List Gate} {b₀ : List ℕ} {v c : ℕ} 
       let ran : b′ ≡ ranOn (f c) [] v b = ran₀ ∙ ap (λ (gs : List Gate). ranOn gs [] v b) piece in
       let more = ran-more (P .ran) (f c) [] {v′ = v′} (size * m - size * suc c) (sym none) bits-nil ran (omega arith)
       (omega (arith, mul-le-mul-left size h)) in
-      let gates : joined c 0 f ++ f c ≡ joined (suc c) 0 f =
-      sym (joined-snoc c 0 f ∙ ap (λ (i : ℕ). joined c 0 f ++ f i) {x = 0 + c} {y = c} (omega arith)) in
+      let gates : piecesFrom c 0 f ++ f c ≡ piecesFrom (suc c) 0 f =
+      sym (pieces-snoc c 0 f ∙ ap (λ (i : ℕ). piecesFrom c 0 f ++ f i) {x = 0 + c} {y = c} (omega arith)) in
       rw add-one
       (record {
         ran = subst (λ (gs : List Gate). Ran gs [] w b₀ v′ (size * m - size * suc c) b′) gates more;
@@ -57,10 +57,10 @@ module _ {size w m : ℕ} {f : ℕ → List Gate} {b₀ : List ℕ} {v c : ℕ} 
         within = h;
       })
 
-  pub pieces-end : m ≤ c → b ≡ ranOn (joined m 0 f) [] w b₀
+  pub pieces-end : m ≤ c → b ≡ ranOn (piecesFrom m 0 f) [] w b₀
   pieces-end h =
       let all : c ≡ m = omega (arith, P .within) in
-      P .ran .is ∙ ap (λ (d : ℕ). ranOn (joined d 0 f) [] w b₀) all
+      P .ran .is ∙ ap (λ (d : ℕ). ranOn (piecesFrom d 0 f) [] w b₀) all
 
 -- an XOR draws nothing
 pub xor-none : (l r : ℕ) → randoms (gate XOR l r ∷ []) ≡ 0
@@ -90,7 +90,7 @@ pub constant-next : (l s : ℕ) → 0 ≡ cond (eqb (s + 1) 0) l 0
 constant-next l s = rw (ne-eqb (s + 1) 0 (λ e. omega (arith, e)))
 
 -- gates that draw nothing, piece by piece
-pub joined-none-drawn : (c s : ℕ) (f : ℕ → List Gate) → ((i : ℕ) → randoms (f i) ≡ 0) → randoms (joined c s f) ≡ 0
-unfolding joined total
-joined-none-drawn zero s f h = refl
-joined-none-drawn (suc c) s f h = total-append drawn (f s) (joined c (suc s) f) ∙ omega (arith, h s, joined-none-drawn c (suc s) f h)
+pub pieces-none-drawn : (c s : ℕ) (f : ℕ → List Gate) → ((i : ℕ) → randoms (f i) ≡ 0) → randoms (piecesFrom c s f) ≡ 0
+unfolding piecesFrom total
+pieces-none-drawn zero s f h = refl
+pieces-none-drawn (suc c) s f h = total-append drawn (f s) (piecesFrom c (suc s) f) ∙ omega (arith, h s, pieces-none-drawn c (suc s) f h)

@@ -8,7 +8,7 @@ use lib.ListN.{length, getD}
 use Rattle.tables.specs.Tables.{XOR, Gate, gate}
 use Rattle.tables.specs.Inside.{ranOn, RunsTo}
 use Rattle.tables.proofs.Ran.{runs-less}
-use Rattle.layout.specs.Layout.{joined, sumGates}
+use Rattle.layout.specs.Layout.{piecesFrom, sumGates}
 use Rattle.map_values.proofs.InPieces.{InPieces, pieces-start, pieces-room, pieces-turn, pieces-end, xor-none}
 
 -- of m sums c have run on, and x is the value of the wire that the next one reads
@@ -43,5 +43,5 @@ module _ {last m : ℕ} {z : ℕ → ℕ} {b₀ : List ℕ} {x c : ℕ} {b : Lis
   pub sums-long : length b ≡ length b₀
   sums-long = P .sums .ran .long
 
-  pub sums-end : m ≤ c → b ≡ ranOn (joined m 0 (sumGates last z)) [] (last + 1) b₀
+  pub sums-end : m ≤ c → b ≡ ranOn (piecesFrom m 0 (sumGates last z)) [] (last + 1) b₀
   sums-end h = pieces-end (P .sums) h

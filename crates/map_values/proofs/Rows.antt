@@ -14,13 +14,13 @@ use Rattle.tables.proofs.Ran.{Ran, ran-start, ran-more, runs-less}
 use Rattle.construction.specs.Shares.{pairAt}
 use Rattle.construction.specs.Gadgets.{first, Gadget}
 use Rattle.construction.specs.Wires.{share, pairWire}
-use Rattle.layout.specs.Layout.{joined, sumGates, highGates, lowGates, rowGates}
-use Rattle.layout.proofs.Bytes.{joined-long}
+use Rattle.layout.specs.Layout.{piecesFrom, sumGates, highGates, lowGates, rowGates}
+use Rattle.layout.proofs.Bytes.{pieces-long}
 use Rattle.layout.proofs.Pieces.{high-long, low-same, row-long}
-use Rattle.map_values.proofs.InPieces.{InPieces, pieces-turn, xor-none, joined-none-drawn}
+use Rattle.map_values.proofs.InPieces.{InPieces, pieces-turn, xor-none, pieces-none-drawn}
 
-sums-none : (last c s : ℕ) (z : ℕ → ℕ) → randoms (joined c s (sumGates last z)) ≡ 0
-sums-none last c s z = joined-none-drawn c s (sumGates last z) (λ i. xor-none _ _)
+sums-none : (last c s : ℕ) (z : ℕ → ℕ) → randoms (piecesFrom c s (sumGates last z)) ≡ 0
+sums-none last c s z = pieces-none-drawn c s (sumGates last z) (λ i. xor-none _ _)
 
 -- a row draws nothing
 row-none : (G : Gadget) (n w v : ℕ) (a b : List ℕ) (i : ℕ) → randoms (rowGates G n w v a b i) ≡ 0
@@ -29,7 +29,7 @@ row-none G n w v a b i =
     let low : ℕ → ℕ = λ j. pairWire w (G .low) (pairAt n i (suc i + j)) in
     omega (
       arith,
-      total-append drawn (highGates G n w v i) (joined (n - suc i) 0 (sumGates (v + i) low)),
+      total-append drawn (highGates G n w v i) (piecesFrom (n - suc i) 0 (sumGates (v + i) low)),
       sums-none v i 0 (λ j. pairWire w (G .high) (pairAt n j i)),
       sums-none (v + i) (n - suc i) 0 low,
     )
@@ -63,7 +63,7 @@ module _ (G : Gadget) (w l r : ℕ) {n v i : ℕ} {b₀ : List ℕ} (R : RunsTo 
           → b₃ ≡ ranOn (lowGates G z (v + i) (n - 1 - i)) [] (v + i + 1) b₂
           → b₃ ≡ ranOn (rowGates G n w v a b i) [] v b₀
       row-ran {z} a b el er low e₃ =
-          let long : length (lowGates G z (v + i) (n - 1 - i)) ≡ 1 * (n - 1 - i) = joined-long 1 (n - 1 - i) 0 _ (λ _ _. refl) in
+          let long : length (lowGates G z (v + i) (n - 1 - i)) ≡ 1 * (n - 1 - i) = pieces-long 1 (n - 1 - i) 0 _ (λ _ _. refl) in
           let all = ran-more ran-high (lowGates G z (v + i) (n - 1 - i)) [] {v′ = v + n} 0
           (sym (sums-none (v + i) (n - 1 - i) 0 (pairWire z (G .low))))
           bits-nil

@@ -8,7 +8,7 @@ ghost use Rattle.tables.specs.Inside.{ranOn, RunsTo};
 ghost use Rattle.construction.specs.Shares.{tri, pairAt};
 ghost use Rattle.construction.specs.Gadgets.{first, gadgetOf};
 ghost use Rattle.construction.specs.Wires.{pairWire};
-ghost use Rattle.layout.specs.Layout.{shareWires, joined, highGates, lowGates, rowGates, rowsGates, xorGates, constantGates};
+ghost use Rattle.layout.specs.Layout.{shareWires, piecesFrom, highGates, lowGates, rowGates, rowsGates, xorGates, constantGates};
 ghost use Rattle.map_values.specs.Driving.{SharesBefore};
 
 // A random gate on wire w, with its bit.
@@ -55,7 +55,7 @@ pub fn run_and(run: &mut [u8], w: usize, left: usize, right: usize)
 // An XOR share by share, from wire w on.
 pub fn run_xors(run: &mut [u8], w: usize, n: usize, a: layout::Places, b: layout::Places)
     requires { ⌜ SharesBefore n w a b × RunsTo w n (now run) ⌝ }
-    ensures { λ _. ⌜ now (run .exit) ≡ ranOn (joined n 0 (xorGates (shareWires n a) (shareWires n b))) [] w (now (run .entry)) ⌝ }
+    ensures { λ _. ⌜ now (run .exit) ≡ ranOn (piecesFrom n 0 (xorGates (shareWires n a) (shareWires n b))) [] w (now (run .entry)) ⌝ }
 {
     let mut s = 0;
     while s < n {
@@ -69,7 +69,7 @@ pub fn run_xors(run: &mut [u8], w: usize, n: usize, a: layout::Places, b: layout
 // A constant's shares, from wire w on: its value, then zeros.
 pub fn run_constants(run: &mut [u8], w: usize, n: usize, value: u8)
     requires { ⌜ RunsTo w n (now run) × (value ≤ 1) ⌝ }
-    ensures { λ _. ⌜ now (run .exit) ≡ ranOn (joined n 0 (constantGates value)) [] w (now (run .entry)) ⌝ }
+    ensures { λ _. ⌜ now (run .exit) ≡ ranOn (piecesFrom n 0 (constantGates value)) [] w (now (run .entry)) ⌝ }
 {
     let mut bit = value;
     let mut s = 0;

@@ -7,8 +7,8 @@ use Prim.Native.Nat.{ℕ, _≤_, _<_}
 use native.Mathlib.Omega.{arith}
 use lib.Dec.{leb}
 use lib.ListN.{length}
-use Rattle.tables.specs.declared.Answer as DA
-use Rattle.tables.specs.declared.Refusal as DR
+use Rattle.tables.specs.declared.Answer as DAnswer
+use Rattle.tables.specs.declared.Refusal as DRefusal
 use Rattle.tables.specs.Tables.{wires, tableOf}
 use Rattle.tables.specs.Packing.{bytesFor, tapeOf, spare}
 use Rattle.tables.proofs.Tests.{and-true}
@@ -20,8 +20,8 @@ use Rattle.construction.specs.Wires.{maskedTable, tapeLong, probeMarks}
 use Rattle.construction.proofs.Lawful.{lawful}
 use Rattle.construction.proofs.Hiding.{hiding}
 use Rattle.construction.proofs.Passed.{plain-passed}
-use Rattle.planning.specs.declared.Plan as DP
-use Rattle.planning.specs.declared.Planned as DN
+use Rattle.planning.specs.declared.Plan as DPlan
+use Rattle.planning.specs.declared.Planned as DPlanned
 use Rattle.planning.specs.declared.Planned.the-variants as Planned
 use Rattle.planning.specs.Plans.{PlanReady, PlanSays}
 use Rattle.planning.proofs.Planning.{Planned-Ready, planned-as, planned-refused, planned-ready, plan-fits}
@@ -36,10 +36,12 @@ use Rattle.map_runs.specs.Working.{WorkReady, WorkSays}
 
 -- a call that is refused; a, b and c are the lengths lent
 pub map-refused :
-    (A : DAnd.And) (s : List ℕ) (o : ℕ) (xs ys ts ps : List ℕ) (a b c : ℕ) {x y z : List ℕ} {r : DN.Planned} {f : DR.Refusal} {q : DA.Answer}
+    (A : DAnd.And) (s : List ℕ) (o : ℕ) (xs ys ts ps : List ℕ)
+    (a b c : ℕ) {x y z : List ℕ} {r : DPlanned.Planned} {f : DRefusal.Refusal} {q : DAnswer.Answer}
     → PlanSays (mapFault (gadgetOf A) s o xs ys ts ps a b c) s o r → r ≡ Planned.Refused f
     → q ≡ record { number = f .number; place = f .place; value = 0 }
-    → MapDone (mapFault (gadgetOf A) s o xs ys ts ps a b c) (gadgetOf A) (probeMarks (gadgetOf A)) (tableOf s) o xs ys (tapeOf (tapeLong (gadgetOf A) o (tableOf s)) ts) ps
+    → MapDone (mapFault (gadgetOf A) s o xs ys ts ps a b c) (gadgetOf A) (probeMarks (gadgetOf A))
+    (tableOf s) o xs ys (tapeOf (tapeLong (gadgetOf A) o (tableOf s)) ts) ps
     x x y y z z q
 map-refused A s o xs ys ts ps a b c P is e =
     let R = planned-refused (planned-as P is) in
@@ -53,7 +55,7 @@ map-refused A s o xs ys ts ps a b c P is e =
     })
 
 -- a call that is not refused
-module _ (A : DAnd.And) (s : List ℕ) (o : ℕ) (xs ys ts ps : List ℕ) (a b c : ℕ) {r : DN.Planned} {p : DP.Plan}
+module _ (A : DAnd.And) (s : List ℕ) (o : ℕ) (xs ys ts ps : List ℕ) (a b c : ℕ) {r : DPlanned.Planned} {p : DPlan.Plan}
     (P : PlanSays (mapFault (gadgetOf A) s o xs ys ts ps a b c) s o r) (is : r ≡ Planned.Ready p) where
   plan : Planned-Ready (mapFault (gadgetOf A) s o xs ys ts ps a b c) s o p
   plan = planned-ready (planned-as P is)

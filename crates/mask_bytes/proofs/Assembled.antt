@@ -17,7 +17,7 @@ use Rattle.construction.specs.Gadgets.{gadgetOf}
 use Rattle.construction.specs.Wires.{cost, masked, outputShares, sharesAfter, maskedTable}
 use Rattle.construction.proofs.Lawful.{lawful}
 use Rattle.construction.proofs.Placed.{masked-outputs}
-use Rattle.planning.specs.declared.Plan as DP
+use Rattle.planning.specs.declared.Plan as DPlan
 use Rattle.planning.specs.Plans.{PlanReady, planBytes}
 use Rattle.planning.proofs.Planning.{plan-passed, plan-inputs, plan-bytes}
 use Rattle.layout.specs.Layout.{operandBytes}
@@ -25,18 +25,18 @@ use Rattle.mask_kinds.specs.Kinds.{gateKinds}
 use Rattle.mask_kinds.proofs.GateKinds.{masked-kinds}
 use Rattle.share_places.specs.Located.{sharesTo, allShares, gateWire}
 use Rattle.share_places.proofs.Turns.{plan-wires}
-use Rattle.mask_parts.specs.Parts.{stretch}
+use Rattle.mask_parts.specs.Stretch.{stretch}
 use Rattle.mask_parts.proofs.Stretches.{over-all}
-use Rattle.mask_bytes.specs.Parts.{afterSizes}
+use Rattle.mask_bytes.specs.AfterSizes.{afterSizes}
 
 -- the gates of a plan's masked table
-abbrev pub gatesOf : DP.Plan → ℕ
+abbrev pub gatesOf : DPlan.Plan → ℕ
 gatesOf p = p .wires - p .shares * p .inputs
 
 stretch-all : (t : Table) (e : ℕ) → e ≡ length (t .gates) → stretch t 0 e ≡ t .gates
 stretch-all t e h = let none : e - 0 ≡ length (t .gates) = omega arith in rw none (take-length (t .gates))
 
-module _ (a : DAnd.And) {s : List ℕ} {p : DP.Plan} (R : PlanReady s p) where
+module _ (a : DAnd.And) {s : List ℕ} {p : DPlan.Plan} (R : PlanReady s p) where
   abbrev m : Table
   m = maskedTable (gadgetOf a) (p .order) (tableOf s)
 

@@ -1,2 +1,2 @@
 -- The parts of a masked table's bytes.
-pub mod Parts
+pub mod AfterSizes

@@ -9,7 +9,7 @@ ghost use Rattle.construction.specs.Gadgets.{gadgetOf};
 ghost use Rattle.construction.specs.Wires.{maskedTable};
 ghost use Rattle.planning.specs.Plans.{PlanReady, planBytes};
 ghost use Rattle.share_places.specs.Located.{Room, Located};
-ghost use Rattle.mask_bytes.specs.Parts.{afterSizes};
+ghost use Rattle.mask_bytes.specs.AfterSizes.{afterSizes};
 
 // Writes what follows the sizes: lends the kinds part, then the operands part, then the outputs part of the buffer to the
 // function that writes it.
@@ -24,7 +24,8 @@ fn mask_gates(
 )
     requires { ⌜ PlanReady (now table) p × Located (tableOf (now table)) (p .shares) (now head) (now base) (now step)
         × (planBytes p ≤ length (now out)) ⌝ }
-    ensures { λ _. ⌜ now (out .exit) ≡ putAt 6 (afterSizes (maskedTable (gadgetOf and) (p .order) (tableOf (now (table .entry))))) (now (out .entry)) ⌝ }
+    ensures { λ _. ⌜ now (out .exit) ≡ putAt 6 (afterSizes (maskedTable (gadgetOf and) (p .order) (tableOf (now (table .entry)))))
+        (now (out .entry)) ⌝ }
 {
     let w = p.shares * p.inputs;
     let g = p.wires - w;

@@ -15,8 +15,8 @@ use Rattle.construction.specs.Gadgets.{Gadget}
 use Rattle.construction.specs.Wires.{andPart, Wire, driverOf, share, firstOn, pairWire, andShares, andCost, newWires, newShares, cost}
 use Rattle.construction.specs.Wires.{masked}
 use Rattle.construction.proofs.Lawful.{Lawful}
-use Rattle.layout.specs.Layout.{joined, pairGates, sumGates, highGates, rowGates, rowsGates, andGates}
-use Rattle.layout.proofs.Bytes.{joined-same, joined-long, joined-through}
+use Rattle.layout.specs.Layout.{piecesFrom, pairGates, sumGates, highGates, rowGates, rowsGates, andGates}
+use Rattle.layout.proofs.Bytes.{pieces-same, pieces-long, pieces-through}
 use Rattle.layout.proofs.Pieces.{pairs-in-turn, xor-gates, constant-gates, and-gates, or-gates}
 use Rattle.mask_kinds.specs.Kinds.{wireKinds, pairKinds, rowKinds, andKinds, newKinds, gateKinds, XorsFrom}
 
@@ -32,13 +32,13 @@ pub wire-kinds-long : (xs : List Wire) → length (wireKinds xs) ≡ length xs
 wire-kinds-long xs = kinds-long (map driverOf xs) ∙ rw length-map
 
 -- a byte repeated, as pieces one after another
-replicate-from : (m c v : ℕ) → replicate m v ≡ joined m c (λ _. v ∷ [])
-unfolding joined
+replicate-from : (m c v : ℕ) → replicate m v ≡ piecesFrom m c (λ _. v ∷ [])
+unfolding piecesFrom
 replicate-from zero c v = refl
 replicate-from (suc m) c v = rw (replicate-from m (suc c) v) refl
 
-pub replicate-joined : (m v : ℕ) → replicate m v ≡ joined m 0 (λ _. v ∷ [])
-replicate-joined m v = replicate-from m 0 v
+pub replicate-pieces : (m v : ℕ) → replicate m v ≡ piecesFrom m 0 (λ _. v ∷ [])
+replicate-pieces m v = replicate-from m 0 v
 
 pub row-kinds-long : (n : ℕ) → 1 ≤ n → length (rowKinds n) ≡ n
 row-kinds-long n h = omega (arith, length-replicate {A = ℕ} (n - 1) 1)
@@ -85,16 +85,16 @@ pub row-head :
 row-head at n b some h fits = xors-head at (n - 1) 2 b h (omega arith)
 
 -- the kinds of gates in pieces
-kinds-joined :
-    (c s : ℕ) (f : ℕ → List Gate) → kindBytes (joined c s f) ≡ joined c s (λ i. kindBytes (f i))
+kinds-pieces :
+    (c s : ℕ) (f : ℕ → List Gate) → kindBytes (piecesFrom c s f) ≡ piecesFrom c s (λ i. kindBytes (f i))
 unfolding kindBytes
-kinds-joined c s f = joined-through kindBytes refl kinds-append c s f
+kinds-pieces c s f = pieces-through kindBytes refl kinds-append c s f
 
 -- gates of one kind
 same-kinds :
-    (k : Kind) (m : ℕ) (l r : ℕ → ℕ) → kindBytes (joined m 0 (λ c. gate k (l c) (r c) ∷ [])) ≡ replicate m (kindByte k)
+    (k : Kind) (m : ℕ) (l r : ℕ → ℕ) → kindBytes (piecesFrom m 0 (λ c. gate k (l c) (r c) ∷ [])) ≡ replicate m (kindByte k)
 unfolding kindBytes
-same-kinds k m l r = kinds-joined m 0 (λ c. gate k (l c) (r c) ∷ []) ∙ sym (replicate-joined m (kindByte k))
+same-kinds k m l r = kinds-pieces m 0 (λ c. gate k (l c) (r c) ∷ []) ∙ sym (replicate-pieces m (kindByte k))
 
 row-kinds :
     (G : Gadget) (n w v : ℕ) (a b : List ℕ) (i : ℕ) → i < n → kindBytes (rowGates G n w v a b i) ≡ rowKinds n
@@ -102,7 +102,7 @@ unfolding kindBytes
 row-kinds G n w v a b i h =
     let low : ℕ → ℕ = λ j. pairWire w (G .low) (pairAt n i (suc i + j)) in
     ap {A = List ℕ} {B = List ℕ} (λ y. 2 ∷ y)
-    (kinds-append (highGates G n w v i) (joined (n - suc i) 0 (sumGates (v + i) low))
+    (kinds-append (highGates G n w v i) (piecesFrom (n - suc i) 0 (sumGates (v + i) low))
     ∙ ap₂ {A = List ℕ} {B = List ℕ} {C = List ℕ} (λ y z. y ++ z) (same-kinds XOR i _ _) (same-kinds XOR (n - suc i) _ _)
     ∙ replicate-append-replicate {A = ℕ} i (n - suc i) 1
     ∙ ap ones {x = i + (n - suc i)} {y = n - 1} (omega arith))
@@ -116,9 +116,9 @@ and-kinds {G} L n w a b =
     kinds-append (inTurn 5 w (pairs n) F) (rowsGates G n w v a b)
     ∙ ap₂ {A = List ℕ} {B = List ℕ} {C = List ℕ} (λ y z. y ++ z)
     (ap {A = List Gate} {B = List ℕ} kindBytes (pairs-in-turn n 5 w F)
-    ∙ kinds-joined (tri n) 0 _
-    ∙ joined-same (tri n) 0 _ _ (λ c h. L .kinds _ _ _ _ _))
-    (kinds-joined n 0 _ ∙ joined-same n 0 _ _ (λ i h. row-kinds G n w (v + n * i) a b i (omega arith)))
+    ∙ kinds-pieces (tri n) 0 _
+    ∙ pieces-same (tri n) 0 _ _ (λ c h. L .kinds _ _ _ _ _))
+    (kinds-pieces n 0 _ ∙ pieces-same n 0 _ _ (λ i h. row-kinds G n w (v + n * i) a b i (omega arith)))
 
 pub new-kinds :
     {G : Gadget} → Lawful G → (k : Kind) (l n g w : ℕ) (a b : List ℕ) → wireKinds (newWires G k l n g w a b) ≡ newKinds k n
@@ -155,11 +155,11 @@ masked-kinds {G} L n g w S (x ∷ xs) =
 -- an AND's kinds
 pub and-kinds-long : (n : ℕ) → 1 ≤ n → length (andKinds n) ≡ andCost n
 and-kinds-long n some =
-    length-append (joined (tri n) 0 (λ _. pairKinds)) (joined n 0 (λ _. rowKinds n))
+    length-append (piecesFrom (tri n) 0 (λ _. pairKinds)) (piecesFrom n 0 (λ _. rowKinds n))
     ∙ omega (
       arith,
-      joined-long 5 (tri n) 0 (λ _. pairKinds) (λ _ _. refl),
-      joined-long n n 0 (λ _. rowKinds n) (λ _ _. row-kinds-long n some),
+      pieces-long 5 (tri n) 0 (λ _. pairKinds) (λ _ _. refl),
+      pieces-long n n 0 (λ _. rowKinds n) (λ _ _. row-kinds-long n some),
     )
 
 -- the kinds of a NOT and of an XOR, where the kinds of XOR gates stand already

@@ -7,7 +7,7 @@ use lib.ListN.{length, drop, replicate}
 use Rattle.tables.specs.Tables.{Kind, NOT, XOR, AND, RANDOM, CONSTANT, OR, UNKNOWN, Gate, kindBytes}
 use Rattle.construction.specs.Shares.{tri}
 use Rattle.construction.specs.Wires.{Wire, driverOf}
-use Rattle.layout.specs.Layout.{joined}
+use Rattle.layout.specs.Layout.{piecesFrom}
 
 -- the kinds of wires, as bytes
 abbrev pub wireKinds : List Wire → List ℕ
@@ -23,7 +23,7 @@ rowKinds n = 2 ∷ replicate (n - 1) 1
 
 -- the kinds of an AND's wires: the pairs, then the rows
 abbrev pub andKinds : ℕ → List ℕ
-andKinds n = joined (tri n) 0 (λ _. pairKinds) ++ joined n 0 (λ _. rowKinds n)
+andKinds n = piecesFrom (tri n) 0 (λ _. pairKinds) ++ piecesFrom n 0 (λ _. rowKinds n)
 
 -- the kinds of a plain gate's new wires
 abbrev pub newKinds : Kind → ℕ → List ℕ

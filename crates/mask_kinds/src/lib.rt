@@ -5,7 +5,7 @@ ghost use lib.ListN.{length, replicate};
 ghost use Rattle.tables.specs.Inside.{putAt, PlainByte};
 ghost use Rattle.tables.specs.Tables.{kindOf, AND, OR};
 ghost use Rattle.construction.specs.Wires.{cost};
-ghost use Rattle.layout.specs.Layout.{joined};
+ghost use Rattle.layout.specs.Layout.{piecesFrom};
 ghost use Rattle.mask_kinds.specs.Kinds.{pairKinds, rowKinds, newKinds, XorsFrom};
 
 // Writes the kinds of a pair's five wires.
@@ -23,7 +23,7 @@ fn put_pair_kinds(kinds: &mut [u8], at: usize)
 // Writes the kinds of m pairs.
 fn write_pair_kinds(kinds: &mut [u8], at: usize, m: usize)
     requires { ⌜ at + 5 * m ≤ length (now kinds) ⌝ }
-    ensures { λ _. ⌜ now (kinds .exit) ≡ putAt at (joined m 0 (λ _. pairKinds)) (now (kinds .entry)) ⌝ }
+    ensures { λ _. ⌜ now (kinds .exit) ≡ putAt at (piecesFrom m 0 (λ _. pairKinds)) (now (kinds .entry)) ⌝ }
 {
     let mut c = 0;
     while c < m {
@@ -47,7 +47,7 @@ pub fn write_same_kinds(kind: u8, kinds: &mut [u8], at: usize, m: usize)
 // Writes the kinds of all rows, each its own product and then the sums, where the kinds of XOR gates stand already.
 fn write_rows_kinds(kinds: &mut [u8], at: usize, n: usize)
     requires { ⌜ (at + n * n ≤ length (now kinds)) × XorsFrom at (now kinds) ⌝ }
-    ensures { λ _. ⌜ now (kinds .exit) ≡ putAt at (joined n 0 (λ _. rowKinds n)) (now (kinds .entry)) ⌝ }
+    ensures { λ _. ⌜ now (kinds .exit) ≡ putAt at (piecesFrom n 0 (λ _. rowKinds n)) (now (kinds .entry)) ⌝ }
 {
     let mut to = at;
     let mut i = 0;

@@ -10,12 +10,12 @@ use Rattle.construction.specs.Wires.{share}
 use Rattle.construction.proofs.Rows.{pair-at, tri-closed, pair-closed}
 use Rattle.layout.specs.Layout.{pairGates}
 use Rattle.layout.proofs.Pieces.{pairNumber}
-use Rattle.mask_operands.specs.declared.Pair as DQ
-use Rattle.mask_operands.specs.Operands.{PairNo}
+use Rattle.mask_operands.specs.declared.Pair as DPair
+use Rattle.mask_operands.specs.OperandRoom.{PairNo}
 
 -- a pair's gates from the wires that are its operands
 pub pair-piece :
-    {ai bj aj bi n c : ℕ} {p : DQ.Pair} (G : Gadget) (w : ℕ) (a b : List ℕ) → PairNo n c p → ai ≡ share a (p .i)
+    {ai bj aj bi n c : ℕ} {p : DPair.Pair} (G : Gadget) (w : ℕ) (a b : List ℕ) → PairNo n c p → ai ≡ share a (p .i)
     → bj ≡ share b (p .j) → aj ≡ share a (p .j) → bi ≡ share b (p .i)
     → map (G .gates w ai bj aj bi) allFive ≡ pairGates G a b w (pairNumber n c)
 pair-piece {n = n} {c = c} {p = p} G w a b P q r s t =
@@ -31,7 +31,7 @@ pair-first (suc zero) h = absurd (omega arith)
 pair-first (suc (suc n)) h = record { rising = omega arith; inside = omega arith; place = refl }
 
 pub pair-next :
-    {n c : ℕ} {p : DQ.Pair} → PairNo n c p → p .j + 1 < n → PairNo n (suc c) (record { i = p .i; j = p .j + 1 })
+    {n c : ℕ} {p : DPair.Pair} → PairNo n c p → p .j + 1 < n → PairNo n (suc c) (record { i = p .i; j = p .j + 1 })
 pair-next {n} {c} {p} P h = record {
   rising = omega (arith, P .rising);
   inside = h;
@@ -48,7 +48,7 @@ last-pair : (i : ℕ) → suc (pairAt (i + 2) i (i + 1)) ≡ tri (i + 2)
 last-pair i = omega (arith, pair-closed (i + 2) i (i + 1) (omega arith) (omega arith), tri-closed (i + 2))
 
 pub pair-turn :
-    {n c : ℕ} {p : DQ.Pair} → PairNo n c p → n ≤ p .j + 1 → suc c < tri n
+    {n c : ℕ} {p : DPair.Pair} → PairNo n c p → n ≤ p .j + 1 → suc c < tri n
     → PairNo n (suc c) (record { i = p .i + 1; j = p .i + 2 })
 pair-turn {n} {c} {p} P h more =
     let i = p .i in

@@ -1,2 +1,2 @@
 -- What writing the operands of a gate's new wires takes.
-pub mod Operands
+pub mod OperandRoom

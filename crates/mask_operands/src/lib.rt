@@ -8,8 +8,8 @@ ghost use Rattle.tables.specs.Tables.{kindOf, pairBytes, AND, OR};
 ghost use Rattle.construction.specs.Shares.{inTurn, pairs, tri};
 ghost use Rattle.construction.specs.Gadgets.{allFive, gadgetOf};
 ghost use Rattle.construction.specs.Wires.{cost, newWires};
-ghost use Rattle.mask_operands.specs.Operands.{OperandRoom, PairRoom, PairNo};
-ghost use Rattle.layout.specs.Layout.{shareWires, operandBytes, joined, ReadsShares, pairGates, xorGates};
+ghost use Rattle.mask_operands.specs.OperandRoom.{OperandRoom, PairRoom, PairNo};
+ghost use Rattle.layout.specs.Layout.{shareWires, operandBytes, piecesFrom, ReadsShares, pairGates, xorGates};
 ghost use Rattle.layout.specs.Layout.{constantGates, andGates, orGates};
 ghost use Rattle.share_places.specs.Located.{placesAt, Room};
 
@@ -114,7 +114,7 @@ fn write_pairs(
 // Writes the operands of an XOR's wires, share by share.
 fn write_xor(ops: &mut [u8], at: usize, n: usize, a: layout::Places, b: layout::Places)
     requires { ⌜ ReadsShares n a b × (at + 4 * n ≤ length (now ops)) ⌝ }
-    ensures { λ _. ⌜ now (ops .exit) ≡ putAt at (pairBytes (joined n 0 (xorGates (shareWires n a) (shareWires n b)))) (now (ops .entry)) ⌝ }
+    ensures { λ _. ⌜ now (ops .exit) ≡ putAt at (pairBytes (piecesFrom n 0 (xorGates (shareWires n a) (shareWires n b)))) (now (ops .entry)) ⌝ }
 {
     let mut s = 0;
     while s < n {
@@ -128,7 +128,7 @@ fn write_xor(ops: &mut [u8], at: usize, n: usize, a: layout::Places, b: layout::
 // Writes the operands of a constant's shares: its value in the first, zeros in the others.
 fn write_constant(ops: &mut [u8], at: usize, n: usize, value: usize)
     requires { ⌜ (at + 4 * n ≤ length (now ops)) × (value < 65536) ⌝ }
-    ensures { λ _. ⌜ now (ops .exit) ≡ putAt at (pairBytes (joined n 0 (constantGates value))) (now (ops .entry)) ⌝ }
+    ensures { λ _. ⌜ now (ops .exit) ≡ putAt at (pairBytes (piecesFrom n 0 (constantGates value))) (now (ops .entry)) ⌝ }
 {
     let mut left = value;
     let mut s = 0;

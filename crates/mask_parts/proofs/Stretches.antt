@@ -7,7 +7,7 @@ use native.Mathlib.Numerals.{add-one}
 use native.Mathlib.Omega.{arith}
 use lib.ListN.{length, getD, drop, replicate, length-replicate, drop-of-length-le}
 use lib.Seq.{drop-cons}
-use Rattle.tables.specs.declared.GateFields as DG
+use Rattle.tables.specs.declared.GateFields as DGateFields
 use Rattle.tables.specs.Tables.{Kind, kindOf, Gate, noGate, Table, wires, gateOf, two, tableOf, operandsOf, total, wordBytes}
 use Rattle.tables.specs.Tables.{pairBytes}
 use Rattle.tables.specs.Says.{over}
@@ -21,18 +21,18 @@ use Rattle.construction.proofs.Lawful.{isw-lawful}
 use Rattle.construction.specs.Wires.{cost, share, newShares, masked, outputShares, newWires}
 use Rattle.construction.proofs.Costs.{new-length, masked-length}
 use Rattle.construction.proofs.Placed.{new-wires-read}
-use Rattle.planning.specs.declared.Plan as DP
+use Rattle.planning.specs.declared.Plan as DPlan
 use Rattle.planning.specs.Plans.{PlanReady}
 use Rattle.planning.proofs.Planning.{plan-passed}
-use Rattle.layout.specs.declared.Places as DW
-use Rattle.layout.specs.Layout.{shareWires, LowShares, operandBytes, joined}
+use Rattle.layout.specs.declared.Places as DPlaces
+use Rattle.layout.specs.Layout.{shareWires, LowShares, operandBytes, piecesFrom}
 use Rattle.layout.proofs.Bytes.{operands-append, operands-long}
 use Rattle.mask_kinds.specs.Kinds.{newKinds, gateKinds, XorsFrom}
 use Rattle.mask_kinds.proofs.GateKinds.{wire-kinds-long, new-kinds, masked-kinds, xors-after}
 use Rattle.share_places.specs.Located.{placesAt, Located, sharesTo, allShares, gateWire}
 use Rattle.share_places.proofs.Located.{shares-length, all-shares-length, gate-wire-next, shares-to-next, located-at}
 use Rattle.share_places.proofs.Turns.{Turn, turn, plan-sized, located-low}
-use Rattle.mask_parts.specs.Parts.{stretch}
+use Rattle.mask_parts.specs.Stretch.{stretch}
 
 words-append : (xs ys : List ℕ) → wordBytes (xs ++ ys) ≡ wordBytes xs ++ wordBytes ys
 unfolding wordBytes
@@ -41,21 +41,21 @@ words-append (x ∷ xs) ys = rw (words-append xs ys)
 
 -- fields, and outputs, as pieces one after another
 words-from :
-    (m i : ℕ) (xs : List ℕ) → m + i ≡ length xs → wordBytes (drop i xs) ≡ joined m i (λ j. two (getD xs j 0))
-unfolding wordBytes joined
+    (m i : ℕ) (xs : List ℕ) → m + i ≡ length xs → wordBytes (drop i xs) ≡ piecesFrom m i (λ j. two (getD xs j 0))
+unfolding wordBytes piecesFrom
 words-from zero i xs e = ap {A = List ℕ} {B = List ℕ} wordBytes (drop-of-length-le xs {i = i} (omega arith))
 words-from (suc m) i xs e =
     ap {A = List ℕ} {B = List ℕ} wordBytes (drop-cons xs i 0 (omega arith))
     ∙ ap {A = List ℕ} {B = List ℕ} (λ y. two (getD xs i 0) ++ y) (words-from m (suc i) xs (omega arith))
 
-pub shares-joined :
-    (n : ℕ) (a : DW.Places) → 1 ≤ n → wordBytes (shareWires n a) ≡ joined n 0 (λ i. two (share (shareWires n a) i))
-shares-joined n a h = words-from n 0 (shareWires n a) (omega (arith, shares-length n a h))
+pub shares-pieces :
+    (n : ℕ) (a : DPlaces.Places) → 1 ≤ n → wordBytes (shareWires n a) ≡ piecesFrom n 0 (λ i. two (share (shareWires n a) i))
+shares-pieces n a h = words-from n 0 (shareWires n a) (omega (arith, shares-length n a h))
 
 outputs-from :
     (S : List (List ℕ)) (m i : ℕ) (os : List ℕ) → m + i ≡ length os
-    → wordBytes (outputShares S (drop i os)) ≡ joined m i (λ j. wordBytes (getD S (getD os j 0) []))
-unfolding wordBytes outputShares joined
+    → wordBytes (outputShares S (drop i os)) ≡ piecesFrom m i (λ j. wordBytes (getD S (getD os j 0) []))
+unfolding wordBytes outputShares piecesFrom
 outputs-from S zero i os e =
     ap {A = List ℕ} {B = List ℕ} (λ y. wordBytes (outputShares S y)) (drop-of-length-le os {i = i} (omega arith))
 outputs-from S (suc m) i os e =
@@ -67,15 +67,15 @@ outputs-from S (suc m) i os e =
 abbrev pub outputPiece : Table → ℕ → ℕ → List ℕ
 outputPiece t n o = wordBytes (getD (allShares n t) (getD (t .outputs) o 0) [])
 
-pub outputs-joined :
+pub outputs-pieces :
     (t : Table) (n m : ℕ) → m ≡ length (t .outputs)
-    → wordBytes (outputShares (allShares n t) (t .outputs)) ≡ joined m 0 (outputPiece t n)
-outputs-joined t n m e = outputs-from (allShares n t) m 0 (t .outputs) (omega arith)
+    → wordBytes (outputShares (allShares n t) (t .outputs)) ≡ piecesFrom m 0 (outputPiece t n)
+outputs-pieces t n m e = outputs-from (allShares n t) m 0 (t .outputs) (omega arith)
 
 -- where the arrays say that output o's shares are
-module _ {s : List ℕ} {p : DP.Plan} {H B T : List ℕ} (R : PlanReady s p) (L : Located (tableOf s) (p .shares) H B T) where
-  pub read-low : {q : ℕ} {a : DW.Places} → q < p .inputs + p .gates → a ≡ placesAt H B T q → LowShares (p .shares) a
-  read-low {q} h e = subst {A = DW.Places} (LowShares (p .shares)) (sym e) (located-low R L q h)
+module _ {s : List ℕ} {p : DPlan.Plan} {H B T : List ℕ} (R : PlanReady s p) (L : Located (tableOf s) (p .shares) H B T) where
+  pub read-low : {q : ℕ} {a : DPlaces.Places} → q < p .inputs + p .gates → a ≡ placesAt H B T q → LowShares (p .shares) a
+  read-low {q} h e = subst {A = DPlaces.Places} (LowShares (p .shares)) (sym e) (located-low R L q h)
 
   module _ {o : ℕ} (h : o < p .outputs) where
     pub output-below : getD (tableOf s .outputs) o 0 < p .inputs + p .gates
@@ -101,11 +101,11 @@ module _ {s : List ℕ} {p : DP.Plan} {H B T : List ℕ} (R : PlanReady s p) (L 
 
     -- the piece of what was read
     pub output-piece :
-        {q : ℕ} {a : DW.Places} → q ≡ getD (tableOf s .outputs) o 0 → a ≡ placesAt H B T q
+        {q : ℕ} {a : DPlaces.Places} → q ≡ getD (tableOf s .outputs) o 0 → a ≡ placesAt H B T q
         → wordBytes (shareWires (p .shares) a) ≡ outputPiece (tableOf s) (p .shares) o
     output-piece e here =
         ap {A = List ℕ} {B = List ℕ} wordBytes
-        (ap {A = DW.Places} {B = List ℕ} (shareWires (p .shares)) (here ∙ ap {A = ℕ} {B = DW.Places} (placesAt H B T) e)
+        (ap {A = DPlaces.Places} {B = List ℕ} (shareWires (p .shares)) (here ∙ ap {A = ℕ} {B = DPlaces.Places} (placesAt H B T) e)
         ∙ output-shares)
 
 -- the gates of a stretch: one, and those after it
@@ -118,7 +118,7 @@ stretch-none : (t : Table) (e g : ℕ) → e ≤ g → stretch t g e ≡ []
 stretch-none t e g h = let none : e - g ≡ 0 = omega arith in rw none refl
 
 -- the operands from gate g on and before gate e are left to write; gate g's first masked wire is w
-pub record Operands (G : Gadget) (t : Table) (n : ℕ) (whole b₀ : List ℕ) (e g w at : ℕ) (b : List ℕ) : Type 0 where
+pub record OperandsLeft (G : Gadget) (t : Table) (n : ℕ) (whole b₀ : List ℕ) (e g w at : ℕ) (b : List ℕ) : Type 0 where
   pub within : g ≤ e
   pub wire : w ≡ gateWire n t g
   pub rest : Writing whole at (operandBytes (masked G n g w (sharesTo n t g) (stretch t g e))) b
@@ -129,7 +129,7 @@ operandsWhole G t n g e w b = over (operandBytes (masked G n g w (sharesTo n t g
 
 pub operands-start :
     (G : Gadget) {t : Table} {n e g w : ℕ} {b : List ℕ} → g ≤ e → w ≡ gateWire n t g
-    → 4 * total (λ k. cost k n) (stretch t g e) ≤ length b → Operands G t n (operandsWhole G t n g e w b) b e g w 0 b
+    → 4 * total (λ k. cost k n) (stretch t g e) ≤ length b → OperandsLeft G t n (operandsWhole G t n g e w b) b e g w 0 b
 operands-start G {t} {n} {e} {g} {w} {b} within wire room =
     let xs = masked G n g w (sharesTo n t g) (stretch t g e) in
     record {
@@ -139,7 +139,7 @@ operands-start G {t} {n} {e} {g} {w} {b} within wire room =
       long = refl;
     }
 
-module _ {G : Gadget} {t : Table} {n : ℕ} {whole b₀ : List ℕ} {e g w at : ℕ} {b : List ℕ} (P : Operands G t n whole b₀ e g w at b) where
+module _ {G : Gadget} {t : Table} {n : ℕ} {whole b₀ : List ℕ} {e g w at : ℕ} {b : List ℕ} (P : OperandsLeft G t n whole b₀ e g w at b) where
   pub operands-end : e ≤ g → b ≡ whole
   unfolding masked pairBytes
   operands-end h = writing-end (P .rest) (rw (stretch-none t e g h) refl)
@@ -148,13 +148,13 @@ module _ {G : Gadget} {t : Table} {n : ℕ} {whole b₀ : List ℕ} {e g w at : 
 module _
     {G : Gadget}
     {s : List ℕ}
-    {p : DP.Plan}
+    {p : DPlan.Plan}
     {whole b₀ : List ℕ}
     {e g w at : ℕ}
     {b : List ℕ}
-    {x : DG.GateFields}
+    {x : DGateFields.GateFields}
     (R : PlanReady s p)
-    (P : Operands G (tableOf s) (p .shares) whole b₀ e g w at b)
+    (P : OperandsLeft G (tableOf s) (p .shares) whole b₀ e g w at b)
     (h : g < e)
     (k : e ≤ p .gates)
     (is : GateIs (gateOf (tableOf s) g) x) where
@@ -208,7 +208,7 @@ module _
         {u : ℕ} {b′ : List ℕ}
         → b′ ≡ putAt at (operandBytes (newWires G (kindOf (x .kind)) (x .left) (p .shares) g w y z)) b
         → u ≡ cost (kindOf (x .kind)) (p .shares)
-        → Operands G (tableOf s) (p .shares) whole b₀ e (g + 1) (w + u) (at + 4 * u) b′
+        → OperandsLeft G (tableOf s) (p .shares) whole b₀ e (g + 1) (w + u) (at + 4 * u) b′
     operands-turn {u} {b′} put₀ size =
         let t = tableOf s in
         let n = p .shares in
@@ -284,7 +284,7 @@ module _ {t : Table} {n : ℕ} {whole b₀ : List ℕ} {e g at : ℕ} {b : List 
   unfolding gateKinds
   kinds-end h = writing-end (P .rest) (rw (stretch-none t e g h) refl)
 
-  module _ {x : DG.GateFields} (h : g < e) (k : e ≤ length (t .gates)) (is : GateIs (gateOf t g) x) where
+  module _ {x : DGateFields.GateFields} (h : g < e) (k : e ≤ length (t .gates)) (is : GateIs (gateOf t g) x) where
     -- a gate's piece, and what is left after it
     kinds-piece : gateKinds n (stretch t g e) ≡ newKinds (kindOf (x .kind)) n ++ gateKinds n (stretch t (suc g) e)
     unfolding gateKinds

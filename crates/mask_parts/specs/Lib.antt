@@ -1,2 +1,2 @@
 -- The plain gates that a part of the masked table is written for.
-pub mod Parts
+pub mod Stretch

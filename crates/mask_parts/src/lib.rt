@@ -12,7 +12,7 @@ ghost use Rattle.planning.specs.Plans.{PlanReady};
 ghost use Rattle.layout.specs.Layout.{shareWires, LowShares, operandBytes};
 ghost use Rattle.mask_kinds.specs.Kinds.{gateKinds};
 ghost use Rattle.share_places.specs.Located.{Located, sharesTo, allShares, gateWire};
-ghost use Rattle.mask_parts.specs.Parts.{stretch};
+ghost use Rattle.mask_parts.specs.Stretch.{stretch};
 
 // Writes the kinds of the masked gates of the plain gates from..to: those of XOR gates everywhere, then what is none.
 pub fn write_kinds(table: &[u8], p: planning::Plan, from: usize, to: usize, kinds: &mut [u8])

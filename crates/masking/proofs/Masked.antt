@@ -8,11 +8,12 @@ use native.Mathlib.Omega.{arith}
 use borrow.Author.Tests.{lt-ltb, le-ltb}
 use lib.Dec.{ltb}
 use lib.ListN.{length, getD, take, drop}
-use Rattle.tables.specs.declared.Answer as DA
-use Rattle.tables.specs.declared.Refusal as DR
+use Rattle.tables.specs.declared.Answer as DAnswer
+use Rattle.tables.specs.declared.Refusal as DRefusal
 use Rattle.tables.specs.Refusals.{Fault, fault, passed, orElse, refusedIf}
 use Rattle.tables.specs.Tables.{tableFault}
-use Rattle.tables.specs.Says.{Refused, over}
+use Rattle.tables.specs.Says.{over}
+use Rattle.tables.specs.Inside.{Refused}
 use Rattle.tables.proofs.Tests.{first-refused}
 use Rattle.tables.proofs.Answers.{first-of, writes-refused, writes-done}
 use Rattle.tables.proofs.Cut.{cut-fault, cut-refused, input-empty, input-part}
@@ -20,14 +21,14 @@ use Rattle.construction.specs.declared.And as DAnd
 use Rattle.construction.specs.declared.And.the-variants.{Isw, Dom}
 use Rattle.construction.specs.Gadgets.{Gadget, gadgetOf}
 use Rattle.construction.specs.Says.{plainFault, maskedBytes, maskFault, MaskSays}
-use Rattle.planning.specs.declared.Plan as DP
+use Rattle.planning.specs.declared.Plan as DPlan
 use Rattle.planning.specs.declared.Planned.the-variants as Planned
 use Rattle.planning.specs.Plans.{PlanSays, planBytes}
 use Rattle.masking.specs.Input.{andOf, OrderedSays, InputSays}
 use Rattle.planning.proofs.Planning.{Planned-Ready, planned-refused, plan-bytes}
 
 pub mask-refused :
-    (G : Gadget) {s : List ℕ} {o : ℕ} {r : DR.Refusal} (b : List ℕ) → PlanSays (plainFault G s o) s o (Planned.Refused r)
+    (G : Gadget) {s : List ℕ} {o : ℕ} {r : DRefusal.Refusal} (b : List ℕ) → PlanSays (plainFault G s o) s o (Planned.Refused r)
     → MaskSays G s o b b (record { number = r .number; place = r .place; value = 0 })
 unfolding maskFault
 mask-refused G {s} {o} b P =
@@ -36,7 +37,7 @@ mask-refused G {s} {o} b P =
     (first-of (refusedIf (ltb (length b) (length (maskedBytes G s o))) 9) (R .0) (R .1))
     (R .1)
 
-module _ (a : DAnd.And) {s : List ℕ} {o : ℕ} {p : DP.Plan} (P : Planned-Ready (plainFault (gadgetOf a) s o) s o p) where
+module _ (a : DAnd.And) {s : List ℕ} {o : ℕ} {p : DPlan.Plan} (P : Planned-Ready (plainFault (gadgetOf a) s o) s o p) where
   abbrev bytes : ℕ → List ℕ
   bytes y = maskedBytes (gadgetOf a) s y
 
@@ -44,7 +45,7 @@ module _ (a : DAnd.And) {s : List ℕ} {o : ℕ} {p : DP.Plan} (P : Planned-Read
   masked-long = ap (λ (y : ℕ). length (bytes y)) (sym (P .order)) ∙ plan-bytes (P .ready) a
 
   pub mask-short :
-      {b : List ℕ} {r : DR.Refusal} → length b < planBytes p → Refused (fault 9 0) r
+      {b : List ℕ} {r : DRefusal.Refusal} → length b < planBytes p → Refused (fault 9 0) r
       → MaskSays (gadgetOf a) s o b b (record { number = r .number; place = r .place; value = 0 })
   unfolding maskFault
   mask-short {b} h R =
@@ -52,7 +53,7 @@ module _ (a : DAnd.And) {s : List ℕ} {o : ℕ} {p : DP.Plan} (P : Planned-Read
       (writes-refused (bytes o) b R (λ e. omega (arith, R .number, e)))
 
   pub mask-done :
-      {b b′ : List ℕ} {r : DR.Refusal} {v : ℕ} → planBytes p ≤ length b → Refused (fault 0 0) r → v ≡ planBytes p
+      {b b′ : List ℕ} {r : DRefusal.Refusal} {v : ℕ} → planBytes p ≤ length b → Refused (fault 0 0) r → v ≡ planBytes p
       → b′ ≡ over (bytes (p .order)) b
       → MaskSays (gadgetOf a) s o b b′ (record { number = r .number; place = r .place; value = v })
   unfolding maskFault
@@ -62,11 +63,11 @@ module _ (a : DAnd.And) {s : List ℕ} {o : ℕ} {p : DP.Plan} (P : Planned-Read
 
 -- nothing, and an order byte with what follows it
 pub ordered-none :
-    (G : Gadget) (s : List ℕ) {b b′ : List ℕ} {r : DA.Answer} → length s ≡ 0 → MaskSays G s 0 b b′ r → OrderedSays G s b b′ r
+    (G : Gadget) (s : List ℕ) {b b′ : List ℕ} {r : DAnswer.Answer} → length s ≡ 0 → MaskSays G s 0 b b′ r → OrderedSays G s b b′ r
 ordered-none G s {b} {b′} {r} e M = input-empty (λ t o. MaskSays G t o b b′ r) s e M
 
 pub ordered-part :
-    (G : Gadget) (s : List ℕ) {b b′ : List ℕ} {r : DA.Answer} → MaskSays G (take (length s - 1) (drop 1 s)) (getD s 0 0) b b′ r
+    (G : Gadget) (s : List ℕ) {b b′ : List ℕ} {r : DAnswer.Answer} → MaskSays G (take (length s - 1) (drop 1 s)) (getD s 0 0) b b′ r
     → OrderedSays G s b b′ r
 ordered-part G s {b} {b′} {r} M = input-part (λ t o. MaskSays G t o b b′ r) s M
 
@@ -81,11 +82,11 @@ and-other (suc b) e = refl
 
 -- no input, and a byte that names the AND with what follows it
 pub mask-none :
-    (s : List ℕ) {b b′ : List ℕ} {r : DA.Answer} → length s ≡ 0 → OrderedSays (gadgetOf Isw) s b b′ r → InputSays s b b′ r
+    (s : List ℕ) {b b′ : List ℕ} {r : DAnswer.Answer} → length s ≡ 0 → OrderedSays (gadgetOf Isw) s b b′ r → InputSays s b b′ r
 mask-none s {b} {b′} {r} e M = input-empty (λ t o. OrderedSays (gadgetOf (andOf o)) t b b′ r) s e M
 
 pub mask-part :
-    (s : List ℕ) {a : DAnd.And} {b b′ : List ℕ} {r : DA.Answer} → a ≡ andOf (getD s 0 0)
+    (s : List ℕ) {a : DAnd.And} {b b′ : List ℕ} {r : DAnswer.Answer} → a ≡ andOf (getD s 0 0)
     → OrderedSays (gadgetOf a) (take (length s - 1) (drop 1 s)) b b′ r → InputSays s b b′ r
 mask-part s {a} {b} {b′} {r} e M =
     input-part (λ t o. OrderedSays (gadgetOf (andOf o)) t b b′ r) s

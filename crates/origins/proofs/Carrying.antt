@@ -12,15 +12,15 @@ use lib.Dec.{eqb, ltb, leb}
 use lib.ListN.{length}
 use Rattle.tables.specs.Refusals.{fault, none}
 use Rattle.tables.specs.Tables.{XOR, AND, CONSTANT, OR, kindOf, gate, Table, wires, tableOf}
-use Rattle.tables.specs.declared.Refusal as DR
-use Rattle.planning.specs.declared.Plan as DP
-use Rattle.origins.specs.declared.NewWire as DW
-use Rattle.origins.specs.declared.Carried as DC
-use Rattle.origins.specs.declared.AndPart as DA
+use Rattle.tables.specs.declared.Refusal as DRefusal
+use Rattle.planning.specs.declared.Plan as DPlan
+use Rattle.origins.specs.declared.NewWire as DNewWire
+use Rattle.origins.specs.declared.Carried as DCarried
+use Rattle.origins.specs.declared.AndPart as DAndPart
 use Rattle.origins.specs.declared.AndPart.the-variants.{Pair, Own, Sum}
 use Rattle.construction.specs.Shares.{sharesOf}
 use Rattle.construction.specs.declared.And as DAnd
-use Rattle.construction.specs.declared.PairForm as DF
+use Rattle.construction.specs.declared.PairForm as DPairForm
 use Rattle.construction.specs.Gadgets.{indexOf, Gadget, gadgetOf}
 use Rattle.construction.specs.Forms.{withPins, formMarks, FormSays}
 use Rattle.construction.specs.Wires.{inAnd, xorShare, andPart, constantShare, orPart, partMarks, marks, share, firstOn, andCost, cost}
@@ -37,18 +37,18 @@ use Rattle.construction.proofs.Pins.{probe-marks}
 use Rattle.construction.proofs.Origins.{origins-input, not-origin, share-origin, first-origin, last-origin, inner-origin}
 
 -- one share number, or two
-abbrev pub one : ℕ → DC.Carried
+abbrev pub one : ℕ → DCarried.Carried
 one i = record { first = i + 1; second = 0 }
 
-abbrev pub both : ℕ → ℕ → DC.Carried
+abbrev pub both : ℕ → ℕ → DCarried.Carried
 both i j = record { first = i + 1; second = j + 1 }
 
 is-one :
-    {G : Gadget} {p : DA.AndPart} (i : ℕ) → partMarks G (partOf p) ≡ suc i ∷ [] → PartMarksSay G p (one i)
+    {G : Gadget} {p : DAndPart.AndPart} (i : ℕ) → partMarks G (partOf p) ≡ suc i ∷ [] → PartMarksSay G p (one i)
 is-one i h = record { carried = record { first = rw h (add-one i); second = rw h } }
 
 is-both :
-    {G : Gadget} {p : DA.AndPart} (i j : ℕ) → partMarks G (partOf p) ≡ suc i ∷ suc j ∷ [] → PartMarksSay G p (both i j)
+    {G : Gadget} {p : DAndPart.AndPart} (i j : ℕ) → partMarks G (partOf p) ≡ suc i ∷ suc j ∷ [] → PartMarksSay G p (both i j)
 is-both i j h = record { carried = record { first = rw h (add-one i); second = rw h (add-one j) } }
 
 index-five : (f : ℕ) → f < 5 → indexOf (fiveOf f) ≡ f
@@ -60,12 +60,12 @@ index-five (suc (suc (suc (suc zero)))) h = refl
 index-five (suc (suc (suc (suc (suc f))))) h = absurd (omega arith)
 
 pub pair-among :
-    {p : DA.AndPart} (f i j : ℕ) → p ≡ Pair f i j → Among 31 p → (f < 5) × (i < j) × (j < 31)
+    {p : DAndPart.AndPart} (f i j : ℕ) → p ≡ Pair f i j → Among 31 p → (f < 5) × (i < j) × (j < 31)
 pair-among f i j e a = rw e at a
 
 -- a wire of a pair, by the form of the AND's pairs
 module _
-    {G : Gadget} {r : DF.PairForm} (F : FormSays G r) {p : DA.AndPart} (f i j : ℕ) (e : p ≡ Pair f i j) (A : Among 31 p)
+    {G : Gadget} {r : DPairForm.PairForm} (F : FormSays G r) {p : DAndPart.AndPart} (f i j : ℕ) (e : p ≡ Pair f i j) (A : Among 31 p)
   where
     marks-are : partMarks (withPins G) (partOf p) ≡ formMarks r (suc i) (suc j) f
     marks-are =
@@ -81,14 +81,14 @@ module _
     pub cross-marks : eqb f 0 && eqb f (r .low) ≡ false → PartMarksSay (withPins G) p (both i j)
     cross-marks h = is-both i j (marks-are ∙ rw h)
 
-module _ {p : DA.AndPart} (i : ℕ) (e : p ≡ Own i) where
+module _ {p : DAndPart.AndPart} (i : ℕ) (e : p ≡ Own i) where
   pub own-among : {n : ℕ} → Among n p → i < n
   own-among a = rw e at a
 
   pub own-marks : {G : Gadget} → PartMarksSay G p (one i)
   own-marks = rw e (is-one i refl)
 
-module _ {p : DA.AndPart} (i m : ℕ) (e : p ≡ Sum i m) where
+module _ {p : DAndPart.AndPart} (i m : ℕ) (e : p ≡ Sum i m) where
   pub sum-among : {n : ℕ} → Among n p → i < n
   sum-among a = (rw e at a) .0
 
@@ -117,11 +117,15 @@ module _ (n d : ℕ) {e : ℕ} (last : e ≡ 2 + andCost n) where
         (ltb-false d 2 (both .0), omega (arith, other, last))
 
     pub or-and-marks :
-        {H : Gadget} {p : DA.AndPart} {r : DC.Carried} → PartSays n (d - 2) p → PartMarksSay H p r → GateMarksSay H OR n d r
+        {H : Gadget} {p : DAndPart.AndPart} {r : DCarried.Carried} → PartSays n (d - 2) p → PartMarksSay H p r → GateMarksSay H OR n d r
     or-and-marks P M =
         record {
           carried = λ G l g w a b.
-              rw (inner-origin G l n g w a b d (inner .0) (inner .1), P .origin G (λ p. orPart g (inAnd p)) (suc (suc w)) (firstOn w a) (firstOn (suc w) b))
+              rw (
+                inner-origin G l n g w a b d (inner .0) (inner .1),
+                P .origin G
+                    (λ p. orPart g (inAnd p)) (suc (suc w)) (firstOn w a) (firstOn (suc w) b),
+              )
               (M .carried);
         }
 
@@ -162,7 +166,7 @@ module _ (k n d : ℕ) (h : d < cost (kindOf k) n) where
   and-below e = rw e at h
 
   pub and-marks :
-      {H : Gadget} {p : DA.AndPart} {r : DC.Carried} → k ≡ 2 → PartSays n d p → PartMarksSay H p r → GateMarksSay H (kindOf k) n d r
+      {H : Gadget} {p : DAndPart.AndPart} {r : DCarried.Carried} → k ≡ 2 → PartSays n d p → PartMarksSay H p r → GateMarksSay H (kindOf k) n d r
   and-marks e P M = rw e (record { carried = λ G l g w a b. rw (P .origin G (andPart g) w a b) (M .carried) })
 
   -- a gate with new wires of no other kind
@@ -180,16 +184,16 @@ module _ (k n d : ℕ) (h : d < cost (kindOf k) n) where
       go (suc (suc (suc (suc (suc zero))))) p q r s h = refl
       go (suc (suc (suc (suc (suc (suc k)))))) p q r s h = absurd (omega arith)
 
-  pub or-marks : {H : Gadget} {r : DC.Carried} → kindOf k ≡ OR → GateMarksSay H OR n d r → GateMarksSay H (kindOf k) n d r
+  pub or-marks : {H : Gadget} {r : DCarried.Carried} → kindOf k ≡ OR → GateMarksSay H OR n d r → GateMarksSay H (kindOf k) n d r
   or-marks e M = rw e M
 
-pub among-more : {n m : ℕ} (p : DA.AndPart) → n ≤ m → Among n p → Among m p
+pub among-more : {n m : ℕ} (p : DAndPart.AndPart) → n ≤ m → Among n p → Among m p
 among-more (Pair f i j) h a = omega arith
 among-more (Own i) h a = omega arith
 among-more (Sum i m) h a = omega arith
 
 -- the wires of a planned table: an input share, and a new wire of a gate
-module _ (a : DAnd.And) {s : List ℕ} {p : DP.Plan} {w : ℕ} (R : PlanReady s p) (inside : w < p .wires) where
+module _ (a : DAnd.And) {s : List ℕ} {p : DPlan.Plan} {w : ℕ} (R : PlanReady s p) (inside : w < p .wires) where
   abbrev G : Gadget
   G = gadgetOf a
 
@@ -213,18 +217,18 @@ module _ (a : DAnd.And) {s : List ℕ} {p : DP.Plan} {w : ℕ} (R : PlanReady s 
       rw (R .shares, joined-marks .0, origins-input G (p .order) t w (omega arith))
       (record { first = add-one (w % sharesOf (p .order)); second = refl })
 
-  pub new-below : {x : DW.NewWire} → NewWireSays G t (p .order) w x → x .place < cost (kindOf (x .kind)) (p .shares)
+  pub new-below : {x : DNewWire.NewWire} → NewWireSays G t (p .order) w x → x .place < cost (kindOf (x .kind)) (p .shares)
   new-below N = rw (R .shares) (N .below)
 
   pub new-carried :
-      {x : DW.NewWire} {r : DC.Carried} → NewWireSays G t (p .order) w x
+      {x : DNewWire.NewWire} {r : DCarried.Carried} → NewWireSays G t (p .order) w x
       → GateMarksSay (withPins G) (kindOf (x .kind)) (p .shares) (x .place) r → CarriedSays (probeMarks G (p .order) t w) r
   new-carried {x} N M =
       rw (joined-marks .0, N .origin) ((rw (R .shares) at M) .carried G (N .operand) (x .gate) (N .start) (N .left) (N .right))
 
 -- the marks call: 1 to 8, 13, and the share numbers
 pub marks-refused :
-    (G : Gadget) {s : List ℕ} {o : ℕ} {r : DR.Refusal} (w : ℕ) → PlanSays (plainFault G s o) s o (Planned.Refused r)
+    (G : Gadget) {s : List ℕ} {o : ℕ} {r : DRefusal.Refusal} (w : ℕ) → PlanSays (plainFault G s o) s o (Planned.Refused r)
     → MarksSay G (probeMarks G) s o w (record { number = r .number; place = r .place; first = 0; second = 0 })
 unfolding marksFault
 marks-refused G w P =
@@ -233,7 +237,7 @@ marks-refused G w P =
     let fails = refused-fails F (R .1) in
     record { number = F .number; place = F .place; first = rw fails; second = rw fails }
 
-module _ (a : DAnd.And) {s : List ℕ} {o : ℕ} {p : DP.Plan} (P : Planned-Ready (plainFault (gadgetOf a) s o) s o p) where
+module _ (a : DAnd.And) {s : List ℕ} {o : ℕ} {p : DPlan.Plan} (P : Planned-Ready (plainFault (gadgetOf a) s o) s o p) where
   masked-wires-are : wires (maskedTable (gadgetOf a) o (tableOf s)) ≡ p .wires
   masked-wires-are = rw (← P .order) (sym (P .ready .wires a))
 
@@ -247,7 +251,7 @@ module _ (a : DAnd.And) {s : List ℕ} {o : ℕ} {p : DP.Plan} (P : Planned-Read
       record { number = rw e; place = rw e; first = rw e; second = rw e }
 
   pub marks-inside :
-      (w : ℕ) {c : DC.Carried} → w < p .wires → CarriedSays (probeMarks (gadgetOf a) (p .order) (tableOf s) w) c
+      (w : ℕ) {c : DCarried.Carried} → w < p .wires → CarriedSays (probeMarks (gadgetOf a) (p .order) (tableOf s) w) c
       → MarksSay (gadgetOf a) (probeMarks (gadgetOf a)) s o w (record { number = 0; place = 0; first = c .first; second = c .second })
   unfolding marksFault
   marks-inside w h C =

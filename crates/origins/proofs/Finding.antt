@@ -9,7 +9,7 @@ use lib.ListN.{length, getD, drop, List·getD-append}
 use lib.Seq.{getD-append-add, drop-cons}
 use Rattle.tables.specs.Tables.{kindOf, noGate, Table, gateOf, tableOf, total}
 use Rattle.tables.proofs.Total.{total-next, total-none}
-use Rattle.planning.specs.declared.Plan as DP
+use Rattle.planning.specs.declared.Plan as DPlan
 use Rattle.construction.specs.Shares.{sharesOf, upFrom, pairOf, pairsFrom, pairs, tri}
 use Rattle.construction.specs.declared.And.the-variants.{Isw}
 use Rattle.construction.specs.Gadgets.{Gadget, isw}
@@ -82,7 +82,7 @@ pub record Seeking (t : Table) (n wire g start : ℕ) : Type 0 where
       ≡ originAt (map originOf (masked G n g start shares (drop g (t .gates)))) (wire - start)
 
 pub seek-start :
-    {s : List ℕ} {p : DP.Plan} {wire : ℕ} → PlanReady s p → p .shares * p .inputs ≤ wire → wire < p .wires
+    {s : List ℕ} {p : DPlan.Plan} {wire : ℕ} → PlanReady s p → p .shares * p .inputs ≤ wire → wire < p .wires
     → Seeking (tableOf s) (p .shares) wire 0 (p .shares * p .inputs)
 seek-start {s} {p} {wire} R h k =
     let n = p .shares in

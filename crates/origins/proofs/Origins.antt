@@ -5,9 +5,9 @@ use Prim.Native.Nat.{ℕ, zero, suc, _+_, _-_, _*_, _/_, _%_, _≤_, _<_}
 use native.Mathlib.Nat.{mod-lt, div-add-mod, div-lt-iff-lt-mul}
 use native.Mathlib.Omega.{arith}
 use Rattle.tables.specs.Tables.{AND}
-use Rattle.origins.specs.declared.SharePair as DP
+use Rattle.origins.specs.declared.SharePair as DSharePair
 use Rattle.origins.specs.declared.AndPart.the-variants.{Pair, Own, Sum}
-use Rattle.construction.specs.Shares as DS
+use Rattle.construction.specs.Shares as Shares
 use Rattle.construction.specs.Shares.{tri}
 use Rattle.construction.specs.Gadgets.{indexOf}
 use Rattle.construction.specs.Wires.{pair, cost}
@@ -23,14 +23,14 @@ five-index (suc (suc (suc (suc k)))) h = omega arith
 
 -- wire d of an AND, before its rows
 pub pair-says :
-    (n d c : ℕ) {p : DP.SharePair} → c ≡ tri n → d < 5 * c → PairSays n (d / 5) p
+    (n d c : ℕ) {p : DSharePair.SharePair} → c ≡ tri n → d < 5 * c → PairSays n (d / 5) p
     → PartSays n d (Pair (d % 5) (p .lower) (p .upper))
 pair-says n d c {p} e h P =
     record {
       origin =
           λ G part w a b.
           pair-origin G n part w a b (fiveOf (d % 5)) (d / 5) d (omega arith) (omega (arith, five-index (d % 5) (omega arith)))
-          ∙ ap (λ (y : DS.Pair). part (pair (fiveOf (d % 5)) (y .lower) (y .upper))) (sym (P .is));
+          ∙ ap (λ (y : Shares.Pair). part (pair (fiveOf (d % 5)) (y .lower) (y .upper))) (sym (P .is));
       among = (omega arith, P .ordered, P .inside);
     }
 

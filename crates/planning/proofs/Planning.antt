@@ -11,29 +11,29 @@ use borrow.Author.Tests.{lt-ltb, le-ltb, not-false}
 use lib.Dec.{ltb}
 use lib.ListN.{length, drop, drop-of-length-le}
 use lib.Seq.{drop-cons}
-use Rattle.tables.specs.declared.Refusal as DR
+use Rattle.tables.specs.declared.Refusal as DRefusal
 use Rattle.tables.specs.Refusals.{Fault, fault, none, passed, orElse, refusedIf}
 use Rattle.tables.specs.Tables.{NOT, XOR, AND, CONSTANT, OR, kindOf, noGate, gateOf, Table, wires, word, tableOf}
 use Rattle.tables.specs.Tables.{tableBytes, tableFault, isRandom, randomFault}
 use Rattle.tables.specs.Counted.{countsOf}
-use Rattle.tables.specs.Says.{Refused}
+use Rattle.tables.specs.Inside.{Refused}
 use Rattle.tables.proofs.Tests.{both-passed, not-refused, or-else-assoc}
 use Rattle.tables.proofs.Answers.{refused-is, refused-passed, refused-fails, first-of}
 use Rattle.tables.proofs.Total.{total-below, count-small}
 use Rattle.tables.proofs.Format.{table-long}
 use Rattle.tables.proofs.Accept.{inputs-of, gates-of-length, outputs-of-length, accepted-few}
-use Rattle.tables.specs.declared.Counts as DC
-use Rattle.planning.specs.declared.Totals as DT
-use Rattle.planning.specs.declared.Plan as DP
-use Rattle.planning.specs.declared.Planned as DN
+use Rattle.tables.specs.declared.Counts as DCounts
+use Rattle.planning.specs.declared.Totals as DTotals
+use Rattle.planning.specs.declared.Plan as DPlan
+use Rattle.planning.specs.declared.Planned as DPlanned
 use Rattle.planning.specs.declared.Planned.the-variants as Planned
 use Rattle.construction.specs.Shares.{sharesOf}
 use Rattle.construction.specs.declared.And as DAnd
 use Rattle.construction.specs.declared.And.the-variants.{Isw}
 use Rattle.construction.specs.Gadgets.{isw, gadgetOf}
-use Rattle.construction.specs.Wires.{cost, draws, maskedTable, tapeLong}
+use Rattle.construction.specs.Wires.{cost, maskedTable, tapeLong}
 use Rattle.construction.specs.Says.{orderOk, orderFault, tooMany, plainFault}
-use Rattle.construction.specs.Counts.{figuresBy, tooManyBy}
+use Rattle.construction.specs.Counts.{draws, figuresBy, tooManyBy}
 use Rattle.planning.specs.Plans.{Maskable, FewGates, TotalsSay, Countable, noPlan, planBy, PlannedBy, plannedFault, plannedSizes}
 use Rattle.planning.specs.Plans.{PlanReady, PlanSays, PlanFits, planBytes}
 use Rattle.construction.proofs.Passed.{PlainPassed, plain-passed}
@@ -82,7 +82,7 @@ pub few-times : (c v m : ℕ) → c ≤ 65535 → v ≤ m → c * v ≤ 65535 * 
 few-times c v m h k = mul-le-mul {n₂ = 65535} {m₂ = m} h k
 
 -- the totals of counts that a table can have
-module _ {c : DC.Counts} {n : ℕ} {r : DT.Totals} (F : FewGates c) (few : n ≤ 31) (T : TotalsSay c n r) where
+module _ {c : DCounts.Counts} {n : ℕ} {r : DTotals.Totals} (F : FewGates c) (few : n ≤ 31) (T : TotalsSay c n r) where
   pub few-total-wires : r .wires ≤ 5 * (65535 * 3289)
   few-total-wires =
       omega (
@@ -109,7 +109,7 @@ few-shares {o = o} M = omega (arith, order-range o (M .order) .1)
 
 -- the counts of an accepted table, at an order that 6 accepts
 pub countable :
-    {s : List ℕ} {o i q : ℕ} {c : DC.Counts} → Maskable s o → i < 65536 → q < 65536 → c ≡ countsOf (tableOf s .gates)
+    {s : List ℕ} {o i q : ℕ} {c : DCounts.Counts} → Maskable s o → i < 65536 → q < 65536 → c ≡ countsOf (tableOf s .gates)
     → Countable o i q c
 countable {s} {o} M hi hq e =
     let gs = tableOf s .gates in
@@ -130,7 +130,7 @@ countable {s} {o} M hi hq e =
 
 -- an answer that refuses
 pub refuses :
-    {f : Fault} {s : List ℕ} {o : ℕ} {r : DR.Refusal} → Refused f r → (r .number ≡ 0 → ⊥)
+    {f : Fault} {s : List ℕ} {o : ℕ} {r : DRefusal.Refusal} → Refused f r → (r .number ≡ 0 → ⊥)
     → PlanSays f s o (Planned.Refused r)
 refuses {f} {s} {o} {r} R h =
     let fails = refused-fails R h in
@@ -142,12 +142,12 @@ refuses {f} {s} {o} {r} R h =
 
 -- the checks of the plan in their order: 1 to 5, then 6 and 7, then 8
 pub table-refused :
-    {s : List ℕ} {o : ℕ} {r : DR.Refusal} → Refused (tableFault s) r → (r .number ≡ 0 → ⊥)
+    {s : List ℕ} {o : ℕ} {r : DRefusal.Refusal} → Refused (tableFault s) r → (r .number ≡ 0 → ⊥)
     → (a : DAnd.And) → PlanSays (plainFault (gadgetOf a) s o) s o (Planned.Refused r)
 unfolding plainFault
 table-refused R h a = refuses (first-of _ R h) h
 
-module _ {s : List ℕ} {o : ℕ} {r : DR.Refusal} (T : passed (tableFault s) ≡ true)
+module _ {s : List ℕ} {o : ℕ} {r : DRefusal.Refusal} (T : passed (tableFault s) ≡ true)
     (R : Refused (orElse (orderFault o) (randomFault 0 (tableOf s .gates))) r) where
   pub chain-refused : (r .number ≡ 0 → ⊥) → (a : DAnd.And) → PlanSays (plainFault (gadgetOf a) s o) s o (Planned.Refused r)
   unfolding plainFault
@@ -167,7 +167,7 @@ module _ {s : List ℕ} {o : ℕ} {r : DR.Refusal} (T : passed (tableFault s) �
       }
 
 -- 8 or the sizes by the formula, from what the code has computed: n shares, and the gates' totals
-module _ (o i g q : ℕ) {n : ℕ} {c : DC.Counts} {r : DT.Totals} (en : n ≡ sharesOf o) (T : TotalsSay c n r) where
+module _ (o i g q : ℕ) {n : ℕ} {c : DCounts.Counts} {r : DTotals.Totals} (en : n ≡ sharesOf o) (T : TotalsSay c n r) where
   all : TotalsSay c (sharesOf o) r
   all = subst (λ (m : ℕ). TotalsSay c m r) en T
 
@@ -177,17 +177,17 @@ module _ (o i g q : ℕ) {n : ℕ} {c : DC.Counts} {r : DT.Totals} (en : n ≡ s
   by-many : {b d : Bool} → ltb 65535 (n * i + r .wires) ≡ b → ltb 65535 (n * q) ≡ d → tooManyBy o i q c ≡ (b || d)
   by-many x y = sym (λ j. ltb 65535 (by-wires j) || ltb 65535 (en j * q)) ∙ (λ j. x j || y j)
 
-  by-eight : {z : DR.Refusal} → tooManyBy o i q c ≡ true → Refused (fault 8 0) z → PlannedBy o i g q c (Planned.Refused z)
+  by-eight : {z : DRefusal.Refusal} → tooManyBy o i q c ≡ true → Refused (fault 8 0) z → PlannedBy o i g q c (Planned.Refused z)
   by-eight e R = record {
     fault = (λ j. record { number = R .number j; place = R .place j }) ∙ sym (ap (λ (b : Bool). refusedIf b 8) e);
     sizes = sym (ap (λ (b : Bool). cond b noPlan (planBy o i g q c)) e);
   }
 
-  pub many-wires : {z : DR.Refusal} → Refused (fault 8 0) z → 65535 < n * i + r .wires → PlannedBy o i g q c (Planned.Refused z)
+  pub many-wires : {z : DRefusal.Refusal} → Refused (fault 8 0) z → 65535 < n * i + r .wires → PlannedBy o i g q c (Planned.Refused z)
   many-wires R h = by-eight (by-many (lt-ltb 65535 _ h) refl) R
 
   pub many-outputs :
-      {z : DR.Refusal} → Refused (fault 8 0) z → n * i + r .wires ≤ 65535 → 65535 < n * q
+      {z : DRefusal.Refusal} → Refused (fault 8 0) z → n * i + r .wires ≤ 65535 → 65535 < n * q
       → PlannedBy o i g q c (Planned.Refused z)
   many-outputs R h k = by-eight (by-many (le-ltb 65535 _ h) (lt-ltb 65535 _ k)) R
 
@@ -223,7 +223,7 @@ module _ (o i g q : ℕ) {n : ℕ} {c : DC.Counts} {r : DT.Totals} (en : n ≡ s
 
 -- what was planned by the formula, from the sizes that the table states and its counts, is what the table comes to
 pub planned-counted :
-    {s : List ℕ} {o i g q : ℕ} {c : DC.Counts} {r : DN.Planned} → Maskable s o → i ≡ word s 0 → g ≡ word s 2 → q ≡ word s 4
+    {s : List ℕ} {o i g q : ℕ} {c : DCounts.Counts} {r : DPlanned.Planned} → Maskable s o → i ≡ word s 0 → g ≡ word s 2 → q ≡ word s 4
     → c ≡ countsOf (tableOf s .gates) → PlannedBy o i g q c r
     → (a : DAnd.And) → PlanSays (plainFault (gadgetOf a) s o) s o r
 planned-counted {s} {o} {i} {g} {q} {c} {r} M ei eg eq ec P a =
@@ -236,7 +236,7 @@ planned-counted {s} {o} {i} {g} {q} {c} {r} M ei eg eq ec P a =
     (P .sizes
     ∙ (λ j. cond (tooManyBy o (inputs j) (outputs j) (ec j)) noPlan (planBy o (inputs j) (gates j) (outputs j) (ec j))))
   where
-    whole : DP.Plan
+    whole : DPlan.Plan
     whole = planBy o (tableOf s .inputs) (length (tableOf s .gates)) (length (tableOf s .outputs)) (countsOf (tableOf s .gates))
 
     by-case :
@@ -246,15 +246,15 @@ planned-counted {s} {o} {i} {g} {q} {c} {r} M ei eg eq ec P a =
         subst (λ (x : Fault). PlanSays x s o r) (sym (e a))
         (record {
           fault = f;
-          order = ap (λ (p : DP.Plan). p .order) z;
+          order = ap (λ (p : DPlan.Plan). p .order) z;
           sizes = λ h. let no : _≡_ {A = ℕ} 0 1 = cc in absurd (omega (arith, no));
         })
     by-case false e f z =
         subst (λ (x : Fault). PlanSays x s o r) (sym (e a))
         (record {
           fault = f;
-          order = ap (λ (p : DP.Plan). p .order) z;
-          sizes = λ h. subst (λ (p : DP.Plan). PlanReady s p) (sym z)
+          order = ap (λ (p : DPlan.Plan). p .order) z;
+          sizes = λ h. subst (λ (p : DPlan.Plan). PlanReady s p) (sym z)
               (record {
                 none = e;
                 inputs = refl;
@@ -268,11 +268,11 @@ planned-counted {s} {o} {i} {g} {q} {c} {r} M ei eg eq ec P a =
 
 -- what an answer says, by its case
 pub planned-as :
-    {f : Fault} {s : List ℕ} {o : ℕ} {r q : DN.Planned} → PlanSays f s o r → r ≡ q → PlanSays f s o q
-planned-as {f} {s} {o} P e = subst (λ (x : DN.Planned). PlanSays f s o x) e P
+    {f : Fault} {s : List ℕ} {o : ℕ} {r q : DPlanned.Planned} → PlanSays f s o r → r ≡ q → PlanSays f s o q
+planned-as {f} {s} {o} P e = subst (λ (x : DPlanned.Planned). PlanSays f s o x) e P
 
 pub planned-refused :
-    {f : Fault} {s : List ℕ} {o : ℕ} {r : DR.Refusal} → PlanSays f s o (Planned.Refused r)
+    {f : Fault} {s : List ℕ} {o : ℕ} {r : DRefusal.Refusal} → PlanSays f s o (Planned.Refused r)
     → Refused f r × (r .number ≡ 0 → ⊥)
 planned-refused {f} {s} {o} {r} P =
     (refused-is f r (sym (P .fault)), λ e. no (refused-passed (refused-is f r (sym (P .fault))) e))
@@ -280,13 +280,13 @@ planned-refused {f} {s} {o} {r} P =
     no : passed f ≡ true → ⊥
     no h = let z : _≡_ {A = ℕ} 0 (sharesOf 0) = P .sizes h .shares in omega (arith, z)
 
-pub record Planned-Ready (f : Fault) (s : List ℕ) (o : ℕ) (p : DP.Plan) : Type 0 where
+pub record Planned-Ready (f : Fault) (s : List ℕ) (o : ℕ) (p : DPlan.Plan) : Type 0 where
   pub none : f ≡ none
   pub order : p .order ≡ o
   pub ready : PlanReady s p
 
 pub planned-ready :
-    {f : Fault} {s : List ℕ} {o : ℕ} {p : DP.Plan} → PlanSays f s o (Planned.Ready p) → Planned-Ready f s o p
+    {f : Fault} {s : List ℕ} {o : ℕ} {p : DPlan.Plan} → PlanSays f s o (Planned.Ready p) → Planned-Ready f s o p
 planned-ready P =
     let e = sym (P .fault) in
     record { none = e; order = P .order ∙ rw e; ready = P .sizes (rw e) }
@@ -302,7 +302,7 @@ tape-below a o t =
     )
 
 -- what holds of a plan, with whichever AND
-module _ {s : List ℕ} {p : DP.Plan} (R : PlanReady s p) where
+module _ {s : List ℕ} {p : DPlan.Plan} (R : PlanReady s p) where
   few-outputs : p .shares * p .outputs ≡ sharesOf (p .order) * length (tableOf s .outputs)
   few-outputs = rw (R .shares, R .outputs)
 

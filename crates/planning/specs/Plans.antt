@@ -6,22 +6,22 @@ use mathlib.Core.Bool.{true, cond}
 use mathlib.Core.List.{List}
 use Prim.Native.Nat.{ℕ, _-_, _*_, _≤_}
 use lib.ListN.{length}
-use Rattle.tables.specs.declared.Counts as DC
-use Rattle.planning.specs.declared.Plan as DP
-use Rattle.planning.specs.declared.Totals as DT
-use Rattle.planning.specs.declared.Planned as DN
+use Rattle.tables.specs.declared.Counts as DCounts
+use Rattle.planning.specs.declared.Plan as DPlan
+use Rattle.planning.specs.declared.Totals as DTotals
+use Rattle.planning.specs.declared.Planned as DPlanned
 use Rattle.planning.specs.declared.Planned.the-variants as Planned
 use Rattle.tables.specs.Refusals.{Fault, fault, none, passed, refusedIf}
 use Rattle.tables.specs.Tables.{wires, tableOf, tableFault, randomFault, tableLong}
 use Rattle.construction.specs.Shares.{sharesOf}
 use Rattle.construction.specs.declared.And as DAnd
 use Rattle.construction.specs.Gadgets.{gadgetOf}
-use Rattle.construction.specs.Wires.{cost, draws, maskedTable, tapeLong}
+use Rattle.construction.specs.Wires.{cost, maskedTable, tapeLong}
 use Rattle.construction.specs.Says.{orderOk, plainFault}
-use Rattle.construction.specs.Counts.{counted, figuresBy, tooManyBy}
+use Rattle.construction.specs.Counts.{draws, counted, figuresBy, tooManyBy}
 
 -- no more gates of a kind than a table can have
-pub record FewGates (c : DC.Counts) : Type 0 where
+pub record FewGates (c : DCounts.Counts) : Type 0 where
   pub nots : c .nots ≤ 65535
   pub xors : c .xors ≤ 65535
   pub ands : c .ands ≤ 65535
@@ -29,12 +29,12 @@ pub record FewGates (c : DC.Counts) : Type 0 where
   pub ors : c .ors ≤ 65535
 
 -- what so many gates of each kind cost and draw at n shares
-pub record TotalsSay (c : DC.Counts) (n : ℕ) (r : DT.Totals) : Type 0 where
+pub record TotalsSay (c : DCounts.Counts) (n : ℕ) (r : DTotals.Totals) : Type 0 where
   pub wires : r .wires ≡ counted (λ k. cost k n) c
   pub draws : r .draws ≡ counted (λ k. draws k n) c
 
 -- an order that 6 accepts, and sizes and counts that a table can have
-pub record Countable (o i q : ℕ) (c : DC.Counts) : Type 0 where
+pub record Countable (o i q : ℕ) (c : DCounts.Counts) : Type 0 where
   pub order : sharesOf o ≤ 31
   pub inputs : i ≤ 65535
   pub outputs : q ≤ 65535
@@ -47,21 +47,21 @@ pub record Maskable (s : List ℕ) (o : ℕ) : Type 0 where
   pub plain : passed (randomFault 0 (tableOf s .gates)) ≡ true
 
 -- the number and the place of each answer
-abbrev pub plannedFault : DN.Planned → Fault
+abbrev pub plannedFault : DPlanned.Planned → Fault
 plannedFault (Planned.Refused r) = fault (r .number) (r .place)
 plannedFault (Planned.Ready p) = none
 
 -- all sizes are 0
-abbrev pub noPlan : DP.Plan
+abbrev pub noPlan : DPlan.Plan
 noPlan = record { order = 0; inputs = 0; gates = 0; outputs = 0; shares = 0; wires = 0; tape = 0 }
 
 -- the sizes of each answer, all 0 on a refusal
-abbrev pub plannedSizes : DN.Planned → DP.Plan
+abbrev pub plannedSizes : DPlanned.Planned → DPlan.Plan
 plannedSizes (Planned.Refused r) = noPlan
 plannedSizes (Planned.Ready p) = p
 
 -- the plan by the formula, of i inputs, g gates, q outputs and the counts c
-abbrev pub planBy : ℕ → ℕ → ℕ → ℕ → DC.Counts → DP.Plan
+abbrev pub planBy : ℕ → ℕ → ℕ → ℕ → DCounts.Counts → DPlan.Plan
 planBy o i g q c =
     let f = figuresBy o i q c in
     record {
@@ -75,12 +75,12 @@ planBy o i g q c =
     }
 
 -- planning by the formula: 8, or the sizes
-pub record PlannedBy (o i g q : ℕ) (c : DC.Counts) (r : DN.Planned) : Type 0 where
+pub record PlannedBy (o i g q : ℕ) (c : DCounts.Counts) (r : DPlanned.Planned) : Type 0 where
   pub fault : plannedFault r ≡ refusedIf (tooManyBy o i q c) 8
   pub sizes : plannedSizes r ≡ cond (tooManyBy o i q c) noPlan (planBy o i g q c)
 
 -- none of 1 to 8 refuses at the plan's order, and these are the sizes of the plain table and of its masked table, with whichever AND
-pub record PlanReady (s : List ℕ) (p : DP.Plan) : Type 0 where
+pub record PlanReady (s : List ℕ) (p : DPlan.Plan) : Type 0 where
   pub none : (a : DAnd.And) → plainFault (gadgetOf a) s (p .order) ≡ none
   pub inputs : p .inputs ≡ tableOf s .inputs
   pub gates : p .gates ≡ length (tableOf s .gates)
@@ -90,17 +90,17 @@ pub record PlanReady (s : List ℕ) (p : DP.Plan) : Type 0 where
   pub tape : (a : DAnd.And) → p .tape ≡ tapeLong (gadgetOf a) (p .order) (tableOf s)
 
 -- planning answers the first of 1 to 8 with the fault f, or the sizes
-pub record PlanSays (f : Fault) (s : List ℕ) (o : ℕ) (r : DN.Planned) : Type 0 where
+pub record PlanSays (f : Fault) (s : List ℕ) (o : ℕ) (r : DPlanned.Planned) : Type 0 where
   pub fault : plannedFault r ≡ f
   pub order : plannedSizes r .order ≡ cond (passed f) o 0
   pub sizes : passed f ≡ true → PlanReady s (plannedSizes r)
 
 -- the length of the masked table of a plan
-abbrev pub planBytes : DP.Plan → ℕ
+abbrev pub planBytes : DPlan.Plan → ℕ
 planBytes p = tableLong (p .wires - p .shares * p .inputs) (p .shares * p .outputs)
 
 -- the sizes of a plan are small
-pub record PlanFits (p : DP.Plan) : Type 0 where
+pub record PlanFits (p : DPlan.Plan) : Type 0 where
   pub shares : p .shares ≤ 31
   pub inputs : p .shares * p .inputs ≤ p .wires
   pub wires : p .wires ≤ 65535

@@ -3,11 +3,11 @@ ghost use mathlib.Core.Path.{_≡_};
 ghost use Prim.Native.Nat.{_*_, _≤_};
 ghost use Rattle.tables.specs.Tables.{kindOf, tableOf, randomFault, total};
 ghost use Rattle.tables.specs.Counted.{ofKind};
-ghost use Rattle.tables.specs.Says.{Refused};
-ghost use Rattle.tables.specs.Inside.{HasGates};
+ghost use Rattle.tables.specs.Inside.{Refused, HasGates};
 ghost use Rattle.construction.specs.declared.And as DAnd;
 ghost use Rattle.construction.specs.Gadgets.{gadgetOf};
-ghost use Rattle.construction.specs.Wires.{cost, draws};
+ghost use Rattle.construction.specs.Wires.{cost};
+ghost use Rattle.construction.specs.Counts.{draws};
 ghost use Rattle.construction.specs.Says.{plainFault};
 ghost use Rattle.planning.specs.Plans.{FewGates, TotalsSay, Countable, PlannedBy, PlanSays, PlanFits, planBytes};
 

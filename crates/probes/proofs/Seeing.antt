@@ -14,7 +14,7 @@ use Rattle.tables.specs.Runs.{ofEach}
 use Rattle.tables.proofs.Lists.{all-getD}
 use Rattle.construction.specs.Gadgets.{isIn, Gadget}
 use Rattle.construction.specs.Wires.{probeMarks}
-use Rattle.planning.specs.declared.Plan as DP
+use Rattle.planning.specs.declared.Plan as DPlan
 use Rattle.planning.specs.Plans.{PlanReady}
 use Rattle.secrecy.specs.Maps.{carried, freeFrom, freeShare}
 use Rattle.secrecy.specs.Claims.{allBelow}
@@ -156,7 +156,7 @@ mark-ready ps w h =
 
 -- what is found in the numbers that the probes carry is the free share
 pub free-share-is :
-    (G : Gadget) {s : List ℕ} {p : DP.Plan} (ps : List ℕ) {seen : List ℕ} {r : ℕ} → PlanReady s p
+    (G : Gadget) {s : List ℕ} {p : DPlan.Plan} (ps : List ℕ) {seen : List ℕ} {r : ℕ} → PlanReady s p
     → Seen (carried (probeMarks G) (p .order) (tableOf s) ps) seen
     → ((cs : List ℕ) → Seen cs seen → r ≡ freeFrom (p .shares) 1 cs)
     → r ≡ freeShare (probeMarks G) (p .order) (tableOf s) ps

@@ -6,7 +6,7 @@ use Prim.Native.Nat.{ℕ, zero, suc, _+_, _-_, _*_, _/_, _%_, _^_, _≤_}
 use native.Mathlib.Nat.{add-zero}
 use native.Mathlib.Omega.{arith}
 use lib.ListN.{getD}
-use Rattle.running.specs.declared.Drawn as DD
+use Rattle.running.specs.declared.Drawn as DDrawn
 use Rattle.tables.specs.Tables.{kindOf}
 use Rattle.tables.specs.Runs.{driven, drawn}
 use Rattle.running.specs.Running.{GateReady, GateSays}
@@ -53,7 +53,7 @@ drawn-none (suc (suc (suc (suc (suc zero))))) h = refl
 drawn-none (suc (suc (suc (suc (suc (suc k)))))) h = refl
 
 -- a random gate takes the next bit, a constant is its left operand; any other goes by the truth tables
-module _ {k l a b : ℕ} {rs : List ℕ} {c : ℕ} {r : DD.Drawn} (ready : GateReady k a b rs c) where
+module _ {k l a b : ℕ} {rs : List ℕ} {c : ℕ} {r : DDrawn.Drawn} (ready : GateReady k a b rs c) where
   pub says-random : k ≡ 3 → r .value ≡ getD rs c 0 → r .next ≡ c + 1 → GateSays k l a b rs c r
   says-random e v n = record { value = λ m u p q. rw e v; next = rw e n }
 

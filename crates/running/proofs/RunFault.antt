@@ -16,7 +16,7 @@ use Rattle.tables.specs.Says.{suppliedFault, lentFault}
 use Rattle.tables.proofs.Tests.{and-true}
 use Rattle.tables.proofs.Accept.{inputs-of, gates-of-length, outputs-of-length, wires-of, accepted-few}
 use Rattle.tables.proofs.Total.{count-randoms, count-small}
-use Rattle.counts.specs.declared.ThreeKinds as DT
+use Rattle.counts.specs.declared.ThreeKinds as DThreeKinds
 use Rattle.counts.specs.Three.{threeOf}
 
 -- two counts that are right
@@ -27,17 +27,17 @@ counts-right a n b m h =
 
 -- an accepted table has few random gates
 pub few-randoms :
-    (s : List ℕ) {c : DT.ThreeKinds} → passed (tableFault s) ≡ true → c ≡ threeOf 3 (tableOf s .gates) → c .first ≤ 65535
+    (s : List ℕ) {c : DThreeKinds.ThreeKinds} → passed (tableFault s) ≡ true → c ≡ threeOf 3 (tableOf s .gates) → c .first ≤ 65535
 few-randoms s h e =
     omega (
       arith,
-      ap (λ (x : DT.ThreeKinds). x .first) e,
+      ap (λ (x : DThreeKinds.ThreeKinds). x .first) e,
       count-small 3 (tableOf s .gates),
       gates-of-length s,
       accepted-few s h,
     )
 
-module _ (s xs rs : List ℕ) {n m : ℕ} {c : DT.ThreeKinds} (inputs : n ≡ word s 0) (counts : c ≡ threeOf 3 (tableOf s .gates))
+module _ (s xs rs : List ℕ) {n m : ℕ} {c : DThreeKinds.ThreeKinds} (inputs : n ≡ word s 0) (counts : c ≡ threeOf 3 (tableOf s .gates))
     (bytes : m ≡ bytesFor (c .first)) where
   supplied-is :
       suppliedFault (tableOf s) xs rs
@@ -48,7 +48,7 @@ module _ (s xs rs : List ℕ) {n m : ℕ} {c : DT.ThreeKinds} (inputs : n ≡ wo
   supplied-is =
       let i : tableOf s .inputs ≡ n = inputs-of s ∙ sym inputs in
       let d : randoms (tableOf s .gates) ≡ c .first =
-      sym (ap (λ (x : DT.ThreeKinds). x .first) counts ∙ count-randoms (tableOf s .gates)) in
+      sym (ap (λ (x : DThreeKinds.ThreeKinds). x .first) counts ∙ count-randoms (tableOf s .gates)) in
       rw (i, d, bytes)
 
   pub supplied-wrong :

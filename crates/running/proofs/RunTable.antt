@@ -9,10 +9,10 @@ use lib.Seq.{take-append-seam, drop-cons}
 use Rattle.tables.specs.Tables.{Table, wires, word, tableOf}
 use Rattle.tables.specs.Runs.{runFrom, run, readAll, outputsOf, randoms}
 use Rattle.tables.specs.Packing.{unpacked, tapeOf}
-use Rattle.tables.specs.declared.Refusal as DR
+use Rattle.tables.specs.declared.Refusal as DRefusal
 use Rattle.tables.specs.Refusals.{Fault}
-use Rattle.tables.specs.Says.{Refused, over, RunDone}
-use Rattle.tables.specs.Inside.{putAt}
+use Rattle.tables.specs.Says.{over, RunDone}
+use Rattle.tables.specs.Inside.{Refused, putAt}
 use Rattle.running.specs.Running.{RunReady, OutputsReady, ranPacked}
 use Rattle.tables.proofs.Put.{put-zero, over-length, over-over, Writing, writing-front, writing-long, writing-inside}
 use Rattle.tables.proofs.Put.{writing-byte, writing-end}
@@ -149,7 +149,7 @@ module _ {s xs rs : List ℕ} (a b : List ℕ) (r : RunGood s xs rs (length a) (
 
 -- what a refused run and a run that is not refused answer
 pub run-refused :
-    {f : Fault} {t : Table} {xs rs a b : List ℕ} {r : DR.Refusal} → Refused f r → (r .number ≡ 0 → ⊥)
+    {f : Fault} {t : Table} {xs rs a b : List ℕ} {r : DRefusal.Refusal} → Refused f r → (r .number ≡ 0 → ⊥)
     → RunDone f t xs rs a a b b (record { number = r .number; place = r .place; value = 0 })
 run-refused {f} {t} {xs} {rs} {a} {b} h k = record {
   answer = answered-refused h k;
@@ -158,7 +158,7 @@ run-refused {f} {t} {xs} {rs} {a} {b} h k = record {
 }
 
 pub run-done :
-    {f : Fault} {t : Table} {xs rs a a′ b b′ : List ℕ} {r : DR.Refusal} {v : ℕ} → Refused f r → r .number ≡ 0
+    {f : Fault} {t : Table} {xs rs a a′ b b′ : List ℕ} {r : DRefusal.Refusal} {v : ℕ} → Refused f r → r .number ≡ 0
     → (v ≡ wires t) × (a′ ≡ over (run t xs rs) a) × (b′ ≡ over (outputsOf t (run t xs rs)) b)
     → RunDone f t xs rs a a′ b b′ (record { number = r .number; place = r .place; value = v })
 run-done {f} {t} {xs} {rs} {a} {a′} {b} {b′} h k e =

@@ -8,13 +8,13 @@ use native.Mathlib.Nat.{add-zero, add-suc}
 use native.Mathlib.Omega.{arith}
 use lib.ListN.{length, getD, take, drop, set, length-append, length-drop, take-append-drop, drop-of-length-le, List·getD-append}
 use lib.Seq.{length-take-le, getD-take, take-take, take-length, take-append-seam, drop-cons}
-use Rattle.running.specs.declared.Drawn as DD
-use Rattle.tables.specs.declared.GateFields as DG
+use Rattle.running.specs.declared.Drawn as DDrawn
+use Rattle.tables.specs.declared.GateFields as DGateFields
 use Rattle.tables.specs.Tables.{Kind, NOT, XOR, AND, RANDOM, CONSTANT, OR, UNKNOWN, kindOf, Gate, noGate, Table}
 use Rattle.tables.specs.Tables.{gateOf, tableOf, known, operandsOf, total}
-use Rattle.tables.specs.Runs.{Bits, driven, drawn, runFrom, randoms}
+use Rattle.tables.specs.Runs.{driven, drawn, runFrom, randoms}
 use Rattle.tables.specs.Says.{over}
-use Rattle.tables.specs.Inside.{putAt, HasGates, GateIs}
+use Rattle.tables.specs.Inside.{Bits, putAt, HasGates, GateIs}
 use Rattle.running.specs.Running.{GateReady, GateSays, RunReady}
 use Rattle.tables.proofs.Put.{Writing, writing-kept, writing-byte, writing-end, over-length}
 use Rattle.tables.proofs.Run.{Solves, Reads, Earlier, driven-local, run-length, run-bits, run-solves}
@@ -216,7 +216,7 @@ module _
       }
 
   -- the gate that was read: it is ready, and its value makes the turn
-  module _ {x : DG.GateFields} (is : GateIs this x) where
+  module _ {x : DGateFields.GateFields} (is : GateIs this x) where
     right-earlier : x .right < n + i
     right-earlier = omega (arith, is .right, earlier .1)
 
@@ -247,7 +247,7 @@ module _
     }
 
     pub gate-turn :
-        (d : DD.Drawn) → GateSays (x .kind) (x .left) (getD vs (x .left) 0) (getD vs (x .right) 0) rs c d
+        (d : DDrawn.Drawn) → GateSays (x .kind) (x .left) (getD vs (x .left) 0) (getD vs (x .right) 0) rs c d
         → Running t rs start n (set vs (n + i) (d .value)) (d .next) (suc i)
     gate-turn d says =
         running-turn

@@ -7,12 +7,12 @@ use mathlib.Core.Bool.{true}
 use mathlib.Core.List.{List}
 use Prim.Native.Nat.{ℕ, _+_, _≤_, _<_}
 use lib.ListN.{length, getD, take}
-use Rattle.running.specs.declared.Drawn as DD
+use Rattle.running.specs.declared.Drawn as DDrawn
 use Rattle.tables.specs.Refusals.{passed}
 use Rattle.tables.specs.Tables.{Table, kindOf, word, tableOf, tableFault}
-use Rattle.tables.specs.Runs.{Bits, driven, drawn, run, randoms}
+use Rattle.tables.specs.Runs.{driven, drawn, run, randoms}
 use Rattle.tables.specs.Packing.{tapeOf}
-use Rattle.tables.specs.Inside.{HasOutputs}
+use Rattle.tables.specs.Inside.{Bits, HasOutputs}
 
 -- a known kind, two bits, the left one where the kind reads it, and a random bit where the kind takes one; few bits were taken
 pub record GateReady (kind a b : ℕ) (rs : List ℕ) (at : ℕ) : Type 0 where
@@ -23,7 +23,7 @@ pub record GateReady (kind a b : ℕ) (rs : List ℕ) (at : ℕ) : Type 0 where
   pub few : at < 65536
 
 -- the value of a gate with left operand l, whose operands have the values a and b, and the number of the next random bit
-pub record GateSays (kind l a b : ℕ) (rs : List ℕ) (at : ℕ) (r : DD.Drawn) : Type 0 where
+pub record GateSays (kind l a b : ℕ) (rs : List ℕ) (at : ℕ) (r : DDrawn.Drawn) : Type 0 where
   pub value :
       (m : ℕ) (v : ℕ → ℕ) → v l ≡ a → v m ≡ b → r .value ≡ driven (kindOf kind) l m v (getD rs at 0)
   pub next : r .next ≡ at + drawn (kindOf kind)

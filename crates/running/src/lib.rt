@@ -6,7 +6,8 @@ ghost use Rattle.tables.specs.Refusals.{passed};
 ghost use Rattle.tables.specs.Tables.{wires, tableOf, tableFault};
 ghost use Rattle.tables.specs.Runs.{runFrom, outputsOf};
 ghost use Rattle.tables.specs.Packing.{unpacked};
-ghost use Rattle.tables.specs.Says.{Refused, over, suppliedFault, lentFault, runFault, RunSays};
+ghost use Rattle.tables.specs.Says.{over, suppliedFault, lentFault, runFault, RunSays};
+ghost use Rattle.tables.specs.Inside.{Refused};
 ghost use Rattle.running.specs.Running.{GateReady, GateSays, RunReady, OutputsReady, ranPacked};
 
 // A gate's value and the number of the next random bit.

@@ -20,7 +20,8 @@ use Rattle.construction.specs.Shares.{upFrom, Pair, pairOf, pairs, tri, pairAt}
 use Rattle.construction.specs.Gadgets.{isIn, Five, Gadget}
 use Rattle.construction.specs.Wires.{Part, pair, own, sum, inAnd, lastNot, Origin, andPart, xorShare, constantShare, orPart, partMarks}
 use Rattle.construction.specs.Wires.{marks, Wire, wire, driverOf, share, firstOn, adding, rowWires, pairWire, andWires, andShares}
-use Rattle.construction.specs.Wires.{andCost, newWires, newShares, cost, draws, masked, sharesAfter}
+use Rattle.construction.specs.Wires.{andCost, newWires, newShares, cost, masked, sharesAfter}
+use Rattle.construction.specs.Counts.{draws}
 use Rattle.construction.proofs.Sum.{up-length, up-at}
 use Rattle.construction.proofs.Rows.{pairs-length, pairs-in, pair-at, row-length, row-all}
 use Rattle.construction.proofs.Each.{Each, each-append, each-at, each-up}

@@ -10,14 +10,16 @@ use lib.Dec.{eqb}
 use lib.ListN.{length, getD, take, drop, length-drop}
 use lib.Seq.{length-take-le}
 use Rattle.tables.specs.Tables.{Gate, Table, wires, total}
-use Rattle.tables.specs.Runs.{run, runFrom, Bits}
+use Rattle.tables.specs.Runs.{run, runFrom}
+use Rattle.tables.specs.Inside.{Bits}
 use Rattle.tables.proofs.Tests.{and-true}
 use Rattle.tables.proofs.Lists.{bits-take, bits-drop}
 use Rattle.tables.proofs.Run.{Solves, run-length, run-keep, run-solves, run-bits}
 use Rattle.tables.proofs.Accept.{Plain}
 use Rattle.construction.specs.Shares.{sharesOf}
 use Rattle.construction.specs.Gadgets.{Gadget}
-use Rattle.construction.specs.Wires.{driverOf, draws, maskedWires, maskedTable, tapeLong}
+use Rattle.construction.specs.Wires.{driverOf, maskedWires, maskedTable, tapeLong}
+use Rattle.construction.specs.Counts.{draws}
 use Rattle.construction.specs.Codes.{encode, maskedRun}
 use Rattle.construction.proofs.Lawful.{Lawful}
 use Rattle.construction.proofs.Costs.{masked-tape}

@@ -7,7 +7,7 @@ use Prim.Native.Nat.{ℕ, suc, _<_}
 use lib.Dec.{eqb, ltb, leb}
 use borrow.Author.Tests.{leb-true, le-leb, ltb-true, lt-ltb, eqb-true, eq-eqb}
 use Rattle.tables.proofs.Tests.{and-true, and-intro}
-use Rattle.tables.specs.Runs.{Bits}
+use Rattle.tables.specs.Inside.{Bits}
 use Rattle.tables.proofs.Lists.{bits-nil, bits-cons, All}
 use Rattle.secrecy.specs.Claims.{allBits, allBelow, same}
 
@@ -37,7 +37,7 @@ same-refl : (xs : List ℕ) → same xs xs ≡ true
 same-refl [] = refl
 same-refl (x ∷ xs) = and-intro (eqb x x) (same xs xs) (eq-eqb x x refl) (same-refl xs)
 
-same-eq : (xs ys : List ℕ) → same xs ys ≡ true → xs ≡ ys
+pub same-eq : (xs ys : List ℕ) → same xs ys ≡ true → xs ≡ ys
 same-eq [] [] h = refl
 same-eq [] (y ∷ ys) h = cc
 same-eq (x ∷ xs) [] h = cc
@@ -45,7 +45,7 @@ same-eq (x ∷ xs) (y ∷ ys) h =
     let both = and-true (eqb x y) (same xs ys) h in
     cc (eqb-true x y (both .0), same-eq xs ys (both .1))
 
-eq-same : (xs ys : List ℕ) → xs ≡ ys → same xs ys ≡ true
+pub eq-same : (xs ys : List ℕ) → xs ≡ ys → same xs ys ≡ true
 eq-same xs ys e = rw e (same-refl ys)
 
 -- two tests of equality agree where each equation gives the other

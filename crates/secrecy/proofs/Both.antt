@@ -7,8 +7,8 @@ use native.Mathlib.Omega.{arith}
 use lib.ListN.{length, getD, take, set, length-append}
 use lib.Seq.{drop-cons}
 use Rattle.tables.specs.Tables.{Gate}
-use Rattle.tables.specs.Runs.{Bits, xor, randoms}
-use Rattle.tables.specs.Inside.{ranOn, RunsTo}
+use Rattle.tables.specs.Runs.{xor, randoms}
+use Rattle.tables.specs.Inside.{Bits, ranOn, RunsTo}
 use Rattle.tables.proofs.Ran.{runs-less, ran-nil, ran-length, ran-bits, ran-append}
 use Rattle.secrecy.specs.Maps.{flipped}
 use Rattle.secrecy.specs.Both.{BothRan, BothFlip, BothReady, bitsFor, flipsAt}

@@ -3,7 +3,7 @@
 -- Assumes nothing.
 use mathlib.Core.Path.{_≡_, refl, sym, ap, ap₂, _∙_, subst}
 use mathlib.Core.Bool.{true}
-use mathlib.Core.List.{List, [], _∷_, _++_, map}
+use mathlib.Core.List.{List, [], _∷_, _++_, map, flatten}
 use Prim.Native.Nat.{ℕ, zero, suc, _+_, _*_, _%_, _≤_, _<_}
 use native.Mathlib.Nat.{mul-le-mul-left}
 use native.Mathlib.Omega.{arith}
@@ -21,7 +21,7 @@ use Rattle.construction.specs.Codes.{encode, decode, maskedRun}
 use Rattle.construction.proofs.Sum.{sumOf, sum-cong, up-length, up-at, up-all}
 use Rattle.construction.proofs.Lawful.{Lawful}
 use Rattle.construction.proofs.Placed.{plain-inputs, shares-after-length}
-use Rattle.construction.proofs.Codes.{encode-adds, joined, decode-groups, decode-encode}
+use Rattle.construction.proofs.Codes.{encode-adds, decode-groups, decode-encode}
 use Rattle.construction.proofs.Shares.{Shared, masked-shares}
 use Rattle.secrecy.specs.Claims.{isTape, areSecrets, Computes}
 use Rattle.secrecy.proofs.Bits.{all-bits}
@@ -42,8 +42,8 @@ abbrev groupsOf : List ℕ → List (List ℕ) → List ℕ → List (List ℕ)
 groupsOf vs S os = map (λ o. readAll vs (getD S o [])) os
 
 read-groups :
-    (vs : List ℕ) (S : List (List ℕ)) (os : List ℕ) → readAll vs (outputShares S os) ≡ joined (groupsOf vs S os)
-unfolding outputShares readAll joined
+    (vs : List ℕ) (S : List (List ℕ)) (os : List ℕ) → readAll vs (outputShares S os) ≡ flatten (groupsOf vs S os)
+unfolding outputShares readAll flatten
 read-groups vs S [] = refl
 read-groups vs S (o ∷ os) =
     read-append vs (getD S o []) (outputShares S os)

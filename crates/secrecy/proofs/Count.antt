@@ -1,37 +1,30 @@
--- A one-to-one map of the tapes onto themselves keeps counts: a count is a sum over all tapes, and the sum over the pairs of
--- a tape and its image, taken in either order, is both counts.
+-- What is one-to-one keeps counts: each tape stands once among all of them, so a map that leads back takes those that pass a test to as
+-- many others at least, those that fail it too, and both together are all.
 -- Assumes nothing.
-use mathlib.Core.Path.{_≡_, refl, ap, sym, _∙_}
-use mathlib.Core.Bool.{Bool, true, _&&_, cond}
+use mathlib.Core.Path.{_≡_, refl, ap, ap₂, sym, _∙_}
+use mathlib.Core.Bool.{Bool, true, false, _&&_, cond, not}
 use mathlib.Core.List.{List, [], _∷_, _++_, map}
-use Prim.Native.Nat.{ℕ, zero, suc, _+_}
+use Prim.Native.Nat.{ℕ, zero, suc, _+_, _≤_}
 use native.Mathlib.Omega.{arith}
 use lib.Dec.{eqb}
 use lib.ListN.{length}
 use borrow.Author.Tests.{eqb-true, eq-eqb}
-use Rattle.tables.specs.Tables.{Table}
 use Rattle.tables.proofs.Tests.{and-true, and-intro}
-use Rattle.construction.specs.Gadgets.{Gadget}
-use Rattle.construction.specs.Wires.{tapeLong}
-use Rattle.secrecy.specs.Claims.{allBits, isTape, allTapes, same, howMany}
-use Rattle.secrecy.proofs.Bits.{all-bits, same-both}
+use Rattle.tables.proofs.Lists.{All, all-append, all-map}
+use Rattle.secrecy.specs.Claims.{allBits, isBits, allTapes, same, howMany, Tapes, inBits, EachOnce, Indistinct}
+use Rattle.secrecy.proofs.Bits.{all-bits, same-eq, eq-same}
 
 -- a tape of n bits
 abbrev pub BitsOf : ℕ → List ℕ → Type 0
 BitsOf n ts = (length ts ≡ n) × (allBits ts ≡ true)
 
-pub of-bits : (G : Gadget) (o : ℕ) (t : Table) (ts : List ℕ) → BitsOf (tapeLong G o t) ts → isTape G o t ts ≡ true
-of-bits G o t ts b = and-intro (eqb (length ts) (tapeLong G o t)) (allBits ts) (eq-eqb _ _ (b .0)) (b .1)
+pub of-bits : (n : ℕ) (ts : List ℕ) → BitsOf n ts → isBits n ts ≡ true
+of-bits n ts b = and-intro (eqb (length ts) n) (allBits ts) (eq-eqb _ _ (b .0)) (b .1)
 
-pub bits-of : (G : Gadget) (o : ℕ) (t : Table) (ts : List ℕ) → isTape G o t ts ≡ true → BitsOf (tapeLong G o t) ts
-bits-of G o t ts h =
-    let a = and-true (eqb (length ts) (tapeLong G o t)) (allBits ts) h in
+pub bits-of : (n : ℕ) (ts : List ℕ) → isBits n ts ≡ true → BitsOf n ts
+bits-of n ts h =
+    let a = and-true (eqb (length ts) n) (allBits ts) h in
     (eqb-true _ _ (a .0), a .1)
-
--- the sum over all tapes of n bits
-unfoldable total : ℕ → (List ℕ → ℕ) → ℕ
-total zero v = v []
-total (suc n) v = total n (λ ts. v (0 ∷ ts)) + total n (λ ts. v (1 ∷ ts))
 
 many-append : (f : List ℕ → Bool) (xs ys : List (List ℕ)) → howMany f (xs ++ ys) ≡ howMany f xs + howMany f ys
 unfolding howMany
@@ -45,114 +38,243 @@ unfolding howMany
 many-map f h [] = refl
 many-map f h (x ∷ xs) = omega (arith, many-map f h xs)
 
-pub many-all : (xs : List (List ℕ)) → howMany (λ ts. true) xs ≡ length xs
-unfolding howMany
-many-all [] = refl
-many-all (x ∷ xs) = omega (arith, many-all xs)
+-- tests of which one is passed where the other is
+many-le :
+    (f g : List ℕ → Bool) (xs : List (List ℕ)) → All (λ x. f x ≡ true → g x ≡ true) xs → howMany f xs ≤ howMany g xs
+unfolding howMany All
+many-le f g [] a = omega arith
+many-le f g (x ∷ xs) a = go (f x) refl (many-le f g xs (a .1))
+  where
+    go : (b : Bool) → f x ≡ b → howMany f xs ≤ howMany g xs
+        → cond b 1 0 + howMany f xs ≤ cond (g x) 1 0 + howMany g xs
+    go true e h = rw (a .0 e) (omega (arith, h))
+    go false e h = omega (arith, h)
 
 -- tests that agree count alike
 pub many-same :
-    (f g : List ℕ → Bool) → ((ts : List ℕ) → f ts ≡ g ts) → (xs : List (List ℕ)) → howMany f xs ≡ howMany g xs
+    (f g : List ℕ → Bool) (xs : List (List ℕ)) → All (λ x. f x ≡ g x) xs → howMany f xs ≡ howMany g xs
+unfolding howMany All
+many-same f g [] a = refl
+many-same f g (x ∷ xs) a = rw (a .0, many-same f g xs (a .1))
+
+many-none : (xs : List (List ℕ)) → howMany (λ ts. false) xs ≡ 0
 unfolding howMany
-many-same f g e [] = refl
-many-same f g e (x ∷ xs) = rw (e x, many-same f g e xs)
+many-none [] = refl
+many-none (x ∷ xs) = omega (arith, many-none xs)
 
-many-total : (n : ℕ) (f : List ℕ → Bool) → howMany f (allTapes n) ≡ total n (λ ts. cond (f ts) 1 0)
-unfolding howMany allTapes total
-many-total zero f = omega arith
-many-total (suc n) f =
-    let zeros = many-map f (λ ts. 0 ∷ ts) (allTapes n) ∙ many-total n (λ ts. f (0 ∷ ts)) in
-    let ones = many-map f (λ ts. 1 ∷ ts) (allTapes n) ∙ many-total n (λ ts. f (1 ∷ ts)) in
-    many-append f (map (λ ts. 0 ∷ ts) (allTapes n)) _ ∙ omega (arith, zeros, ones)
+-- those that pass and those that fail are all
+many-not : (f : List ℕ → Bool) (xs : List (List ℕ)) → howMany f xs + howMany (λ ts. not (f ts)) xs ≡ length xs
+unfolding howMany
+many-not f [] = refl
+many-not f (x ∷ xs) = go (f x) (many-not f xs)
+  where
+    go : (b : Bool) → howMany f xs + howMany (λ ts. not (f ts)) xs ≡ length xs
+        → cond b 1 0 + howMany f xs + (cond (not b) 1 0 + howMany (λ ts. not (f ts)) xs) ≡ suc (length xs)
+    go true h = omega arith
+    go false h = omega arith
 
--- values that agree on the tapes have one sum
-total-same :
-    (n : ℕ) (v u : List ℕ → ℕ) → ((ts : List ℕ) → BitsOf n ts → v ts ≡ u ts) → total n v ≡ total n u
+-- where as many pass as there are, all pass
+many-all : (f : List ℕ → Bool) (xs : List (List ℕ)) → howMany f xs ≡ length xs → All (λ x. f x ≡ true) xs
+unfolding howMany All
+many-all f [] h = tt
+many-all f (x ∷ xs) h = go (f x) refl h (many-all f xs)
+  where
+    go : (b : Bool) → f x ≡ b → cond b 1 0 + howMany f xs ≡ suc (length xs)
+        → (howMany f xs ≡ length xs → All (λ x. f x ≡ true) xs) → All (λ x. f x ≡ true) (x ∷ xs)
+    go true e k rest = (e, rest (omega (arith, k)))
+    go false e k rest = absurd (omega (arith, k, many-not f xs))
+
+-- and the other way
+pub all-many : (f : List ℕ → Bool) (xs : List (List ℕ)) → All (λ x. f x ≡ true) xs → howMany f xs ≡ length xs
+unfolding howMany All
+all-many f [] a = refl
+all-many f (x ∷ xs) a = rw (a .0) (omega (arith, all-many f xs (a .1)))
+
+-- the sum over a list of tapes
+unfoldable total : (List ℕ → ℕ) → List (List ℕ) → ℕ
+total v [] = 0
+total v (x ∷ xs) = v x + total v xs
+
+total-le : (v u : List ℕ → ℕ) (xs : List (List ℕ)) → All (λ x. v x ≤ u x) xs → total v xs ≤ total u xs
+unfolding total All
+total-le v u [] a = omega arith
+total-le v u (x ∷ xs) a = omega (arith, a .0, total-le v u xs (a .1))
+
+many-total : (f : List ℕ → Bool) (xs : List (List ℕ)) → howMany f xs ≡ total (λ x. cond (f x) 1 0) xs
+unfolding howMany total
+many-total f [] = refl
+many-total f (x ∷ xs) = omega (arith, many-total f xs)
+
+total-zero : (xs : List (List ℕ)) → total (λ x. 0) xs ≡ 0
 unfolding total
-total-same zero v u e = e [] (refl, refl)
-total-same (suc n) v u e =
-    let zeros = total-same n (λ ts. v (0 ∷ ts)) (λ ts. u (0 ∷ ts)) (λ ts b. e (0 ∷ ts) (ap suc (b .0), b .1)) in
-    let ones = total-same n (λ ts. v (1 ∷ ts)) (λ ts. u (1 ∷ ts)) (λ ts b. e (1 ∷ ts) (ap suc (b .0), b .1)) in
-    omega arith
+total-zero [] = refl
+total-zero (x ∷ xs) = omega (arith, total-zero xs)
 
--- tests that agree on the tapes count alike
-pub many-on :
-    (n : ℕ) (f g : List ℕ → Bool) → ((ts : List ℕ) → BitsOf n ts → f ts ≡ g ts)
-    → howMany f (allTapes n) ≡ howMany g (allTapes n)
-many-on n f g e =
-    many-total n f ∙ total-same n _ _ (λ ts b. ap (λ (x : Bool). cond x 1 0) (e ts b)) ∙ sym (many-total n g)
-
-total-zero : (n : ℕ) → total n (λ ts. 0) ≡ 0
+total-add : (v u : List ℕ → ℕ) (xs : List (List ℕ)) → total (λ x. v x + u x) xs ≡ total v xs + total u xs
 unfolding total
-total-zero zero = refl
-total-zero (suc n) = omega (arith, total-zero n)
+total-add v u [] = refl
+total-add v u (x ∷ xs) = omega (arith, total-add v u xs)
 
-total-add : (n : ℕ) (v u : List ℕ → ℕ) → total n (λ ts. v ts + u ts) ≡ total n v + total n u
-unfolding total
-total-add zero v u = refl
-total-add (suc n) v u =
-    omega (
-      arith,
-      total-add n (λ ts. v (0 ∷ ts)) (λ ts. u (0 ∷ ts)),
-      total-add n (λ ts. v (1 ∷ ts)) (λ ts. u (1 ∷ ts)),
-    )
-
--- two sums change places
+-- the pairs that pass a test, counted in either order
 total-swap :
-    (n m : ℕ) (v : List ℕ → List ℕ → ℕ)
-    → total n (λ ts. total m (λ us. v ts us)) ≡ total m (λ us. total n (λ ts. v ts us))
-unfolding total
-total-swap zero m v = refl
-total-swap (suc n) m v =
-    let zeros = total-swap n m (λ ts us. v (0 ∷ ts) us) in
-    let ones = total-swap n m (λ ts us. v (1 ∷ ts) us) in
-    let split = total-add m (λ us. total n (λ ts. v (0 ∷ ts) us)) (λ us. total n (λ ts. v (1 ∷ ts) us)) in
-    omega arith
+    (r : List ℕ → List ℕ → Bool) (xs ys : List (List ℕ))
+    → total (λ x. howMany (λ y. r x y) ys) xs ≡ total (λ y. howMany (λ x. r x y) xs) ys
+unfolding total howMany
+total-swap r [] ys = sym (total-zero ys)
+total-swap r (x ∷ xs) ys =
+    ap₂ (λ (a b : ℕ). a + b) (many-total (λ y. r x y) ys) (total-swap r xs ys)
+    ∙ sym (total-add (λ y. cond (r x y) 1 0) (λ y. howMany (λ x. r x y) xs) ys)
 
--- a sum over the tapes that equal one tape is the value there
-total-at :
-    (n : ℕ) (ts : List ℕ) (v : List ℕ → ℕ) → BitsOf n ts → total n (λ us. cond (same ts us) (v us) 0) ≡ v ts
-unfolding total
-total-at zero [] v b = refl
-total-at zero (t ∷ ts) v b = absurd (omega (arith, b .0))
-total-at (suc n) [] v b = absurd (omega (arith, b .0))
-total-at (suc n) (zero ∷ ts) v b =
-    omega (arith, total-zero n, total-at n ts (λ us. v (0 ∷ us)) (omega (arith, b .0), b .1))
-total-at (suc n) (suc zero ∷ ts) v b =
-    omega (arith, total-zero n, total-at n ts (λ us. v (1 ∷ us)) (omega (arith, b .0), b .1))
-total-at (suc n) (suc (suc t) ∷ ts) v b = absurd (omega (arith, all-bits (suc (suc t) ∷ ts) (b .1) 0))
+-- a map of tapes that stand once each, and leads back
+module _
+    (T : Tapes) (E : EachOnce T) (to back : List ℕ → List ℕ)
+    (a-tape : (ts : List ℕ) → T .isOne ts ≡ true → T .isOne (to ts) ≡ true)
+    (leads : (ts : List ℕ) → T .isOne ts ≡ true → back (to ts) ≡ ts)
+  where
+    tapes : All (λ ts. T .isOne ts ≡ true) (T .all)
+    tapes = many-all (T .isOne) (T .all) (E .only)
 
--- everything among them is a list of n bits
-pub tapes : (n : ℕ) → howMany (λ ts. eqb (length ts) n && allBits ts) (allTapes n) ≡ length (allTapes n)
-tapes n =
-    many-on n _ (λ ts. true)
-    (λ ts b. and-intro (eqb (length ts) n) (allBits ts) (eq-eqb (length ts) n (b .0)) (b .1))
-    ∙ many-all (allTapes n)
+    -- no list stands twice
+    not-twice : (us : List ℕ) → howMany (λ ts. same us ts) (T .all) ≤ 1
+    not-twice us = go (T .isOne us) refl
+      where
+        go : (b : Bool) → T .isOne us ≡ b → howMany (λ ts. same us ts) (T .all) ≤ 1
+        go true e = omega (arith, E .once us e)
+        go false e =
+            omega (
+              arith,
+              many-none (T .all),
+              many-le (λ ts. same us ts) (λ ts. false) (T .all)
+                  (all-map _ _ (λ ts h s. cc (ap (T .isOne) (same-eq us ts s), e, h)) (T .all) tapes),
+            )
+
+    -- at most one tape is taken to us
+    from-one : (us : List ℕ) → howMany (λ ts. same (to ts) us) (T .all) ≤ 1
+    from-one us =
+        omega (
+          arith,
+          not-twice (back us),
+          many-le (λ ts. same (to ts) us) (λ ts. same (back us) ts) (T .all)
+              (all-map _ _ (λ ts h s. eq-same (back us) ts (ap back (sym (same-eq (to ts) us s)) ∙ leads ts h)) (T .all) tapes),
+        )
+
+    -- so as many pass a test as their images pass another, at least
+    at-least :
+        (f g : List ℕ → Bool) → ((ts : List ℕ) → T .isOne ts ≡ true → f ts ≡ g (to ts))
+        → howMany f (T .all) ≤ howMany g (T .all)
+    at-least f g agree =
+        omega (
+          arith,
+          many-total f (T .all),
+          total-le (λ ts. cond (f ts) 1 0) (λ ts. howMany (λ us. same (to ts) us && g us) (T .all)) (T .all)
+              (all-map _ _ (λ ts h. image ts h (f ts) refl) (T .all) tapes),
+          total-swap (λ ts us. same (to ts) us && g us) (T .all) (T .all),
+          total-le (λ us. howMany (λ ts. same (to ts) us && g us) (T .all)) (λ us. cond (g us) 1 0) (T .all)
+              (all-map _ _ (λ us h. source us (g us)) (T .all) tapes),
+          many-total g (T .all),
+        )
+      where
+        image : (ts : List ℕ) → T .isOne ts ≡ true → (b : Bool) → f ts ≡ b
+            → cond b 1 0 ≤ howMany (λ us. same (to ts) us && g us) (T .all)
+        image ts h true e =
+            omega (
+              arith,
+              E .once (to ts) (a-tape ts h),
+              many-le (λ us. same (to ts) us) (λ us. same (to ts) us && g us) (T .all)
+                  (all-map _ _
+                  (λ us k s.
+                  and-intro (same (to ts) us) (g us) s (ap g (sym (same-eq (to ts) us s)) ∙ sym (agree ts h) ∙ e))
+                  (T .all)
+                  tapes),
+            )
+        image ts h false e = omega arith
+
+        source : (us : List ℕ) (b : Bool) → howMany (λ ts. same (to ts) us && b) (T .all) ≤ cond b 1 0
+        source us true =
+            omega (
+              arith,
+              from-one us,
+              many-le (λ ts. same (to ts) us && true) (λ ts. same (to ts) us) (T .all)
+                  (all-map _ _ (λ ts h s. and-true (same (to ts) us) true s .0) (T .all) tapes),
+            )
+        source us false =
+            omega (
+              arith,
+              many-none (T .all),
+              many-le (λ ts. same (to ts) us && false) (λ ts. false) (T .all)
+                  (all-map _ _ (λ ts h s. and-true (same (to ts) us) false s .1) (T .all) tapes),
+            )
+
+    same-count :
+        (f g : List ℕ → Bool) → ((ts : List ℕ) → T .isOne ts ≡ true → f ts ≡ g (to ts))
+        → howMany f (T .all) ≡ howMany g (T .all)
+    same-count f g agree =
+        omega (
+          arith,
+          at-least f g agree,
+          at-least (λ ts. not (f ts)) (λ ts. not (g ts)) (λ ts h. ap not (agree ts h)),
+          many-not f (T .all),
+          many-not g (T .all),
+        )
+
+    -- what keeps what is seen then tells nothing
+    pub indistinct :
+        (seen seen′ : List ℕ → List ℕ) → ((ts : List ℕ) → T .isOne ts ≡ true → seen′ (to ts) ≡ seen ts)
+        → Indistinct (T .isOne) (T .all) to back seen seen′
+    indistinct seen seen′ same-seen =
+        record {
+          a-tape = a-tape;
+          leads-back = leads;
+          same-seen = same-seen;
+          as-many = λ pattern.
+              same-count _ _ (λ ts h. ap (λ (l : List ℕ). same l pattern) (sym (same-seen ts h)));
+        }
+
+-- everything among the tapes of n bits is such a tape
+all-mapped :
+    (P Q : List ℕ → Type 0) (h : List ℕ → List ℕ) → ((ts : List ℕ) → P ts → Q (h ts)) → (xs : List (List ℕ)) → All P xs
+    → All Q (map h xs)
+unfolding All
+all-mapped P Q h f [] a = tt
+all-mapped P Q h f (x ∷ xs) a = (f x (a .0), all-mapped P Q h f xs (a .1))
+
+pub all-tapes : (n : ℕ) → All (BitsOf n) (allTapes n)
+unfolding allTapes All
+all-tapes zero = ((refl, refl), tt)
+all-tapes (suc n) =
+    all-append (BitsOf (suc n)) (map (λ ts. 0 ∷ ts) (allTapes n)) (map (λ ts. 1 ∷ ts) (allTapes n))
+    (all-mapped _ _ (λ ts. 0 ∷ ts) (λ ts b. (ap suc (b .0), b .1)) (allTapes n) (all-tapes n))
+    (all-mapped _ _ (λ ts. 1 ∷ ts) (λ ts b. (ap suc (b .0), b .1)) (allTapes n) (all-tapes n))
 
 -- every list of n bits stands exactly once among them
-pub once :
-    (n : ℕ) (ts : List ℕ) → length ts ≡ n → allBits ts ≡ true → howMany (λ us. same ts us) (allTapes n) ≡ 1
-once n ts long bits = many-total n (λ us. same ts us) ∙ total-at n ts (λ us. 1) (long, bits)
+once : (n : ℕ) (ts : List ℕ) → BitsOf n ts → howMany (λ us. same ts us) (allTapes n) ≡ 1
+unfolding allTapes howMany
+once zero [] b = refl
+once zero (t ∷ ts) b = absurd (omega (arith, b .0))
+once (suc n) [] b = absurd (omega (arith, b .0))
+once (suc n) (zero ∷ ts) b =
+    many-append (λ us. same (0 ∷ ts) us) (map (λ ts. 0 ∷ ts) (allTapes n)) (map (λ ts. 1 ∷ ts) (allTapes n))
+    ∙ omega (
+      arith,
+      many-map (λ us. same (0 ∷ ts) us) (λ ts. 0 ∷ ts) (allTapes n),
+      many-map (λ us. same (0 ∷ ts) us) (λ ts. 1 ∷ ts) (allTapes n),
+      many-none (allTapes n),
+      once n ts (omega (arith, b .0), b .1),
+    )
+once (suc n) (suc zero ∷ ts) b =
+    many-append (λ us. same (1 ∷ ts) us) (map (λ ts. 0 ∷ ts) (allTapes n)) (map (λ ts. 1 ∷ ts) (allTapes n))
+    ∙ omega (
+      arith,
+      many-map (λ us. same (1 ∷ ts) us) (λ ts. 0 ∷ ts) (allTapes n),
+      many-map (λ us. same (1 ∷ ts) us) (λ ts. 1 ∷ ts) (allTapes n),
+      many-none (allTapes n),
+      once n ts (omega (arith, b .0), b .1),
+    )
+once (suc n) (suc (suc t) ∷ ts) b = absurd (omega (arith, all-bits (suc (suc t) ∷ ts) (b .1) 0))
 
--- φ takes the tapes one-to-one onto themselves, and ψ leads back
-pub same-count :
-    (n : ℕ) (φ ψ : List ℕ → List ℕ) (f g : List ℕ → Bool)
-    → ((ts : List ℕ) → BitsOf n ts → BitsOf n (φ ts))
-    → ((ts : List ℕ) → BitsOf n ts → BitsOf n (ψ ts))
-    → ((ts : List ℕ) → BitsOf n ts → ψ (φ ts) ≡ ts)
-    → ((ts : List ℕ) → BitsOf n ts → φ (ψ ts) ≡ ts)
-    → ((ts : List ℕ) → BitsOf n ts → f ts ≡ g (φ ts))
-    → howMany f (allTapes n) ≡ howMany g (allTapes n)
-same-count n φ ψ f g to from there back agree =
-    let one : List ℕ → ℕ = λ us. cond (g us) 1 0 in
-    let images : total n (λ ts. cond (f ts) 1 0) ≡ total n (λ ts. total n (λ us. cond (same (φ ts) us) (one us) 0)) =
-    total-same n _ _ (λ ts b. rw (agree ts b) (sym (total-at n (φ ts) one (to ts b)))) in
-    let swapped : (ts us : List ℕ) → BitsOf n ts → BitsOf n us → same (φ ts) us ≡ same (ψ us) ts =
-    λ ts us b c. same-both (φ ts) us (ψ us) ts (λ e. ap ψ (sym e) ∙ there ts b) (λ e. ap φ (sym e) ∙ back us c) in
-    let sources : (us : List ℕ) → BitsOf n us → total n (λ ts. cond (same (φ ts) us) (one us) 0) ≡ one us =
-    λ us c. total-same n _ _ (λ ts b. rw (swapped ts us b c)) ∙ total-at n (ψ us) (λ ts. one us) (from us c) in
-    many-total n f
-    ∙ images
-    ∙ total-swap n n (λ ts us. cond (same (φ ts) us) (one us) 0)
-    ∙ total-same n _ one sources
-    ∙ sym (many-total n g)
+pub bits-once : (n : ℕ) → EachOnce (inBits n)
+bits-once n =
+    record {
+      only = all-many (isBits n) (allTapes n) (all-map _ _ (of-bits n) (allTapes n) (all-tapes n));
+      once = λ ts h. once n ts (bits-of n ts h);
+    }

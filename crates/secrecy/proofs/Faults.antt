@@ -25,9 +25,9 @@ use Rattle.secrecy.proofs.Bits.{bits-all}
 use Rattle.secrecy.proofs.TwoRuns.{is-tape}
 
 -- the secrets joined: "first secret, second secret"
-pub bits-joined :
+pub bad-both :
     (xs ys : List ℕ) → badBit 0 (xs ++ ys) ≡ orElse (badBit 0 xs) (badBit (length xs) ys)
-bits-joined xs ys = bad-append 0 xs ys ∙ ap (λ (n : ℕ). orElse (badBit 0 xs) (badBit n ys)) (zero-add (length xs))
+bad-both xs ys = bad-append 0 xs ys ∙ ap (λ (n : ℕ). orElse (badBit 0 xs) (badBit n ys)) (zero-add (length xs))
 
 good-bits : (i : ℕ) (bs : List ℕ) → passed (badBit i bs) ≡ true → allBits bs ≡ true
 good-bits i bs h = bits-all bs (bad-bits i bs h)
@@ -80,7 +80,7 @@ map-good G s o xs ys ts ps a b c h =
     let one = and-true (eqb (length xs) (t .inputs)) _ (not-false counts (not-refused (not counts) 10 refl (supplied .0))) in
     let two = and-true (eqb (length ys) (t .inputs)) (eqb (length ts) (bytesFor l)) (one .1) in
     let good = both-passed (badBit 0 (xs ++ ys)) unused (supplied .1) in
-    let bits = both-passed (badBit 0 xs) (badBit (length xs) ys) (rw (bits-joined xs ys) at (good .0)) in
+    let bits = both-passed (badBit 0 xs) (badBit (length xs) ys) (rw (bad-both xs ys) at (good .0)) in
     let bytes : length ts ≡ bytesFor l = eqb-true (length ts) (bytesFor l) (two .1) in
     let long = or-false (ltb a (bytesFor l)) (ltb b w || ltb c w) (not-refused short 9 refl (later .1)) in
     let runs = or-false (ltb b w) (ltb c w) (long .1) in

@@ -14,7 +14,8 @@ use Rattle.tables.proofs.Accept.{PlainGate, PlainGates}
 use Rattle.tables.proofs.Run.{OfLeft, OfRight, run-length, run-keep, run-append, run-prefix}
 use Rattle.construction.specs.Shares.{Pair, pairs, tri}
 use Rattle.construction.specs.Gadgets.{differs, Gadget}
-use Rattle.construction.specs.Wires.{driverOf, share, firstOn, newWires, newShares, cost, draws, masked}
+use Rattle.construction.specs.Wires.{driverOf, share, firstOn, newWires, newShares, cost, masked}
+use Rattle.construction.specs.Counts.{draws}
 use Rattle.construction.proofs.Rows.{pairs-length, pairs-in}
 use Rattle.construction.proofs.Lawful.{Lawful}
 use Rattle.construction.proofs.Costs.{new-length, new-draws, all-of}

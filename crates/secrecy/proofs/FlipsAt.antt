@@ -9,9 +9,9 @@ use lib.ListN.{length, getD, take, drop, set, length-append, length-drop, take-a
 use lib.Seq.{length-take-le, take-at, drop-cons, drop-drop, take-add, take-set-lt}
 use lib.Dec.{eqb}
 use borrow.Author.Tests.{eqb-true, eqb-false}
-use Rattle.tables.specs.Runs.{Bits, xor}
+use Rattle.tables.specs.Runs.{xor}
 use Rattle.tables.specs.Says.{over}
-use Rattle.tables.specs.Inside.{putAt}
+use Rattle.tables.specs.Inside.{Bits, putAt}
 use Rattle.tables.proofs.Lists.{bits-cons, bits-take, bits-drop, part-take}
 use Rattle.tables.proofs.Put.{put-length, put-zero, put-append, put-nil, put-set, put-past, over-over}
 use Rattle.construction.specs.Shares.{upFrom}

@@ -11,14 +11,14 @@ use lib.Dec.{eqb, ltb}
 use lib.ListN.{length, getD, take, drop, length-append, length-drop, List·getD-append}
 use lib.Seq.{length-take-le, getD-at, take-at, drop-at, drop-append-add}
 use borrow.Author.Tests.{ltb-true, ltb-false, eqb-true, eqb-false, eq-eqb, ne-eqb}
-use Rattle.tables.specs.Runs.{xor, Bits}
+use Rattle.tables.specs.Runs.{xor}
+use Rattle.tables.specs.Inside.{Bits}
 use Rattle.tables.proofs.Lists.{bits-cons, bits-take, bits-drop}
 use Rattle.construction.specs.Shares.{sharesOf, upFrom}
 use Rattle.construction.specs.Codes.{xorAll, encode}
 use Rattle.construction.proofs.Sum.{sumOf, up-length, up-at, up-append}
 use Rattle.construction.proofs.Codes.{xor-all, group, group-length, encode-cons, bitsOf, bits-long, encode-get}
-use Rattle.secrecy.specs.Maps.{flipped, inputFlips}
-use Rattle.secrecy.specs.Both.{eachFlip}
+use Rattle.secrecy.specs.Maps.{flipped, eachFlip, inputFlips}
 
 pub flipped-length : (ts fs : List ℕ) → length (flipped ts fs) ≡ length ts
 unfolding flipped
@@ -178,7 +178,7 @@ flips-long o k x y = up-length (2 * o) 1 (onlyAt k (xor x y))
 
 pub input-flips-length :
     (o k : ℕ) (xs ys : List ℕ) → length xs ≡ length ys → length (inputFlips o k xs ys) ≡ 2 * o * length xs
-unfolding inputFlips
+unfolding eachFlip
 input-flips-length o k [] ys e = omega arith
 input-flips-length o k (x ∷ xs) [] e = absurd (omega arith)
 input-flips-length o k (x ∷ xs) (y ∷ ys) e =
@@ -191,7 +191,7 @@ input-flips-length o k (x ∷ xs) (y ∷ ys) e =
 
 pub input-flips-sym :
     (o k : ℕ) (xs ys : List ℕ) → length xs ≡ length ys → inputFlips o k xs ys ≡ inputFlips o k ys xs
-unfolding inputFlips
+unfolding eachFlip
 input-flips-sym o k [] [] e = refl
 input-flips-sym o k [] (y ∷ ys) e = absurd (omega arith)
 input-flips-sym o k (x ∷ xs) [] e = absurd (omega arith)
@@ -201,7 +201,7 @@ input-flips-sym o k (x ∷ xs) (y ∷ ys) e =
 
 -- equal secrets flip nothing
 pub input-flips-none : (o k : ℕ) (xs : List ℕ) (i : ℕ) → getD (inputFlips o k xs xs) i 0 ≡ 0
-unfolding inputFlips
+unfolding eachFlip
 input-flips-none o k [] i = refl
 input-flips-none o k (x ∷ xs) i =
     let none : xor x x ≡ 0 = omega arith in
@@ -212,7 +212,7 @@ input-flips-none o k (x ∷ xs) i =
 input-flips-of :
     (o k : ℕ) (xs ys : List ℕ) (i : ℕ) → length xs ≡ length ys → i < length xs
     → bitsOf o (inputFlips o k xs ys) i ≡ flipsOf o k (getD xs i 0) (getD ys i 0)
-unfolding inputFlips
+unfolding eachFlip
 input-flips-of o k [] ys i e h = absurd (omega arith)
 input-flips-of o k (x ∷ xs) [] i e h = absurd (omega arith)
 input-flips-of o k (x ∷ xs) (y ∷ ys) zero e h =
@@ -323,19 +323,12 @@ encode-off o k xs ys ts h l e hx hy ht long i s hi hs off =
     ∙ ap (λ (bs : List ℕ). getD (group (getD ys i 0) bs) s 0) (sym (input-bits o k xs ys ts i e hi))
     ∙ sym (encode-get o ys us i us-long (omega arith) s hs)
 
--- the inputs' bits, each 2t
-pub each-inputs : (o k : ℕ) (xs ys : List ℕ) → eachFlip (2 * o) k xs ys ≡ inputFlips o k xs ys
-unfolding eachFlip inputFlips
-each-inputs o k [] ys = refl
-each-inputs o k (x ∷ xs) [] = refl
-each-inputs o k (x ∷ xs) (y ∷ ys) = ap (λ (l : List ℕ). flipsOf o k x y ++ l) (each-inputs o k xs ys)
-
 -- the second encoding is the first with share k of each input flipped where the secrets differ
 pub encode-flipped :
     (o k : ℕ) (xs ys ts : List ℕ) → 1 ≤ k → k ≤ sharesOf o → length ys ≡ length xs → Bits xs → Bits ys → Bits ts
     → length ts ≡ 2 * o * length xs
     → encode o ys (flipped ts (inputFlips o k xs ys)) ≡ flipped (encode o xs ts) (eachFlip (sharesOf o) k xs ys)
-unfolding encode eachFlip flipped inputFlips
+unfolding encode eachFlip flipped
 encode-flipped o k [] [] ts h l e hx hy ht long = refl
 encode-flipped o k [] (y ∷ ys) ts h l e hx hy ht long = absurd (omega arith)
 encode-flipped o k (x ∷ xs) [] ts h l e hx hy ht long = absurd (omega arith)

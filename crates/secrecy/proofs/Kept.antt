@@ -15,7 +15,8 @@ use Rattle.tables.proofs.Lists.{All, bits-take, bits-drop}
 use Rattle.tables.proofs.Accept.{Plain}
 use Rattle.construction.specs.Shares.{sharesOf, upFrom}
 use Rattle.construction.specs.Gadgets.{isIn, Gadget}
-use Rattle.construction.specs.Wires.{originOf, Origin, inputShare, marks, draws, inputShares, inputOrigins, maskedWires, origins}
+use Rattle.construction.specs.Wires.{originOf, Origin, inputShare, marks, inputShares, inputOrigins, maskedWires, sharesAfter, origins}
+use Rattle.construction.specs.Counts.{draws}
 use Rattle.construction.specs.Codes.{encode, maskedRun}
 use Rattle.construction.proofs.Sum.{up-length, up-at, up-all}
 use Rattle.construction.proofs.Each.{Each, each-append, each-up, each-rows, each-map}
@@ -93,7 +94,7 @@ module _ {G : Gadget} (H : Hiding G) (o : ℕ) (t : Table) (P : Plain t) (k : �
       subst (λ (w : ℕ). v w ≡ u w) {x = n * i + s} {y = 0 + n * i + s} (omega arith)
       (input-same i s hi hs (λ e. not-first k (suc (0 + s)) [] lacks .0 (omega arith)))))
 
-  inputs-alike : All (Alike (sharesOf o) v u k) (inputShares (sharesOf o) (t .inputs))
+  pub inputs-alike : All (Alike (sharesOf o) v u k) (inputShares (sharesOf o) (t .inputs))
   inputs-alike =
       let n = sharesOf o in
       up-all _ (t .inputs) 0 (λ i. upFrom n (n * i) (λ w. w))
@@ -125,8 +126,12 @@ module _ {G : Gadget} (H : Hiding G) (o : ℕ) (t : Table) (P : Plain t) (k : �
             u,
       )))
 
-  gates-kept : Each (Kept G k v u) (sharesOf o * t .inputs) (maskedWires G o t)
-  gates-kept =
+  -- the wires of the gates that do not carry k, and the shares of every plain wire off k
+  both-kept :
+      Each (Kept G k v u) (sharesOf o * t .inputs) (maskedWires G o t)
+      × All (Alike (sharesOf o) v u k)
+      (sharesAfter (sharesOf o) (sharesOf o * t .inputs) (inputShares (sharesOf o) (t .inputs)) (t .gates))
+  both-kept =
       let n = sharesOf o in
       masked-agrees H n 0 (n * t .inputs) 0 k (inputShares n (t .inputs)) (t .gates) _ _ _ _ (omega arith)
       (plain-inputs n t P)
@@ -137,7 +142,12 @@ module _ {G : Gadget} (H : Hiding G) (o : ℕ) (t : Table) (P : Plain t) (k : �
       (values-solve (H .lawful) o t P ys ms hy hm)
       random-flips
       inputs-alike
-      .0
+
+  -- the outputs' shares among them
+  pub shares-kept :
+      All (Alike (sharesOf o) v u k)
+      (sharesAfter (sharesOf o) (sharesOf o * t .inputs) (inputShares (sharesOf o) (t .inputs)) (t .gates))
+  shares-kept = both-kept .1
 
   pub all-kept : Each Same 0 (origins G o t)
   unfolding origins
@@ -147,4 +157,4 @@ module _ {G : Gadget} (H : Hiding G) (o : ℕ) (t : Table) (P : Plain t) (k : �
       (subst (λ (w : ℕ). Each Same w (map originOf (maskedWires G o t)))
       {x = n * t .inputs}
       (omega (arith, input-origins-length n (t .inputs)))
-      (each-map _ Same originOf (λ w x h. h) (n * t .inputs) (maskedWires G o t) gates-kept))
+      (each-map _ Same originOf (λ w x h. h) (n * t .inputs) (maskedWires G o t) (both-kept .0)))

@@ -3,6 +3,7 @@ pub mod Bits
 pub mod Count
 pub mod Packed
 pub mod Faults
+pub mod Passes
 pub mod Free
 pub mod Inputs
 pub mod Flips
@@ -16,6 +17,7 @@ pub mod Written
 pub mod Counted
 pub mod Whole
 pub mod Assurance
+pub mod Earlier
 pub mod FlipsAt
 pub mod Both
 pub mod MapGates

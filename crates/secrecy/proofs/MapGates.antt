@@ -8,14 +8,15 @@ use native.Mathlib.Omega.{arith}
 use lib.ListN.{length, getD, take, drop, length-append, length-drop, length-map}
 use lib.Seq.{length-take-le, take-add, drop-drop, getD-take, take-at, drop-at}
 use Rattle.tables.specs.Tables.{Gate, total}
-use Rattle.tables.specs.Runs.{Bits, runFrom, randoms}
-use Rattle.tables.specs.Inside.{ranOn, RunsTo}
+use Rattle.tables.specs.Runs.{runFrom, randoms}
+use Rattle.tables.specs.Inside.{Bits, ranOn, RunsTo}
 use Rattle.tables.proofs.Lists.{bits-take, bits-drop}
 use Rattle.tables.proofs.Run.{run-prefix}
 use Rattle.tables.proofs.Ran.{ran-taken}
 use Rattle.tables.proofs.Accept.{PlainGates}
 use Rattle.construction.specs.Gadgets.{Gadget}
-use Rattle.construction.specs.Wires.{driverOf, newWires, newShares, cost, draws, masked}
+use Rattle.construction.specs.Wires.{driverOf, newWires, newShares, cost, masked}
+use Rattle.construction.specs.Counts.{draws}
 use Rattle.construction.proofs.Lawful.{Lawful}
 use Rattle.construction.proofs.Costs.{new-length, new-draws, masked-length}
 use Rattle.construction.proofs.Placed.{Placed, placed-step}

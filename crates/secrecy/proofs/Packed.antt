@@ -1,7 +1,7 @@
 -- Packed tapes and tapes of bits stand one to one, so that what holds of the map of bits holds of the map of packed tapes.
 -- Assumes nothing.
 use mathlib.Core.Path.{_≡_, refl, sym, ap, _∙_, subst}
-use mathlib.Core.Bool.{true, _&&_}
+use mathlib.Core.Bool.{Bool, true, _&&_}
 use mathlib.Core.List.{List}
 use Prim.Native.Nat.{ℕ, _<_}
 use native.Mathlib.Omega.{arith}
@@ -9,19 +9,13 @@ use borrow.Author.Tests.{eqb-true, eq-eqb}
 use lib.Dec.{eqb}
 use lib.ListN.{length, length-map}
 use Rattle.tables.specs.Packing.{bytesFor, packed, tapeOf, spare}
-use Rattle.tables.specs.Tables.{Table}
-use Rattle.tables.specs.Runs.{readAll}
 use Rattle.tables.proofs.Tests.{and-true, and-intro}
-use Rattle.tables.proofs.Lists.{All}
+use Rattle.tables.proofs.Lists.{All, all-map}
 use Rattle.tables.proofs.Packing.{packed-length, tape-packed, packed-tape, packed-bytes, packed-spare, tape-long, tape-bits}
-use Rattle.construction.specs.Gadgets.{Gadget}
-use Rattle.construction.specs.Wires.{tapeLong}
-use Rattle.construction.specs.Codes.{maskedRun}
-use Rattle.secrecy.specs.Maps.{mapped}
-use Rattle.secrecy.specs.Claims.{allBelow, isTape, areSecrets, areProbes, allTapes, same, howMany, readBy, Hides}
-use Rattle.secrecy.specs.Packed.{isPacked, allPacked, Packs, HidesPacked}
+use Rattle.secrecy.specs.Claims.{allBelow, allTapes, same, inBits, EachOnce, Hidden}
+use Rattle.secrecy.specs.Packed.{isPacked, inBytes, Packs}
 use Rattle.secrecy.proofs.Bits.{all-bits, bits-all, all-below, below-all, same-both}
-use Rattle.secrecy.proofs.Count.{BitsOf, of-bits, bits-of, many-map, many-on, many-all, once}
+use Rattle.secrecy.proofs.Count.{BitsOf, of-bits, bits-of, many-map, many-same, all-many, all-tapes, bits-once, indistinct}
 
 -- what the test says
 record Accepted (n : ℕ) (s : List ℕ) : Type 0 where
@@ -67,60 +61,48 @@ packs =
       bytes = packed-length;
       packs = λ bs h. packed-accepted (length bs) bs (refl, h);
       unpacked = λ bs h. tape-again (length bs) bs (refl, h);
-      long = λ n s h. tape-held n s h .0;
-      bits = λ n s h. tape-held n s h .1;
+      bits = λ n s h. of-bits n (tapeOf n s) (tape-held n s h);
       packed-again = packed-held;
-      all = λ n.
+    }
+
+-- each packed tape stands once among them
+pub bytes-once : (n : ℕ) → EachOnce (inBytes n)
+bytes-once n =
+    record {
+      only =
           many-map (isPacked n) packed (allTapes n)
-          ∙ many-on n (λ bs. isPacked n (packed bs)) (λ bs. true) (packed-accepted n)
-          ∙ many-all (allTapes n)
+          ∙ all-many (λ bs. isPacked n (packed bs)) (allTapes n) (all-map _ _ (packed-accepted n) (allTapes n) (all-tapes n))
           ∙ sym (length-map (allTapes n) packed);
-      once = λ n s h.
+      once = λ s h.
           many-map (λ us. same s us) packed (allTapes n)
-          ∙ many-on n _ (λ bs. same (tapeOf n s) bs)
+          ∙ many-same _ (λ bs. same (tapeOf n s) bs) (allTapes n)
+          (all-map _ _
           (λ bs b.
           same-both s (packed bs) (tapeOf n s) bs
           (λ e. ap (tapeOf n) e ∙ tape-again n bs b)
           (λ e. sym (packed-held n s h) ∙ ap packed e))
-          ∙ once n (tapeOf n s) (tape-held n s h .0) (tape-held n s h .1);
+          (allTapes n)
+          (all-tapes n))
+          ∙ bits-once n .once (tapeOf n s) (of-bits n (tapeOf n s) (tape-held n s h));
     }
 
--- demand 3 of bits gives that of packed tapes
-module _
-    {G : Gadget} {mk : ℕ → Table → ℕ → List ℕ} {rd : Table → ℕ → List ℕ} {t : Table} {o : ℕ} (H : Hides G mk rd t o)
+-- what is hidden with tapes of bits is hidden with packed tapes
+pub in-bytes :
+    (n : ℕ) (areSecret : List ℕ → Bool) (map : List ℕ → List ℕ → List ℕ → List ℕ) (see : List ℕ → List ℕ → List ℕ)
+    → Hidden (inBits n) areSecret map see → Hidden (inBytes n) areSecret map see
+in-bytes n areSecret map see H xs ys hx hy =
+    indistinct (inBytes n) (bytes-once n) (λ s. packed (map xs ys (tapeOf n s))) (λ s. packed (map ys xs (tapeOf n s)))
+    (λ s h. packed-accepted n _ (image s h))
+    (λ s h.
+    ap (λ (us : List ℕ). packed (map ys xs us)) (tape-again n _ (image s h))
+    ∙ ap packed (H xs ys hx hy .leads-back (tapeOf n s) (held s h))
+    ∙ packed-held n s h)
+    (λ s. see xs (tapeOf n s))
+    (λ s. see ys (tapeOf n s))
+    (λ s h. ap (see ys) (tape-again n _ (image s h)) ∙ H xs ys hx hy .same-seen (tapeOf n s) (held s h))
   where
-    abbrev l : ℕ
-    l = tapeLong G o t
+    held : (s : List ℕ) → isPacked n s ≡ true → inBits n .isOne (tapeOf n s) ≡ true
+    held s h = of-bits n (tapeOf n s) (tape-held n s h)
 
-    held : (s : List ℕ) → isPacked l s ≡ true → isTape G o t (tapeOf l s) ≡ true
-    held s h = of-bits G o t (tapeOf l s) (tape-held l s h)
-
-    to :
-        (xs ys s ps : List ℕ) → areSecrets t xs ≡ true → areSecrets t ys ≡ true → isPacked l s ≡ true
-        → areProbes G o t ps ≡ true → BitsOf l (mapped G mk o t xs ys (tapeOf l s) ps)
-    to xs ys s ps hx hy h hp = bits-of G o t (mapped G mk o t xs ys (tapeOf l s) ps) (H .a-tape xs ys (tapeOf l s) ps hx hy (held s h) hp)
-
-    -- as many packed tapes as tapes of bits give a pattern
-    times-packed :
-        (xs ps pattern : List ℕ)
-        → howMany (λ s. same (readAll (maskedRun G o t xs (tapeOf l s)) (readBy G rd o t ps)) pattern) (allPacked l)
-        ≡ howMany (λ bs. same (readAll (maskedRun G o t xs bs) (readBy G rd o t ps)) pattern) (allTapes l)
-    times-packed xs ps pattern =
-        many-map _ packed (allTapes l)
-        ∙ many-on l _ _
-        (λ bs b. ap (λ (us : List ℕ). same (readAll (maskedRun G o t xs us) (readBy G rd o t ps)) pattern) (tape-again l bs b))
-
-    pub hides-packed : HidesPacked G mk rd t o
-    hides-packed =
-        record {
-          a-tape = λ xs ys s ps hx hy h hp. packed-accepted l _ (to xs ys s ps hx hy h hp);
-          back = λ xs ys s ps hx hy h hp.
-              ap (λ (us : List ℕ). packed (mapped G mk o t ys xs us ps)) (tape-again l _ (to xs ys s ps hx hy h hp))
-              ∙ ap packed (H .back xs ys (tapeOf l s) ps hx hy (held s h) hp)
-              ∙ packed-held l s h;
-          same-read = λ xs ys s ps hx hy h hp.
-              ap (λ (us : List ℕ). readAll (maskedRun G o t ys us) (readBy G rd o t ps)) (tape-again l _ (to xs ys s ps hx hy h hp))
-              ∙ H .same-read xs ys (tapeOf l s) ps hx hy (held s h) hp;
-          as-many = λ xs ys ps pattern hx hy hp.
-              times-packed xs ps pattern ∙ H .as-many xs ys ps pattern hx hy hp ∙ sym (times-packed ys ps pattern);
-        }
+    image : (s : List ℕ) → isPacked n s ≡ true → BitsOf n (map xs ys (tapeOf n s))
+    image s h = bits-of n (map xs ys (tapeOf n s)) (H xs ys hx hy .a-tape (tapeOf n s) (held s h))

@@ -9,7 +9,8 @@ use native.Mathlib.Omega.{arith}
 use lib.ListN.{length, getD, take, drop}
 use lib.Seq.{take-at, drop-at}
 use Rattle.tables.specs.Tables.{Table}
-use Rattle.tables.specs.Runs.{runFrom, Bits}
+use Rattle.tables.specs.Runs.{runFrom}
+use Rattle.tables.specs.Inside.{Bits}
 use Rattle.tables.proofs.Accept.{Plain}
 use Rattle.construction.specs.Shares.{sharesOf}
 use Rattle.construction.specs.Gadgets.{Gadget}
@@ -32,7 +33,7 @@ use Rattle.secrecy.proofs.Flips.{map-gates-fixed}
 pub is-tape :
     (G : Gadget) (o : ℕ) (t : Table) (ts : List ℕ) → length ts ≡ tapeLong G o t → Bits ts → isTape G o t ts ≡ true
 is-tape G o t ts long bits =
-    of-bits G o t ts (long, bits-all ts bits)
+    of-bits (tapeLong G o t) ts (long, bits-all ts bits)
 
 -- swapping the secrets and their runs changes nothing
 tape-flips-sym :

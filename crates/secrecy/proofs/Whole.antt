@@ -4,7 +4,7 @@
 use mathlib.Core.Path.{_≡_, refl, sym, ap, _∙_, subst}
 use mathlib.Core.Bool.{true, false, _&&_}
 use mathlib.Core.List.{List, [], _∷_}
-use Prim.Native.Nat.{ℕ, _+_, _≤_, _<_}
+use Prim.Native.Nat.{ℕ, _+_, _*_, _≤_, _<_}
 use native.Mathlib.Omega.{arith}
 use borrow.Author.Tests.{leb-true}
 use lib.Dec.{leb}
@@ -19,7 +19,7 @@ use Rattle.tables.proofs.Accept.{Plain, accepted-plain}
 use Rattle.construction.specs.Shares.{sharesOf}
 use Rattle.construction.specs.declared.And as DAnd
 use Rattle.construction.specs.Gadgets.{isIn, Gadget, gadgetOf}
-use Rattle.construction.specs.Wires.{maskedTable, origins, tapeLong, inputShare, originAt, wireMarks, probeMarks}
+use Rattle.construction.specs.Wires.{maskedTable, origins, tapeLong, inputShare, originAt, wireMarks, probeMarks, inputShares, sharesAfter}
 use Rattle.construction.specs.Codes.{maskedRun}
 use Rattle.construction.specs.Says.{orderOk}
 use Rattle.construction.proofs.Lawful.{Lawful, lawful}
@@ -27,17 +27,18 @@ use Rattle.construction.proofs.Each.{each-at}
 use Rattle.construction.proofs.Joined.{joined-in}
 use Rattle.construction.proofs.Placed.{masked-earlier}
 use Rattle.construction.proofs.Pins.{probe-marks}
-use Rattle.secrecy.specs.Maps.{single, carried, freeShare, mappedAt, mapped}
-use Rattle.secrecy.specs.Claims.{accepted, isTape, areSecrets, areProbes, allBelow, same, readBy, Hides, Demands}
-use Rattle.secrecy.specs.Packed.{PackedDemands}
-use Rattle.secrecy.specs.Laws.{Free, Laws, CountsDecide}
+use Rattle.secrecy.specs.Maps.{single, carried, freeShare, flipped, mappedAt}
+use Rattle.secrecy.specs.Claims.{accepted, isTape, areSecrets, areProbes, allBelow, readBy, Tapes, inBits, EachOnce, HidesAt, Hides, Demands}
+use Rattle.secrecy.specs.Packed.{inBytes, PackedDemands}
+use Rattle.secrecy.specs.Laws.{tapeFlips, Free, Laws, CountsDecide}
 use Rattle.secrecy.proofs.Bits.{all-below}
-use Rattle.secrecy.proofs.Count.{BitsOf, of-bits, bits-of, tapes, once, same-count}
-use Rattle.secrecy.proofs.Packed.{packs, hides-packed}
+use Rattle.secrecy.proofs.Count.{bits-once, indistinct}
+use Rattle.secrecy.proofs.Packed.{packs, bytes-once, in-bytes}
 use Rattle.secrecy.proofs.Free.{free-laws, few-carried, marks-two, uncarried-each}
 use Rattle.construction.proofs.Hiding.{Hiding, hiding}
 use Rattle.secrecy.proofs.TwoRuns.{two-runs, mapped-tape, mapped-back}
-use Rattle.secrecy.proofs.Kept.{all-kept}
+use Rattle.secrecy.proofs.Agree.{Alike}
+use Rattle.secrecy.proofs.Kept.{inputs-alike, shares-kept, all-kept}
 use Rattle.secrecy.proofs.Joins.{joins}
 use Rattle.secrecy.proofs.Computing.{computes}
 use Rattle.secrecy.proofs.Written.{sized, written}
@@ -122,52 +123,89 @@ pins-below {G} L t o P ps below =
     let m = maskedTable G o t in
     all-each _ (probeReads m) ps (all-map _ _ (λ p h. reads-wires m p (masked-earlier L o t P) h) ps below)
 
--- a map of the tapes that leads back and keeps what is read: as many tapes give each pattern
-module _
-    {G : Gadget} {mk : ℕ → Table → ℕ → List ℕ} {rd : Table → ℕ → List ℕ} {t : Table} {o : ℕ}
-    (a-tape :
-    (xs ys ts ps : List ℕ) → areSecrets t xs ≡ true → areSecrets t ys ≡ true → isTape G o t ts ≡ true
-    → areProbes G o t ps ≡ true → isTape G o t (mapped G mk o t xs ys ts ps) ≡ true)
-    (back :
-    (xs ys ts ps : List ℕ) → areSecrets t xs ≡ true → areSecrets t ys ≡ true → isTape G o t ts ≡ true
-    → areProbes G o t ps ≡ true → mapped G mk o t ys xs (mapped G mk o t xs ys ts ps) ps ≡ ts)
-    (same-read :
-    (xs ys ts ps : List ℕ) → areSecrets t xs ≡ true → areSecrets t ys ≡ true → isTape G o t ts ≡ true
-    → areProbes G o t ps ≡ true
-    → readAll (maskedRun G o t ys (mapped G mk o t xs ys ts ps)) (readBy G rd o t ps)
-    ≡ readAll (maskedRun G o t xs ts) (readBy G rd o t ps))
-  where
-    hides-by : Hides G mk rd t o
-    hides-by =
-        record {
-          a-tape = a-tape;
-          back = back;
-          same-read = same-read;
-          as-many = λ xs ys ps pattern hx hy hp.
-              let to : (zs ws ts : List ℕ) → areSecrets t zs ≡ true → areSecrets t ws ≡ true → BitsOf (tapeLong G o t) ts
-              → BitsOf (tapeLong G o t) (mapped G mk o t zs ws ts ps) =
-              λ zs ws ts hz hw b. bits-of G o t (mapped G mk o t zs ws ts ps) (a-tape zs ws ts ps hz hw (of-bits G o t ts b) hp) in
-              same-count (tapeLong G o t) (λ ts. mapped G mk o t xs ys ts ps) (λ ts. mapped G mk o t ys xs ts ps) _ _
-              (λ ts b. to xs ys ts hx hy b)
-              (λ ts b. to ys xs ts hy hx b)
-              (λ ts b. back xs ys ts ps hx hy (of-bits G o t ts b) hp)
-              (λ ts b. back ys xs ts ps hy hx (of-bits G o t ts b) hp)
-              (λ ts b. ap (λ (l : List ℕ). same l pattern) (sym (same-read xs ys ts ps hx hy (of-bits G o t ts b) hp)));
-        }
-
 -- where a probe's pins keep their values too, its wire does
 pub pins-single :
-    {G : Gadget} {mk : ℕ → Table → ℕ → List ℕ} {t : Table} {o : ℕ} → Hides G mk probeReads t o → Hides G mk single t o
-pins-single {G} {mk} {t} {o} H =
-    hides-by (H .a-tape) (H .back)
-    (λ xs ys ts ps hx hy ht hp.
+    (F : ℕ → Tapes) → ((n : ℕ) → EachOnce (F n)) → (G : Gadget) (mk : ℕ → Table → ℕ → List ℕ) (t : Table) (o : ℕ)
+    → Hides F G mk probeReads t o → Hides F G mk single t o
+pins-single F E G mk t o H ps hp xs ys hx hy =
+    let I = H ps hp xs ys hx hy in
+    indistinct (F (tapeLong G o t)) (E (tapeLong G o t)) _ _ (I .a-tape) (I .leads-back) _ _
+    (λ ts ht.
     read-same _ _ (readBy G single o t ps)
-    (first-each _ _ ps (same-each _ _ (readBy G probeReads o t ps) (H .same-read xs ys ts ps hx hy ht hp))))
+    (first-each _ _ ps (same-each _ _ (readBy G probeReads o t ps) (I .same-seen ts ht))))
+
+module _ {G : Gadget} (H : Hiding G) (t : Table) (o : ℕ) (P : Plain t) (k : ℕ) where
+  -- the wire w has the same value in the run of xs with the tape ts and in that of ys with the mapped tape
+  abbrev pub KeptAt : List ℕ → List ℕ → List ℕ → ℕ → Type 0
+  KeptAt xs ys ts w = getD (maskedRun G o t xs ts) w 0 ≡ getD (maskedRun G o t ys (mappedAt G o t k xs ys ts)) w 0
+
+  -- wires that are kept tell nothing
+  pub hides-at :
+      (ws : List ℕ)
+      → ((xs ys ts : List ℕ) → areSecrets t xs ≡ true → areSecrets t ys ≡ true → isTape G o t ts ≡ true
+      → All (KeptAt xs ys ts) ws)
+      → HidesAt inBits G o t k ws
+  hides-at ws kept xs ys hx hy =
+      indistinct (inBits (tapeLong G o t)) (bits-once (tapeLong G o t)) _ _
+      (λ ts ht. mapped-tape (H .lawful) t o k P xs ys ts hx hy ht)
+      (λ ts ht. mapped-back (H .lawful) t o k P xs ys ts hx hy ht)
+      _
+      _
+      (λ ts ht. read-same _ _ ws (kept xs ys ts hx hy ht))
+
+  module _ (k1 : 1 ≤ k) (kn : k ≤ sharesOf o) (xs ys ts : List ℕ) (hx : areSecrets t xs ≡ true)
+      (hy : areSecrets t ys ≡ true) (ht : isTape G o t ts ≡ true) where
+    abbrev ms : List ℕ
+    ms = mappedAt G o t k xs ys ts
+
+    hm : isTape G o t ms ≡ true
+    hm = mapped-tape (H .lawful) t o k P xs ys ts hx hy ht
+
+    law : ms ≡ flipped ts (tapeFlips G o t k xs ys (maskedRun G o t xs ts) (maskedRun G o t ys ms))
+    law = two-runs (H .lawful) (H .unflipped) t o k P .flips xs ys ts hx hy ht
+
+    -- a wire that does not carry k is kept
+    pub lacking-kept :
+        (w : ℕ) → (w < wires (maskedTable G o t)) × (isIn k (wireMarks G o t w) ≡ false) → KeptAt xs ys ts w
+    lacking-kept w h =
+        subst (KeptAt xs ys ts)
+        {x = 0 + w}
+        (omega arith)
+        (each-at _ 0 (origins G o t) w (inputShare 0 0)
+        (all-kept H o t P k k1 kn xs ys ts ms hx hy ht hm law)
+        (omega (arith, h .0, sized (H .lawful) o t P .origins-are))
+        (h .1))
+
+    -- so are the shares off k of every input, and of every plain wire
+    pub inputs-off-kept :
+        All (Alike (sharesOf o) (λ p. getD (maskedRun G o t xs ts) p 0) (λ p. getD (maskedRun G o t ys ms) p 0) k)
+        (inputShares (sharesOf o) (t .inputs))
+    inputs-off-kept = inputs-alike H o t P k k1 kn xs ys ts ms hx hy ht hm law
+
+    pub shares-off-kept :
+        All (Alike (sharesOf o) (λ p. getD (maskedRun G o t xs ts) p 0) (λ p. getD (maskedRun G o t ys ms) p 0) k)
+        (sharesAfter (sharesOf o) (sharesOf o * t .inputs) (inputShares (sharesOf o) (t .inputs)) (t .gates))
+    shares-off-kept = shares-kept H o t P k k1 kn xs ys ts ms hx hy ht hm law
 
 module _
     {G : Gadget} (H : Hiding G) {mk : ℕ → Table → ℕ → List ℕ} {rd : Table → ℕ → List ℕ} (t : Table) (o : ℕ)
     (C : Covers G mk rd t o) (P : Plain t)
   where
+    -- what probes read that do not carry k is kept
+    pub read-kept :
+        (k : ℕ) → 1 ≤ k → k ≤ sharesOf o → (ps : List ℕ) → All (λ p. p < wires (maskedTable G o t)) ps
+        → isIn k (carried mk o t ps) ≡ false
+        → (xs ys ts : List ℕ) → areSecrets t xs ≡ true → areSecrets t ys ≡ true → isTape G o t ts ≡ true
+        → All (KeptAt H t o P k xs ys ts) (readBy G rd o t ps)
+    read-kept k k1 kn ps below lacks xs ys ts hx hy ht =
+        all-each _ (rd (maskedTable G o t)) ps
+        (all-both _ _ _
+        (λ p h l.
+        all-map _ _ (lacking-kept H t o P k k1 kn xs ys ts hx hy ht) (rd (maskedTable G o t) p) (C .lacks k p h l))
+        ps
+        below
+        (uncarried-each (mk o t) k ps lacks))
+
     module _ (ps : List ℕ) (hp : areProbes G o t ps ≡ true) where
       below : All (λ p. p < wires (maskedTable G o t)) ps
       below = all-below (wires (maskedTable G o t)) ps (and-true (leb (length ps) o) _ hp .1)
@@ -178,39 +216,20 @@ module _
           let few = leb-true (length ps) o (and-true _ (allBelow (wires (maskedTable G o t)) ps) hp .0) in
           free-laws (sharesOf o) (carried mk o t ps) (few-carried (mk o t) o ps (all-map _ _ (C .few) ps below) few)
 
-    same-read :
-        (xs ys ts ps : List ℕ) → areSecrets t xs ≡ true → areSecrets t ys ≡ true → isTape G o t ts ≡ true
-        → areProbes G o t ps ≡ true
-        → readAll (maskedRun G o t ys (mapped G mk o t xs ys ts ps)) (readBy G rd o t ps)
-        ≡ readAll (maskedRun G o t xs ts) (readBy G rd o t ps)
-    same-read xs ys ts ps hx hy ht hp =
-        let k = freeShare mk o t ps in
+    pub hides : Hides inBits G mk rd t o
+    hides ps hp =
         let free = free-of ps hp in
-        let ms = mappedAt G o t k xs ys ts in
-        let hm = mapped-tape (H .lawful) t o k P xs ys ts hx hy ht in
-        let law = two-runs (H .lawful) (H .unflipped) t o k P .flips xs ys ts hx hy ht in
-        let kept = all-kept H o t P k (free .from-1) (free .to-n) xs ys ts ms hx hy ht hm law in
-        let same-at : (w : ℕ) → (w < wires (maskedTable G o t)) × (isIn k (wireMarks G o t w) ≡ false)
-        → getD (maskedRun G o t xs ts) w 0 ≡ getD (maskedRun G o t ys ms) w 0 =
-        λ w h.
-        subst (λ (q : ℕ). getD (maskedRun G o t xs ts) q 0 ≡ getD (maskedRun G o t ys ms) q 0)
-        {x = 0 + w}
-        (omega arith)
-        (each-at _ 0 (origins G o t) w (inputShare 0 0) kept (omega (arith, h .0, sized (H .lawful) o t P .origins-are)) (h .1)) in
-        read-same _ _ (readBy G rd o t ps)
-        (all-each _ (rd (maskedTable G o t)) ps
-        (all-both _ _ _
-        (λ p h lacks. all-map _ _ same-at (rd (maskedTable G o t) p) (C .lacks k p h lacks))
-        ps
-        (below ps hp)
-        (uncarried-each (mk o t) k ps (free .uncarried))))
+        hides-at H t o P (freeShare mk o t ps) (readBy G rd o t ps)
+        (read-kept (freeShare mk o t ps) (free .from-1) (free .to-n) ps (below ps hp) (free .uncarried))
 
-    pub hides : Hides G mk rd t o
-    hides =
-        hides-by
-        (λ xs ys ts ps hx hy ht hp. mapped-tape (H .lawful) t o (freeShare mk o t ps) P xs ys ts hx hy ht)
-        (λ xs ys ts ps hx hy ht hp. mapped-back (H .lawful) t o (freeShare mk o t ps) P xs ys ts hx hy ht)
-        same-read
+-- and with packed tapes
+pub hides-packed :
+    (G : Gadget) (mk : ℕ → Table → ℕ → List ℕ) (rd : Table → ℕ → List ℕ) (t : Table) (o : ℕ) → Hides inBits G mk rd t o
+    → Hides inBytes G mk rd t o
+hides-packed G mk rd t o H ps hp =
+    in-bytes (tapeLong G o t) (areSecrets t) (mappedAt G o t (freeShare mk o t ps))
+    (λ xs ts. readAll (maskedRun G o t xs ts) (readBy G rd o t ps))
+    (H ps hp)
 
 accepted-is : (s : List ℕ) (o : ℕ) → accepted s o ≡ true → Plain (tableOf s)
 accepted-is s o h =
@@ -223,10 +242,14 @@ module _ (a : DAnd.And) where
   demands =
       record {
         second = λ s o h. computes (lawful a) o (tableOf s) (accepted-is s o h);
-        third = λ s o h.
-            let P = accepted-is s o h in
-            hides (hiding a) (tableOf s) o (covers-pins (lawful a) (tableOf s) o P) P;
-        third-single = λ s o h. hides (hiding a) (tableOf s) o (covers-single (lawful a) (tableOf s) o) (accepted-is s o h);
+        third =
+            record {
+              tapes = bits-once;
+              with-pins = λ s o h.
+                  let P = accepted-is s o h in
+                  hides (hiding a) (tableOf s) o (covers-pins (lawful a) (tableOf s) o P) P;
+              single-values = λ s o h. hides (hiding a) (tableOf s) o (covers-single (lawful a) (tableOf s) o) (accepted-is s o h);
+            };
         written-back = written (lawful a);
       }
 
@@ -235,8 +258,12 @@ module _ (a : DAnd.And) where
   packed-demands =
       record {
         one-to-one = packs;
-        third = λ s o h. hides-packed (demands .third s o h);
-        third-single = λ s o h. hides-packed (demands .third-single s o h);
+        third =
+            record {
+              tapes = bytes-once;
+              with-pins = λ s o h. hides-packed (gadgetOf a) (probeMarks (gadgetOf a)) probeReads (tableOf s) o (demands .third .with-pins s o h);
+              single-values = λ s o h. hides-packed (gadgetOf a) (wireMarks (gadgetOf a)) single (tableOf s) o (demands .third .single-values s o h);
+            };
       }
 
   -- the counts decide the forecast
@@ -252,8 +279,6 @@ module _ (a : DAnd.And) where
             let P = accepted-is s o h in
             free-of (hiding a) (tableOf s) o (covers-pins (lawful a) (tableOf s) o P) P ps hp;
         joins = λ s o w h k. joins (lawful a) o (tableOf s) (accepted-is s o h) w k;
-        single-values = λ s o mk H. pins-single H;
+        single-values = λ F E s o mk H. pins-single F E (gadgetOf a) mk (tableOf s) o H;
         two-runs = λ s o k h. two-runs (lawful a) (hiding a .unflipped) (tableOf s) o k (accepted-is s o h);
-        tapes = tapes;
-        once = once;
       }

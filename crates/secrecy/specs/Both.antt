@@ -4,15 +4,12 @@
 -- begins as the tape, and where the two differ it is flipped.
 -- Assumes nothing.
 use mathlib.Core.Path.{_≡_}
-use mathlib.Core.Bool.{cond}
-use mathlib.Core.List.{List, [], _∷_, _++_}
+use mathlib.Core.List.{List}
 use Prim.Native.Nat.{ℕ, _+_, _≤_, _<_}
-use lib.Dec.{eqb}
 use lib.ListN.{length, take, drop}
 use Rattle.tables.specs.Tables.{Gate}
-use Rattle.tables.specs.Runs.{Bits, xor}
-use Rattle.tables.specs.Inside.{putAt, ranOn, RunsTo}
-use Rattle.construction.specs.Shares.{upFrom, Pair}
+use Rattle.tables.specs.Inside.{Bits, putAt, ranOn, RunsTo}
+use Rattle.construction.specs.Shares.{Pair}
 use Rattle.construction.specs.Gadgets.{Gadget}
 use Rattle.secrecy.specs.Maps.{flipped, pairFlip, valuesOf}
 
@@ -23,12 +20,6 @@ bitsFor fs at ts = take (length fs) (drop at ts)
 -- a tape with some bits flipped from a place on
 unfoldable pub flipsAt : ℕ → List ℕ → List ℕ → List ℕ
 flipsAt at fs ts = putAt at (flipped (bitsFor fs at ts) fs) ts
-
--- of each input's c bits or shares, number k is flipped where the secrets differ
-unfoldable pub eachFlip : ℕ → ℕ → List ℕ → List ℕ → List ℕ
-eachFlip c k [] ys = []
-eachFlip c k (x ∷ xs) [] = []
-eachFlip c k (x ∷ xs) (y ∷ ys) = upFrom c 1 (λ s. cond (eqb s k) (xor x y) 0) ++ eachFlip c k xs ys
 
 -- what one pair flips, by the wires of the shares that the AND multiplies, in the runs v and u
 abbrev pub wiresFlip : Gadget → ℕ → List ℕ → List ℕ → (ℕ → ℕ) → (ℕ → ℕ) → Pair → ℕ

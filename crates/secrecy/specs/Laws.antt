@@ -1,4 +1,4 @@
--- Further laws that tie the definitions to document 01: closed sizes, the free share, the two complete runs, all tapes once; to
+-- Further laws that tie the definitions to document 01: closed sizes, the free share, the two complete runs; to
 -- Card 9: the marks of a probe; and to Card 3: the counts decide the forecast.
 -- The statements only; proofs/ has the proofs. No promise of a call cites them.
 -- Assumes nothing.
@@ -13,13 +13,13 @@ use Rattle.tables.specs.Runs.{probeReads, ofEach}
 use Rattle.tables.specs.Counted.{countsOf}
 use Rattle.construction.specs.Shares.{sharesOf}
 use Rattle.construction.specs.Gadgets.{isIn, Gadget}
-use Rattle.construction.specs.Wires.{cost, draws, maskedTable, origins, tapeLong, newShares, inputShares, wireMarks, probeMarks}
-use Rattle.construction.specs.declared.Sizes as DS
+use Rattle.construction.specs.Wires.{cost, maskedTable, origins, tapeLong, newShares, inputShares, wireMarks, probeMarks}
+use Rattle.construction.specs.declared.Sizes as DSizes
 use Rattle.construction.specs.Codes.{maskedRun}
 use Rattle.construction.specs.Says.{ForecastSays}
-use Rattle.construction.specs.Counts.{tooManyBy, forecastBy}
+use Rattle.construction.specs.Counts.{draws, tooManyBy, forecastBy}
 use Rattle.secrecy.specs.Maps.{single, carried, freeShare, flipped, inputFlips, gateFlips, mappedAt}
-use Rattle.secrecy.specs.Claims.{allBits, accepted, isTape, areSecrets, areProbes, allTapes, same, howMany, Hides}
+use Rattle.secrecy.specs.Claims.{accepted, isTape, areSecrets, areProbes, Tapes, EachOnce, Hides}
 
 -- what document 01's rules flip, read off two complete runs v and u
 unfoldable pub gatesFlips : Gadget → ℕ → ℕ → ℕ → List (List ℕ) → List Gate → (ℕ → ℕ) → (ℕ → ℕ) → List ℕ
@@ -101,26 +101,23 @@ pub record Laws (G : Gadget) : Type 0 where
       → Joins (ofEach (wireMarks G o (tableOf s)) (probeReads (maskedTable G o (tableOf s)) w)) (probeMarks G o (tableOf s) w)
   -- what holds where a probe reads its pins too holds of single values, with the same map, whatever the marks
   pub single-values :
-      (s : List ℕ) (o : ℕ) (mk : ℕ → Table → ℕ → List ℕ) → Hides G mk probeReads (tableOf s) o → Hides G mk single (tableOf s) o
+      (F : ℕ → Tapes) → ((n : ℕ) → EachOnce (F n)) → (s : List ℕ) (o : ℕ) (mk : ℕ → Table → ℕ → List ℕ)
+      → Hides F G mk probeReads (tableOf s) o → Hides F G mk single (tableOf s) o
   pub two-runs : (s : List ℕ) (o k : ℕ) → accepted s o ≡ true → TwoRuns G (tableOf s) o k
-  -- "all those that neither 10 nor 11 refuses": `allTapes` has nothing but lists of n bits, and each of them exactly once
-  pub tapes : (n : ℕ) → howMany (λ ts. eqb (length ts) n && allBits ts) (allTapes n) ≡ length (allTapes n)
-  pub once :
-      (n : ℕ) (ts : List ℕ) → length ts ≡ n → allBits ts ≡ true → howMany (λ us. same ts us) (allTapes n) ≡ 1
 
 -- "The order, I, O and the number of gates of each kind alone decide the four figures, or 8, by one stated formula"
 pub record CountsDecide (G : Gadget) : Type 0 where
   -- for every table and order that 1 to 7 accept, forecasting answers by the formula of the table's counts
   pub formula :
-      (s : List ℕ) (o : ℕ) (r : DS.Sizes) → accepted s o ≡ true → ForecastSays G s o r
+      (s : List ℕ) (o : ℕ) (r : DSizes.Sizes) → accepted s o ≡ true → ForecastSays G s o r
       → r ≡ forecastBy o (tableOf s .inputs) (length (tableOf s .outputs)) (countsOf (tableOf s .gates))
   -- with 8 exactly where the formula says 8
   pub eight :
-      (s : List ℕ) (o : ℕ) (r : DS.Sizes) → accepted s o ≡ true → ForecastSays G s o r
+      (s : List ℕ) (o : ℕ) (r : DSizes.Sizes) → accepted s o ≡ true → ForecastSays G s o r
       → eqb (r .number) 8 ≡ tooManyBy o (tableOf s .inputs) (length (tableOf s .outputs)) (countsOf (tableOf s .gates))
   -- so tables of the same counts have the same answer
   pub alike :
-      (s s′ : List ℕ) (o : ℕ) (r r′ : DS.Sizes) → accepted s o ≡ true → accepted s′ o ≡ true
+      (s s′ : List ℕ) (o : ℕ) (r r′ : DSizes.Sizes) → accepted s o ≡ true → accepted s′ o ≡ true
       → tableOf s .inputs ≡ tableOf s′ .inputs → length (tableOf s .outputs) ≡ length (tableOf s′ .outputs)
       → countsOf (tableOf s .gates) ≡ countsOf (tableOf s′ .gates) → ForecastSays G s o r → ForecastSays G s′ o r′ → r ≡ r′
   -- and what an AND draws is closed: "n(n−1)/2"

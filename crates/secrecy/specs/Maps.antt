@@ -37,12 +37,15 @@ flipped [] fs = []
 flipped (t ∷ ts) [] = t ∷ ts
 flipped (t ∷ ts) (f ∷ fs) = xor t f ∷ flipped ts fs
 
+-- of each input's c bits, number k is flipped where the secrets differ
+unfoldable pub eachFlip : ℕ → ℕ → List ℕ → List ℕ → List ℕ
+eachFlip c k [] ys = []
+eachFlip c k (x ∷ xs) [] = []
+eachFlip c k (x ∷ xs) (y ∷ ys) = upFrom c 1 (λ s. cond (eqb s k) (xor x y) 0) ++ eachFlip c k xs ys
+
 -- "Where k ≤ 2t, tape bit k of each input is flipped if x and y differ there"
-unfoldable pub inputFlips : ℕ → ℕ → List ℕ → List ℕ → List ℕ
-inputFlips o k [] ys = []
-inputFlips o k (x ∷ xs) [] = []
-inputFlips o k (x ∷ xs) (y ∷ ys) =
-    upFrom (2 * o) 1 (λ s. cond (eqb s k) (xor x y) 0) ++ inputFlips o k xs ys
+abbrev pub inputFlips : ℕ → ℕ → List ℕ → List ℕ → List ℕ
+inputFlips o k xs ys = eachFlip (2 * o) k xs ys
 
 -- what one pair flips: a and b give the values of the shares that the AND multiplies in the first run, a′ and b′ in the second
 abbrev pub pairFlip : Gadget → ℕ → (ℕ → ℕ) → (ℕ → ℕ) → (ℕ → ℕ) → (ℕ → ℕ) → Pair → ℕ
@@ -51,7 +54,8 @@ pairFlip G k a b a′ b′ p =
     let j = p .upper in
     G .flip k (suc i) (suc j) (differs (a i) (b j) (a′ i) (b′ j)) (differs (a j) (b i) (a′ j) (b′ i))
 
--- "In each AND, z(k,j) for j>k is flipped if a_k·b_j⊕a_j·b_k differs"
+-- what an AND flips: in document 01's "z(k,j) for j>k is flipped if a_k·b_j⊕a_j·b_k differs", in the DOM AND r of a pair of k and j
+-- "if a_j·b_k differs" (Card 8)
 abbrev pub andFlips : Gadget → ℕ → ℕ → (ℕ → ℕ) → (ℕ → ℕ) → (ℕ → ℕ) → (ℕ → ℕ) → List ℕ
 andFlips G n k a b a′ b′ = map (pairFlip G k a b a′ b′) (pairs n)
 

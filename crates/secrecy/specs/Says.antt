@@ -6,7 +6,7 @@ use mathlib.Core.List.{List, [], _∷_, _++_}
 use Prim.Native.Nat.{ℕ, suc, _+_}
 use lib.Dec.{eqb, ltb}
 use lib.ListN.{length}
-use Rattle.tables.specs.declared.Answer as DA
+use Rattle.tables.specs.declared.Answer as DAnswer
 use Rattle.tables.specs.Refusals.{Fault, fault, none, orElse, refusedIf, badBit}
 use Rattle.tables.specs.Tables.{Table, wires, tableOf}
 use Rattle.tables.specs.Packing.{bytesFor, packed, tapeOf, spareFault}
@@ -53,7 +53,7 @@ mapFault G s o xs ys ts ps a b c =
 -- a mapping with the refusal f answers the free share; "it writes the mapped tape and both runs", and the mapped tape is packed:
 -- "Unused high bits of the last byte are 0 and the map keeps them so"
 pub record MapDone (f : Fault) (G : Gadget) (mk : ℕ → Table → ℕ → List ℕ) (t : Table) (o : ℕ)
-    (xs ys ts ps a a′ b b′ c c′ : List ℕ) (r : DA.Answer) : Type 0 where
+    (xs ys ts ps a a′ b b′ c c′ : List ℕ) (r : DAnswer.Answer) : Type 0 where
   pub answer : Answered f (freeShare mk o t ps) r
   pub mapped-tape : a′ ≡ afterCall f (packed (mapped G mk o t xs ys ts ps)) a
   pub first-run : b′ ≡ afterCall f (maskedRun G o t xs ts) b
@@ -62,7 +62,7 @@ pub record MapDone (f : Fault) (G : Gadget) (mk : ℕ → Table → ℕ → List
 -- mapping a packed tape: the lent buffers a, b and c become a′, b′ and c′
 abbrev pub MapSays :
     Gadget → (ℕ → Table → ℕ → List ℕ) → List ℕ → ℕ
-    → List ℕ → List ℕ → List ℕ → List ℕ → List ℕ → List ℕ → List ℕ → List ℕ → List ℕ → List ℕ → DA.Answer → Type 0
+    → List ℕ → List ℕ → List ℕ → List ℕ → List ℕ → List ℕ → List ℕ → List ℕ → List ℕ → List ℕ → DAnswer.Answer → Type 0
 MapSays G mk s o xs ys ts ps a a′ b b′ c c′ r =
     let t = tableOf s in
     MapDone (mapFault G s o xs ys ts ps (length a) (length b) (length c)) G mk t o

@@ -12,7 +12,7 @@ use lib.Seq.{getD-set-same, getD-set-other, length-take-le, take-suc, take-lengt
 use borrow.Author.Tests.{eqb-true, eqb-false}
 use Rattle.tables.specs.Tables.{Kind, OR, kindOf, Gate, noGate, Table, wires, gateOf, total}
 use Rattle.tables.proofs.Run.{total-append}
-use Rattle.layout.specs.declared.Places as DP
+use Rattle.layout.specs.declared.Places as DPlaces
 use Rattle.construction.specs.Shares.{upFrom, tri}
 use Rattle.construction.specs.Wires.{firstOn, andCost, cost, newShares, inputShares, sharesAfter}
 use Rattle.layout.specs.Layout.{shareWires}
@@ -20,14 +20,14 @@ use Rattle.share_places.specs.Located.{placesAt, Small, Room, Put, Holds
 use Rattle.construction.proofs.Sum.{up-length, up-plus, up-shift, up-cong}
 use Rattle.construction.proofs.Placed.{shares-after-length}
 
-abbrev pub placesOf : ℕ → ℕ → ℕ → DP.Places
+abbrev pub placesOf : ℕ → ℕ → ℕ → DPlaces.Places
 placesOf h b t = record { head = h; base = b; step = t }
 
-shares-suc : (m : ℕ) (a : DP.Places) → shareWires (suc m) a ≡ a .head ∷ upFrom m 0 (λ s. a .base + s * a .step)
+shares-suc : (m : ℕ) (a : DPlaces.Places) → shareWires (suc m) a ≡ a .head ∷ upFrom m 0 (λ s. a .base + s * a .step)
 shares-suc m a =
     ap {A = ℕ} {B = List ℕ} (λ c. a .head ∷ upFrom c 0 (λ s. a .base + s * a .step)) {x = suc m - 1} {y = m} (omega arith)
 
-pub shares-length : (n : ℕ) (a : DP.Places) → 1 ≤ n → length (shareWires n a) ≡ n
+pub shares-length : (n : ℕ) (a : DPlaces.Places) → 1 ≤ n → length (shareWires n a) ≡ n
 shares-length n a h = omega (arith, up-length (n - 1) 0 (λ s. a .base + s * a .step))
 
 -- neighbouring wires
@@ -59,7 +59,7 @@ square-more (suc m) = omega (arith, square-more m)
 
 -- the places as the code chooses them, by the byte of the kind
 pub new-places-are :
-    {first head base step other-base other-step : ℕ} (k n w : ℕ) (a : DP.Places) → k ≤ 2 → 1 ≤ n → n ≤ 31
+    {first head base step other-base other-step : ℕ} (k n w : ℕ) (a : DPlaces.Places) → k ≤ 2 → 1 ≤ n → n ≤ 31
     → w + cost (kindOf k) n ≤ 65535 → Small a → first ≡ w + 5 * tri n + (n - 1) → other-base ≡ cond (eqb k 1) (w + 1) (first + n)
     → other-step ≡ cond (eqb k 1) 1 n → head ≡ cond (eqb k 2) first w → base ≡ cond (eqb k 0) (a .base) other-base
     → step ≡ cond (eqb k 0) (a .step) other-step
@@ -89,7 +89,7 @@ or-places-are n w some few fits e c =
     )
 
 -- the numbers of one wire written: there, and everywhere else
-module _ {p : ℕ} {a : DP.Places} {H B T H′ B′ T′ : List ℕ} (W : Put p a H B T H′ B′ T′) where
+module _ {p : ℕ} {a : DPlaces.Places} {H B T H′ B′ T′ : List ℕ} (W : Put p a H B T H′ B′ T′) where
   put-same : (n : ℕ) → Room (p + 1) H B T → shareWires n (placesAt H′ B′ T′ p) ≡ shareWires n a
   put-same n r =
       let h : getD H′ p 0 ≡ a .head = rw (W .heads) (getD-set-same H p (a .head) 0 (omega (arith, r .heads))) in
@@ -109,7 +109,7 @@ noted-start h = record { holds = h; past = λ q _. refl; heads = refl; bases = r
 
 -- one plain wire more
 pub noted-next :
-    {n p : ℕ} {S : List (List ℕ)} {a : DP.Places} {H₀ B₀ T₀ H B T H′ B′ T′ : List ℕ} → Noted n S H₀ B₀ T₀ H B T
+    {n p : ℕ} {S : List (List ℕ)} {a : DPlaces.Places} {H₀ B₀ T₀ H B T H′ B′ T′ : List ℕ} → Noted n S H₀ B₀ T₀ H B T
     → p ≡ length S → Room (p + 1) H B T → Put p a H B T H′ B′ T′
     → Noted n (S ++ (shareWires n a ∷ [])) H₀ B₀ T₀ H′ B′ T′
 noted-next {n} {p} {S} {a} {H₀} {B₀} {T₀} {H} {B} {T} {H′} {B′} {T′} N e r W =
@@ -133,7 +133,7 @@ noted-next {n} {p} {S} {a} {H₀} {B₀} {T₀} {H} {B} {T} {H′} {B′} {T′}
         rw (eqb-true q p t, e) (getD-append-seam S (shareWires n a) [] []) in
         at ∙ sym last
     here q h false t =
-        ap {A = DP.Places} {B = List ℕ} (shareWires n) (put-other W q (eqb-false q p t))
+        ap {A = DPlaces.Places} {B = List ℕ} (shareWires n) (put-other W q (eqb-false q p t))
         ∙ N .holds q (omega (arith, eqb-false q p t))
         ∙ sym (List·getD-append S (shareWires n a ∷ []) [] q (omega (arith, eqb-false q p t)))
 

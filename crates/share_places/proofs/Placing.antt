@@ -7,16 +7,16 @@ use native.Mathlib.Nat.{zero-add, mul-le-mul-left}
 use native.Mathlib.Numerals.{add-one}
 use native.Mathlib.Omega.{arith}
 use lib.ListN.{length, getD, replicate, length-replicate}
-use Rattle.tables.specs.declared.GateFields as DG
+use Rattle.tables.specs.declared.GateFields as DGateFields
 use Rattle.tables.specs.Tables.{kindOf, Table, gateOf, tableOf, operandsOf, total}
 use Rattle.tables.specs.Inside.{GateIs}
 use Rattle.tables.proofs.Run.{OfLeft, read-left}
-use Rattle.layout.specs.declared.Places as DW
+use Rattle.layout.specs.declared.Places as DPlaces
 use Rattle.construction.specs.Shares.{upFrom}
 use Rattle.construction.specs.Wires.{cost, newShares, inputShares, sharesAfter}
 use Rattle.construction.proofs.Sum.{up-length, up-append}
 use Rattle.construction.proofs.Placed.{new-shares-read}
-use Rattle.planning.specs.declared.Plan as DP
+use Rattle.planning.specs.declared.Plan as DPlan
 use Rattle.planning.specs.Plans.{PlanReady}
 use Rattle.layout.specs.Layout.{shareWires}
 use Rattle.share_places.specs.Located.{placesAt, Room, Put, Holds, Noted, Located, sharesTo, allShares, gateWire}
@@ -41,7 +41,7 @@ room-of c k h =
 
 -- the arrays once the shares are noted
 pub plan-located :
-    {s : List ℕ} {p : DP.Plan} {H B T H′ B′ T′ : List ℕ} → PlanReady s p → Room (p .inputs + p .gates) H B T
+    {s : List ℕ} {p : DPlan.Plan} {H B T H′ B′ T′ : List ℕ} → PlanReady s p → Room (p .inputs + p .gates) H B T
     → Noted (p .shares) (allShares (p .shares) (tableOf s)) H B T H′ B′ T′ → Located (tableOf s) (p .shares) H′ B′ T′
 plan-located R r N = record { room = noted-room r N (omega (arith, R .inputs, R .gates)); holds = N .holds }
 
@@ -99,7 +99,7 @@ pub record Placing (t : Table) (n G : ℕ) (H₀ B₀ T₀ H B T : List ℕ) (g 
   pub wire : w ≡ gateWire n t g
   pub within : g ≤ G
 
-module _ {s : List ℕ} {p : DP.Plan} (R : PlanReady s p) where
+module _ {s : List ℕ} {p : DPlan.Plan} (R : PlanReady s p) where
   pub placing-start :
       {H B T : List ℕ} → Holds (p .shares) (inputShares (p .shares) (p .inputs)) H B T
       → Placing (tableOf s) (p .shares) (p .gates) H B T H B T 0 (p .shares * p .inputs)
@@ -116,7 +116,7 @@ module _ {s : List ℕ} {p : DP.Plan} (R : PlanReady s p) where
         rw (← shares-to-all (p .shares) (tableOf s) g (omega (arith, P .within, R .gates))) (P .noted)
 
     pub placing-turn :
-        {H′ B′ T′ : List ℕ} {u : ℕ} {x : DG.GateFields} {a r : DW.Places} → g < p .gates → GateIs (gateOf (tableOf s) g) x
+        {H′ B′ T′ : List ℕ} {u : ℕ} {x : DGateFields.GateFields} {a r : DPlaces.Places} → g < p .gates → GateIs (gateOf (tableOf s) g) x
         → a ≡ placesAt H B T (x .left) → shareWires (p .shares) r ≡ newShares (kindOf (x .kind)) (p .shares) w (shareWires (p .shares) a)
         → Room (p .inputs + g + 1) H B T → Put (p .inputs + g) r H B T H′ B′ T′ → u ≡ cost (kindOf (x .kind)) (p .shares)
         → Placing (tableOf s) (p .shares) (p .gates) H₀ B₀ T₀ H′ B′ T′ (g + 1) (w + u)

@@ -6,7 +6,7 @@ use mathlib.Core.List.{List, [], _∷_}
 use Prim.Native.Nat.{ℕ, zero, suc, _+_, _*_, _≤_, _<_}
 use native.Mathlib.Omega.{arith}
 use lib.ListN.{length, getD}
-use Rattle.tables.specs.declared.GateFields as DG
+use Rattle.tables.specs.declared.GateFields as DGateFields
 use Rattle.tables.specs.Refusals.{passed}
 use Rattle.tables.specs.Tables.{kindOf, Gate, noGate, gateOf, tableOf, known, operandsOf, isRandom, randomFault, total}
 use Rattle.tables.specs.Inside.{HasGates, HasOutputs, PlainByte, GateIs}
@@ -22,7 +22,7 @@ use Rattle.construction.proofs.Costs.{masked-wires}
 use Rattle.construction.proofs.Orders.{order-range}
 use Rattle.construction.proofs.Placed.{placed-at, placed-inputs, placed-after, share-below}
 use Rattle.construction.proofs.Sum.{up-length}
-use Rattle.planning.specs.declared.Plan as DP
+use Rattle.planning.specs.declared.Plan as DPlan
 use Rattle.planning.specs.Plans.{PlanReady}
 use Rattle.planning.proofs.Planning.{plan-passed, plan-fits}
 use Rattle.layout.specs.Layout.{LowShares}
@@ -47,7 +47,7 @@ plain-byte (suc (suc (suc (suc (suc zero))))) p q = (omega arith, λ e. omega (a
 plain-byte (suc (suc (suc (suc (suc (suc k)))))) p q = let z : _≡_ {A = ℕ} 0 1 = cc in absurd (omega arith)
 
 -- at gate g, whose fields are r and whose first masked wire is w
-pub record Turn (I n g w : ℕ) (r : DG.GateFields) : Type 0 where
+pub record Turn (I n g w : ℕ) (r : DGateFields.GateFields) : Type 0 where
   pub kind : PlainByte (r .kind)
   pub left : r .left ≤ I + g
   pub right : r .right < I + g
@@ -64,7 +64,7 @@ early-left (suc (suc (suc (suc zero)))) l r w p h c = absurd (c refl)
 early-left (suc (suc (suc (suc (suc zero))))) l r w p h c = h .0
 early-left (suc (suc (suc (suc (suc (suc k)))))) l r w p h c = absurd (omega (arith, p .0))
 
-module _ {I n g w : ℕ} {r : DG.GateFields} (T : Turn I n g w r) where
+module _ {I n g w : ℕ} {r : DGateFields.GateFields} (T : Turn I n g w r) where
   pub turn-early : (r .kind ≡ 4 → ⊥) → r .left < I + g
   turn-early c = early-left (r .kind) (r .left) (r .right) (I + g) (T .kind) (T .reads) c
 
@@ -72,7 +72,7 @@ module _ {I n g w : ℕ} {r : DG.GateFields} (T : Turn I n g w r) where
   turn-value e = rw e at (T .reads)
 
 -- the numbers of a plan
-pub record Sized (s : List ℕ) (p : DP.Plan) : Type 0 where
+pub record Sized (s : List ℕ) (p : DPlan.Plan) : Type 0 where
   pub some : 3 ≤ p .shares
   pub few : p .shares ≤ 31
   pub plain : p .inputs + p .gates ≤ 65535
@@ -80,7 +80,7 @@ pub record Sized (s : List ℕ) (p : DP.Plan) : Type 0 where
   pub gates : HasGates s (p .gates)
   pub outputs : HasOutputs s (p .gates) (p .outputs)
 
-module _ {s : List ℕ} {p : DP.Plan} (R : PlanReady s p) where
+module _ {s : List ℕ} {p : DPlan.Plan} (R : PlanReady s p) where
   pub plan-sized : Sized s p
   plan-sized =
       let q = plan-passed R in
@@ -100,7 +100,7 @@ module _ {s : List ℕ} {p : DP.Plan} (R : PlanReady s p) where
   plan-wires = rw (R .shares) (sym (R .wires Isw ∙ masked-wires isw (p .order) (tableOf s)))
 
   pub turn :
-      {g w : ℕ} {r : DG.GateFields} → g < p .gates → w ≡ gateWire (p .shares) (tableOf s) g → GateIs (gateOf (tableOf s) g) r
+      {g w : ℕ} {r : DGateFields.GateFields} → g < p .gates → w ≡ gateWire (p .shares) (tableOf s) g → GateIs (gateOf (tableOf s) g) r
       → Turn (p .inputs) (p .shares) g w r
   turn {g} {w} {r} h e is =
       let t = tableOf s in

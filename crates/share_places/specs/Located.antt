@@ -6,16 +6,16 @@ use mathlib.Core.List.{List, []}
 use Prim.Native.Nat.{ℕ, _+_, _*_, _≤_, _<_}
 use lib.ListN.{length, getD, take, set}
 use Rattle.tables.specs.Tables.{Table, wires, total}
-use Rattle.layout.specs.declared.Places as DP
+use Rattle.layout.specs.declared.Places as DPlaces
 use Rattle.construction.specs.Wires.{cost, inputShares, sharesAfter}
 use Rattle.layout.specs.Layout.{shareWires}
 
 -- where the three arrays say that the shares of plain wire p are
-abbrev pub placesAt : List ℕ → List ℕ → List ℕ → ℕ → DP.Places
+abbrev pub placesAt : List ℕ → List ℕ → List ℕ → ℕ → DPlaces.Places
 placesAt H B T p = record { head = getD H p 0; base = getD B p 0; step = getD T p 0 }
 
 -- three numbers of 16 bits
-pub record Small (a : DP.Places) : Type 0 where
+pub record Small (a : DPlaces.Places) : Type 0 where
   pub head : a .head < 65536
   pub base : a .base < 65536
   pub step : a .step < 65536
@@ -27,7 +27,7 @@ pub record Room (c : ℕ) (H B T : List ℕ) : Type 0 where
   pub steps : c ≤ length T
 
 -- the arrays with the numbers of plain wire p written
-pub record Put (p : ℕ) (a : DP.Places) (H B T H′ B′ T′ : List ℕ) : Type 0 where
+pub record Put (p : ℕ) (a : DPlaces.Places) (H B T H′ B′ T′ : List ℕ) : Type 0 where
   pub heads : H′ ≡ set H p (a .head)
   pub bases : B′ ≡ set B p (a .base)
   pub steps : T′ ≡ set T p (a .step)

@@ -9,11 +9,10 @@ use lib.Dec.{eqb, ltb}
 use lib.ListN.{length, drop}
 use borrow.Author.Tests.{ltb-true, ltb-false, eqb-true, eqb-false, not-false}
 use Rattle.tables.specs.Refusals.{Fault, fault, none, passed, orElse, refusedIf}
-use Rattle.tables.specs.Tables.{Kind, NOT, XOR, AND, RANDOM, CONSTANT, OR, UNKNOWN, Gate, Table, wires}
+use Rattle.tables.specs.Tables.{Kind, Gate, Table, wires}
 use Rattle.tables.specs.Tables.{word, gatesFrom, wordsFrom, tableOf, tableLong, known, Operands, none-read, left-read}
-use Rattle.tables.specs.Tables.{both-read, value-stated, operandsOf, operandsOk, total, gateFault, gatesFault, outputsFault}
+use Rattle.tables.specs.Tables.{both-read, value-stated, operandsOf, operandsOk, gateFault, gatesFault, outputsFault}
 use Rattle.tables.specs.Tables.{sizesBad, tableFault, isRandom, randomFault}
-use Rattle.tables.specs.Runs.{drawn, randoms}
 use Rattle.tables.specs.Inside.{HasGates, HasOutputs}
 use Rattle.tables.proofs.Tests.{and-true, or-false, both-passed, not-refused}
 use Rattle.tables.proofs.Lists.{All}
@@ -56,21 +55,6 @@ unfolding PlainGates Earlier
 plain-earlier w [] h = tt
 plain-earlier w (g ∷ gs) h =
     (plain-reads w (g .kind) (g .left) (g .right) (h .0), plain-earlier (suc w) gs (h .1))
-
-plain-drawn : (w : ℕ) (k : Kind) (l r : ℕ) → PlainGate w k l r → drawn k ≡ 0
-plain-drawn w NOT l r h = refl
-plain-drawn w XOR l r h = refl
-plain-drawn w AND l r h = refl
-plain-drawn w RANDOM l r h = absurd h
-plain-drawn w CONSTANT l r h = refl
-plain-drawn w OR l r h = refl
-plain-drawn w (UNKNOWN k) l r h = refl
-
-plain-randoms : (w : ℕ) (gs : List Gate) → PlainGates w gs → randoms gs ≡ 0
-unfolding PlainGates total
-plain-randoms w [] h = refl
-plain-randoms w (g ∷ gs) h =
-    omega (arith, plain-drawn w (g .kind) (g .left) (g .right) (h .0), plain-randoms (suc w) gs (h .1))
 
 gates-length : (n : ℕ) (ks ps : List ℕ) → length (gatesFrom n ks ps) ≡ n
 unfolding gatesFrom

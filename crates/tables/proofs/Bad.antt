@@ -11,7 +11,7 @@ use lib.Dec.{leb}
 use lib.ListN.{length}
 use borrow.Author.Tests.{leb-true}
 use Rattle.tables.specs.Refusals.{fault, passed, orElse, badBit}
-use Rattle.tables.specs.Runs.{Bits}
+use Rattle.tables.specs.Inside.{Bits}
 use Rattle.tables.proofs.Lists.{bits-nil, bits-cons}
 use Rattle.tables.proofs.Accept.{cond-passed}
 

@@ -1,4 +1,5 @@
--- The bytes that a program reads. An input that is longer than every table, 458,746 bytes, has the refusal of its beginning: 2 by its sizes, else 1 by its length.
+-- The bytes that a program reads. An input that is longer than every table, 458,746 bytes, has the refusal of its beginning: 2 by its
+-- sizes, else 1 by its length.
 -- Assumes nothing.
 use mathlib.Core.Path.{_≡_, refl, sym, _∙_, subst}
 use mathlib.Core.Bool.{Bool, true, false, cond}

@@ -12,14 +12,14 @@ use lib.Seq.{drop-at, drop-drop}
 use borrow.Author.Tests.{lt-ltb, le-ltb, eq-eqb, ne-eqb}
 use Rattle.tables.specs.Refusals.{none, passed}
 use Rattle.tables.specs.Tables.{Kind, NOT, XOR, AND, RANDOM, CONSTANT, OR, UNKNOWN, kindOf, kindByte, Gate, noGate}
-use Rattle.tables.specs.Tables.{Table, wires, word, two, gatesFrom, wordsFrom, tableOf, kindBytes, pairBytes, wordBytes}
+use Rattle.tables.specs.Tables.{Table, wires, word, gatesFrom, wordsFrom, tableOf, kindBytes, pairBytes, wordBytes}
 use Rattle.tables.specs.Tables.{tableBytes, tableLong, known, operandsOf, operandsOk, gateFault, gatesFault}
 use Rattle.tables.specs.Tables.{outputsFault, tableFault}
 use Rattle.tables.proofs.Tests.{both-passed}
-use Rattle.tables.proofs.Lists.{All, all-append, all-getD}
+use Rattle.tables.proofs.Lists.{All, all-getD}
 use Rattle.tables.proofs.Run.{Earlier}
 use Rattle.tables.proofs.Accept.{inputs-of, outputs-of-length, accepted, gate-passed, outputs-passed}
-use Rattle.tables.proofs.Accept.{operands-read, operands-below}
+use Rattle.tables.proofs.Accept.{operands-read}
 
 -- gates that pass the checks, the first driving wire w
 unfoldable pub SoundGates : ℕ → List Gate → Type 0
@@ -200,54 +200,6 @@ passed-sound-gates s h = gates-passed 0 (tableOf s .inputs) (tableOf s .gates) (
 -- a list of bytes
 abbrev pub Bytes : List ℕ → Type 0
 Bytes s = All (λ b. b < 256) s
-
-two-bytes : (v : ℕ) (s : List ℕ) → v < 65536 → Bytes s → Bytes (two v ++ s)
-unfolding All
-two-bytes v s h a = (omega arith, (omega arith, a))
-
-kind-byte : (k : Kind) → known k ≡ true → kindByte k < 256
-kind-byte NOT h = omega arith
-kind-byte XOR h = omega arith
-kind-byte AND h = omega arith
-kind-byte RANDOM h = omega arith
-kind-byte CONSTANT h = omega arith
-kind-byte OR h = omega arith
-kind-byte (UNKNOWN k) h = let z : _≡_ {A = ℕ} 0 1 = cc in omega arith
-
-kinds-bytes : (w : ℕ) (gs : List Gate) → SoundGates w gs → Bytes (kindBytes gs)
-unfolding SoundGates kindBytes All
-kinds-bytes w [] h = tt
-kinds-bytes w (g ∷ gs) h = (kind-byte (g .kind) (h .0 .0), kinds-bytes (suc w) gs (h .1))
-
-pairs-bytes : (w : ℕ) (gs : List Gate) → 1 ≤ w → SoundGates w gs → w + length gs ≤ 65535 → Bytes (pairBytes gs)
-unfolding SoundGates pairBytes All
-pairs-bytes w [] p h e = tt
-pairs-bytes w (g ∷ gs) p h e =
-    let b = operands-below w (operandsOf (g .kind)) (g .left) (g .right) p (h .0 .1) in
-    let rest = pairs-bytes (suc w) gs (omega arith) (h .1) (omega arith) in
-    two-bytes (g .left) (two (g .right) ++ pairBytes gs) (omega arith)
-    (two-bytes (g .right) (pairBytes gs) (omega arith) rest)
-
-words-bytes : (w : ℕ) (ws : List ℕ) → w ≤ 65535 → All (λ o. o < w) ws → Bytes (wordBytes ws)
-unfolding wordBytes All
-words-bytes w [] h a = tt
-words-bytes w (v ∷ ws) h a = two-bytes v (wordBytes ws) (omega (arith, a .0)) (words-bytes w ws h (a .1))
-
--- every number that is written is a byte
-pub table-bytes : (t : Table) → Sound t → Bytes (tableBytes t)
-unfolding tableBytes
-table-bytes t h =
-    let ks = kindBytes (t .gates) in
-    let ps = pairBytes (t .gates) in
-    let os = wordBytes (t .outputs) in
-    let a : Bytes os = words-bytes (wires t) (t .outputs) (h .few-wires) (h .outputs) in
-    let b : Bytes ps = pairs-bytes (t .inputs) (t .gates) (h .some-input) (h .gates) (h .few-wires) in
-    let d : Bytes ks = kinds-bytes (t .inputs) (t .gates) (h .gates) in
-    let body : Bytes (ks ++ (ps ++ os)) =
-    all-append (λ b. b < 256) ks (ps ++ os) d (all-append (λ b. b < 256) ps os b a) in
-    two-bytes (t .inputs) _ (omega (arith, h .few-wires))
-    (two-bytes (length (t .gates)) _ (omega (arith, h .few-wires))
-    (two-bytes (length (t .outputs)) _ (omega (arith, h .few-outputs)) body))
 
 -- bytes that pass hold a sound table
 pub passed-sound : (s : List ℕ) → Bytes s → passed (tableFault s) ≡ true → Sound (tableOf s)

@@ -7,7 +7,7 @@ use native.Mathlib.Omega.{arith}
 use mathlib.Core.Path.{_≡_, sym, ap, subst, _∙_}
 use lib.ListN.{length, getD, take, drop, length-drop, drop-of-length-le}
 use lib.Seq.{length-take-le, drop-append-seam, drop-cons, getD-take, getD-drop, take-take, take-nil}
-use Rattle.tables.specs.Runs.{Bits}
+use Rattle.tables.specs.Inside.{Bits}
 
 unfoldable pub All : {A : Type 0} → (A → Type 0) → List A → Type 0
 All P [] = Unit {0}

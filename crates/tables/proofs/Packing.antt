@@ -6,14 +6,16 @@ use mathlib.Core.List.{List, [], _∷_, _++_, append-assoc}
 use Prim.Native.Nat.{ℕ, zero, suc, _+_, _-_, _*_, _/_, _%_, _^_, _≤_, _<_}
 use native.Mathlib.Nat.{mod-lt, mul-assoc, zero-div, div-eq-of-lt}
 use native.Mathlib.Omega.{arith}
-use lib.ListN.{length, getD, take, drop, set, length-append, length-set, length-take, length-drop, take-append-drop, List·getD-append, List·getD-eq-default}
+use lib.ListN.{length, getD, take, drop, set, length-append}
+use lib.ListN.{length-set, length-take, length-drop, take-append-drop, List·getD-append, List·getD-eq-default}
 use borrow.Author.Tests.{ltb-true, ltb-false, eqb-true, eqb-false}
 use lib.Bits.{bitXor, shifted-even, xor-shr, xor-mod}
 use lib.Dec.{eqb, ltb}
 use lib.Pow.{pow-pos, pow-mono, pow-add, shl-lt, shl-shr, shr-shr, split}
 use lib.Seq.{length-take-le, take-all, take-at, drop-at, take-append-le, take-append-add, getD-append-add, getD-set-same, getD-set-other}
 use lib.Seq.{drop-append-le, drop-drop, drop-nil, getD-drop, ext-getD}
-use Rattle.tables.specs.Runs.{Bits, xor}
+use Rattle.tables.specs.Runs.{xor}
+use Rattle.tables.specs.Inside.{Bits}
 use Rattle.tables.specs.Says.{over}
 use Rattle.tables.specs.Packing.{bytesFor, numberOf, digitsOf, packFrom, packed, unpacked, tapeOf, spare}
 use Rattle.tables.proofs.Lists.{All, bits-take, bits-drop}

@@ -95,11 +95,6 @@ put-two at x y b h =
     rw one (put-set (at + 1) y (putAt at (x ∷ []) b) (omega arith))
     ∙ put-append at (x ∷ []) (y ∷ []) b (omega arith)
 
--- a byte, and what follows it
-pub put-cons :
-    (at v : ℕ) (vs b : List ℕ) → at < length b → putAt (suc at) vs (set b at v) ≡ putAt at (v ∷ vs) b
-put-cons at v vs b h = rw (put-set at v b h, ← add-one at) (put-append at (v ∷ []) vs b (omega arith))
-
 -- two pieces, each put by itself
 pub put-then :
     (at : ℕ) {at′ : ℕ} (xs ys b : List ℕ) {b′ b″ : List ℕ} → at + length xs ≤ length b → b′ ≡ putAt at xs b

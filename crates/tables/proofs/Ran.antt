@@ -8,9 +8,9 @@ use native.Mathlib.Omega.{arith}
 use lib.ListN.{length, getD, take, drop, set, length-append, take-append-drop, List·getD-append}
 use lib.Seq.{length-take-le, getD-take, take-at, drop-at, append-snoc, set-split}
 use Rattle.tables.specs.Tables.{Kind, Gate, gate, total}
-use Rattle.tables.specs.Runs.{Bits, driven, drawn, runFrom, randoms}
+use Rattle.tables.specs.Runs.{driven, drawn, runFrom, randoms}
 use Rattle.tables.specs.Says.{over}
-use Rattle.tables.specs.Inside.{ranOn, RunsTo}
+use Rattle.tables.specs.Inside.{Bits, ranOn, RunsTo}
 use Rattle.tables.proofs.Put.{over-length, over-over}
 use Rattle.tables.proofs.Run.{Reads, driven-local, run-length, run-keep, run-append, run-bits, run-prefix, total-append}
 

@@ -10,7 +10,8 @@ use lib.ListN.{length, getD, drop, length-append, length-drop, List·getD-append
 use lib.Seq.{drop-drop, getD-drop, getD-at, drop-append-le}
 use Rattle.tables.specs.Tables.{Kind, NOT, XOR, AND, RANDOM, CONSTANT, OR, UNKNOWN, Gate, Operands}
 use Rattle.tables.specs.Tables.{none-read, left-read, both-read, value-stated, operandsOf, total}
-use Rattle.tables.specs.Runs.{Bits, xor, driven, drawn, runFrom, readAll, randoms}
+use Rattle.tables.specs.Runs.{xor, driven, drawn, runFrom, readAll, randoms}
+use Rattle.tables.specs.Inside.{Bits}
 use Rattle.tables.proofs.Lists.{bits-nil, bits-cons, bits-append, bits-drop}
 
 -- v has, from wire w on, the values that the gates drive; the next random bit is the bit c of r

@@ -9,7 +9,8 @@ use lib.ListN.{length}
 use borrow.Author.Tests.{ltb-false, eqb-true, not-false}
 use Rattle.tables.specs.Refusals.{passed, orElse, refusedIf, badBit}
 use Rattle.tables.specs.Tables.{Table, wires, tableOf, tableFault}
-use Rattle.tables.specs.Runs.{Bits, randoms}
+use Rattle.tables.specs.Runs.{randoms}
+use Rattle.tables.specs.Inside.{Bits}
 use Rattle.tables.specs.Packing.{bytesFor, spareFault}
 use Rattle.tables.specs.Says.{suppliedFault, lentFault, runFault}
 use Rattle.tables.proofs.Tests.{and-true, or-false, both-passed, not-refused}

@@ -4,7 +4,7 @@ use mathlib.Core.Bool.{cond}
 use mathlib.Core.List.{List}
 use Prim.Native.Nat.{ℕ}
 use lib.Dec.{eqb}
-use Rattle.tables.specs.declared.Counts as DC
+use Rattle.tables.specs.declared.Counts as DCounts
 use Rattle.tables.specs.Tables.{Kind, NOT, XOR, AND, RANDOM, CONSTANT, OR, UNKNOWN, Gate, total}
 
 -- 1 for the kind with byte b, 0 to 5, and 0 for every other: its total counts the gates of a kind
@@ -18,7 +18,7 @@ ofKind b OR = cond (eqb b 5) 1 0
 ofKind b (UNKNOWN k) = 0
 
 -- "the number of gates of each kind"
-abbrev pub countsOf : List Gate → DC.Counts
+abbrev pub countsOf : List Gate → DCounts.Counts
 countsOf gs = record {
   nots = total (ofKind 0) gs;
   xors = total (ofKind 1) gs;

@@ -3,11 +3,22 @@
 use mathlib.Core.Path.{_≡_}
 use mathlib.Core.List.{List, _++_}
 use Prim.Native.Nat.{ℕ, _+_, _*_, _≤_, _<_}
-use lib.ListN.{length, take, drop}
-use Rattle.tables.specs.declared.GateFields as DG
+use lib.ListN.{length, getD, take, drop}
+use Rattle.tables.specs.declared.GateFields as DGateFields
+use Rattle.tables.specs.declared.Refusal as DRefusal
+use Rattle.tables.specs.Refusals.{Fault}
 use Rattle.tables.specs.Tables.{kindOf, Gate, word}
-use Rattle.tables.specs.Runs.{Bits, runFrom}
+use Rattle.tables.specs.Runs.{runFrom}
 use Rattle.tables.specs.Says.{over}
+
+-- bits, past the list's end too: "one byte a bit, 0 or 1"
+abbrev pub Bits : List ℕ → Type 0
+Bits vs = (i : ℕ) → getD vs i 0 ≤ 1
+
+-- number and place are the fault's
+pub record Refused (f : Fault) (r : DRefusal.Refusal) : Type 0 where
+  pub number : r .number ≡ f .number
+  pub place : r .place ≡ f .place
 
 -- xs at a place of ys
 unfoldable pub putAt : ℕ → List ℕ → List ℕ → List ℕ
@@ -30,7 +41,7 @@ abbrev pub PlainByte : ℕ → Type 0
 PlainByte k = (k ≤ 5) × (k ≡ 3 → ⊥)
 
 -- the fields of a gate as they were read
-pub record GateIs (g : Gate) (r : DG.GateFields) : Type 0 where
+pub record GateIs (g : Gate) (r : DGateFields.GateFields) : Type 0 where
   pub kind : kindOf (r .kind) ≡ g .kind
   pub left : r .left ≡ g .left
   pub right : r .right ≡ g .right

@@ -3,14 +3,10 @@
 -- Assumes nothing.
 use mathlib.Core.Bool.{cond}
 use mathlib.Core.List.{List, [], _∷_, _++_}
-use Prim.Native.Nat.{ℕ, _+_, _-_, _*_, _%_, _≤_}
+use Prim.Native.Nat.{ℕ, _+_, _-_, _*_, _%_}
 use lib.Dec.{ltb}
 use lib.ListN.{getD, drop}
 use Rattle.tables.specs.Tables.{Kind, NOT, XOR, AND, RANDOM, CONSTANT, OR, UNKNOWN, Gate, Table, gateOf, pins, total}
-
--- bits, past the list's end too: "one byte a bit, 0 or 1"
-abbrev pub Bits : List ℕ → Type 0
-Bits vs = (i : ℕ) → getD vs i 0 ≤ 1
 
 -- the XOR of two bits
 abbrev pub xor : ℕ → ℕ → ℕ

@@ -6,8 +6,7 @@ ghost use lib.ListN.{length, getD};
 ghost use Rattle.tables.specs.Refusals.{Fault, fault, orElse, refusedIf};
 ghost use Rattle.tables.specs.Tables.{kindOf, gateOf, word, two, tableOf};
 ghost use Rattle.tables.specs.Counted.{ofKind};
-ghost use Rattle.tables.specs.Says.{Refused};
-ghost use Rattle.tables.specs.Inside.{putAt, HasGates, HasOutputs, GateIs};
+ghost use Rattle.tables.specs.Inside.{Refused, putAt, HasGates, HasOutputs, GateIs};
 
 // The bytes of the longest table: 65,534 gates and 65,535 outputs.
 pub const LONGEST: usize = 458746;

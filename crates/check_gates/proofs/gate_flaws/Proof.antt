@@ -1,4 +1,4 @@
--- `gates::gate_flaws` meets its contract: what it ors is 0 only where each part is, and then no test of a gate fails.
+-- `check_gates::gate_flaws` meets its contract: what it ors is 0 only where each part is, and then no test of a gate fails.
 -- Assumes nothing.
 use borrow.Author.Needs.{needs}
 use Rattle.check_gates.proofs.Gates.{flaws-none}

@@ -1,4 +1,4 @@
--- `gates::gate_number` meets its contract: the kind first, then the operands.
+-- `check_gates::gate_number` meets its contract: the kind first, then the operands.
 -- Assumes nothing.
 use mathlib.Core.Path.{sym, _∙_}
 use native.Mathlib.Omega.{arith}

@@ -1,4 +1,4 @@
--- `gates::gates_fault` meets its contract: no gate is faulty, or the loop finds the first. Its invariant: the gates before g are good.
+-- `check_gates::gates_fault` meets its contract: no gate is faulty, or the loop finds the first. Its invariant: the gates before g are good.
 -- Assumes nothing.
 use Prim.Native.Nat.{_-_, _≤_}
 use native.Mathlib.Numerals.{add-one}

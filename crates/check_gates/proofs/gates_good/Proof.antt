@@ -1,4 +1,4 @@
--- `gates::gates_good` meets its contract. The loop's invariant: where nothing is wrong so far, the gates before g are good.
+-- `check_gates::gates_good` meets its contract. The loop's invariant: where nothing is wrong so far, the gates before g are good.
 -- Assumes nothing.
 use Prim.Native.Nat.{_-_}
 use native.Mathlib.Numerals.{add-one}

@@ -1,4 +1,4 @@
--- `gates::operands_good` meets its contract, a case for each kind that does not read both operands.
+-- `check_gates::operands_good` meets its contract, a case for each kind that does not read both operands.
 -- Assumes nothing.
 use Rattle.check_gates.proofs.Gates.{reads-both}
 use Rattle.check_gates.proofs.operands_good.Statement.{statement}

@@ -1,4 +1,4 @@
--- `gates::unused` meets its contract: what it ors is 0 only where each part is.
+-- `check_gates::unused` meets its contract: what it ors is 0 only where each part is.
 -- Assumes nothing.
 use mathlib.Core.Path.{sym, _∙_}
 use Rattle.check_gates.proofs.Gates.{or-none, unused-none}

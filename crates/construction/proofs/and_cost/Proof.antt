@@ -1,4 +1,4 @@
--- `masks::and_cost` meets its contract: the pairs' wires and the rows'.
+-- `construction::and_cost` meets its contract: the pairs' wires and the rows'.
 -- Assumes nothing.
 use mathlib.Core.Path.{ap}
 use Prim.Native.Nat.{ℕ, _+_, _*_}

@@ -1,7 +1,6 @@
--- `masks::gate_cost` meets its contract, kind by kind.
+-- `construction::gate_cost` meets its contract, kind by kind.
 -- Assumes nothing.
-use mathlib.Core.Path.{_≡_, sym}
-use Prim.Native.Nat.{_+_, _≤_}
+use mathlib.Core.Path.{sym}
 use native.Mathlib.Omega.{arith}
 use borrow.Author.Needs.{needs}
 use Rattle.construction.proofs.Figures.{square-small, tri-small, share-costs}
@@ -34,7 +33,8 @@ returns-4 c = rw (c .before .if4 .taken) (omega (arith, c .and-cost2 .ensures))
 returns-5 : tie.Need-returns-5
 returns-5 c =
     let s = c .before .before .before .before in
-    sym (share-costs (s .args .kind) (s .args .n) (s .pre .0) (c .before .before .before .if1 .left) (c .before .before .if2 .left) (c .before .if3 .left) (c .if4 .left))
+    sym (share-costs (s .args .kind) (s .args .n) (s .pre .0) (c .before .before .before .if1 .left)
+    (c .before .before .if2 .left) (c .before .if3 .left) (c .if4 .left))
 
 pub gate-cost-spec : {M : Type 1} → statement M
 gate-cost-spec =

@@ -1,4 +1,4 @@
--- `masks::gate_draws` meets its contract: only an AND and an OR draw, a bit for each pair.
+-- `construction::gate_draws` meets its contract: only an AND and an OR draw, a bit for each pair.
 -- Assumes nothing.
 use mathlib.Core.Path.{sym, _∙_}
 use borrow.Author.Needs.{needs}

@@ -1,4 +1,4 @@
--- `masks::note_costs` meets its contract. The invariant: the costs of the kinds so far are noted.
+-- `construction::note_costs` meets its contract. The invariant: the costs of the kinds so far are noted.
 -- Assumes nothing.
 use Prim.Native.Nat.{_-_, _≤_}
 use native.Mathlib.Omega.{arith}

@@ -1,4 +1,4 @@
--- `masks::noted_cost` meets its contract: an element of a 16-bit array is below 65,536.
+-- `construction::noted_cost` meets its contract: an element of a 16-bit array is below 65,536.
 -- Assumes nothing.
 use native.Mathlib.Omega.{arith}
 use borrow.Author.Needs.{needs}

@@ -1,4 +1,4 @@
--- `masks::pair_count` meets its contract: n·n is n more than twice the number of pairs.
+-- `construction::pair_count` meets its contract: n·n is n more than twice the number of pairs.
 -- Assumes nothing.
 use native.Mathlib.Omega.{arith}
 use Rattle.construction.proofs.Rows.{tri-closed}

@@ -1,11 +1,10 @@
--- `masks::pair_flip` meets its contract: by its tests and the form of the AND's pairs.
+-- `construction::pair_flip` meets its contract: by its tests and the form of the AND's pairs.
 -- Assumes nothing.
 use mathlib.Core.Path.{_≡_, ap, _∙_}
-use mathlib.Core.Bool.{true, false, _&&_}
+use mathlib.Core.Bool.{true, false}
 use Prim.Native.Nat.{ℕ, _*_}
 use native.Mathlib.Omega.{arith}
 use lib.Bits.{bitXor}
-use lib.Dec.{eqb}
 use borrow.Author.Tests.{eqb-true, eq-eqb}
 use Rattle.tables.proofs.Tests.{and-true}
 use Rattle.tables.proofs.Run.{bit-mul, bit-xor, bit-and}

@@ -1,4 +1,4 @@
--- `masks::pair_form` meets its contract: by each AND's own law.
+-- `construction::pair_form` meets its contract: by each AND's own law.
 -- Assumes nothing.
 use borrow.Author.Needs.{needs}
 use Rattle.construction.proofs.Forms.{isw-form, dom-form}

@@ -1,4 +1,4 @@
--- `masks::upper_flipped` meets its contract: where the fifth wire adds both products, the lower share alone decides.
+-- `construction::upper_flipped` meets its contract: where the fifth wire adds both products, the lower share alone decides.
 -- Assumes nothing.
 use native.Mathlib.Omega.{arith}
 use Rattle.construction.proofs.Forms.{flip-none}

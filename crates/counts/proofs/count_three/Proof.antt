@@ -45,7 +45,8 @@ returns : tie.Need-returns Inv-loop μ-loop
 returns c =
     let p = c .before in
     let start = p .before .before in
-    all-counted (start .args .kind) (tableOf (start .args .table .now) .gates) (p .loop .g) (p .loop .inv .1) (omega (arith, gates-are (start .pre .0), c .loop-test .left))
+    all-counted (start .args .kind) (tableOf (start .args .table .now) .gates) (p .loop .g) (p .loop .inv .1)
+    (omega (arith, gates-are (start .pre .0), c .loop-test .left))
 
 pub count-three-spec : {M : Type 1} → statement M
 count-three-spec =

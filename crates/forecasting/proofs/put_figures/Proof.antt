@@ -6,16 +6,16 @@ use native.Mathlib.Omega.{arith}
 use lib.ListN.{length-append}
 use Rattle.text.specs.Text.{decimal, lineOf}
 use Rattle.text.proofs.Writing.{next-room, puts-then}
-use Rattle.construction.specs.declared.Sizes as DS
+use Rattle.construction.specs.declared.Sizes as DSizes
 use borrow.Author.Needs.{needs}
 use Rattle.forecasting.proofs.put_figures.Statement.{statement}
 use Rattle.forecasting.proofs.put_figures.Tie as tie
 
 -- what follows the second number, and the first
-abbrev after-wires : DS.Sizes → List ℕ
+abbrev after-wires : DSizes.Sizes → List ℕ
 after-wires z = 32 ∷ (decimal (z .tape) ++ (32 ∷ (decimal (z .bytes) ++ (10 ∷ []))))
 
-abbrev after-shares : DS.Sizes → List ℕ
+abbrev after-shares : DSizes.Sizes → List ℕ
 after-shares z = 32 ∷ (decimal (z .wires) ++ after-wires z)
 
 slice-aggregate-put-number : tie.Need-slice-aggregate-put-number
@@ -59,7 +59,8 @@ same-length c = search needs
 returns : tie.Need-returns
 unfolding lineOf
 returns c =
-    let start = c .before .before .before .before .before .before .before .before .before .before .before .before .before .before .before .before .before in
+    let last = c .before .before .before .before .before .before .before .before in
+    let start = last .before .before .before .before .before .before .before .before .before in
     let z = start .args .sizes in
     let first = c .before .before .before .before .before .before .before .before .before .before .before .before .before .put-number .ensures in
     let room = next-room (after-shares z) (omega (arith, start .pre)) first in

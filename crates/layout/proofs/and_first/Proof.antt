@@ -1,4 +1,4 @@
--- `pieces::and_first` meets its contract: the first row's last wire, after the pairs.
+-- `layout::and_first` meets its contract: the first row's last wire, after the pairs.
 -- Assumes nothing.
 use Prim.Native.Nat.{ℕ, _+_, _-_, _*_}
 use native.Mathlib.Omega.{arith}

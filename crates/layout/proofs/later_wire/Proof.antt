@@ -1,4 +1,4 @@
--- `pieces::later_wire` meets its contract: a later share stands where `shareWires` has it.
+-- `layout::later_wire` meets its contract: a later share stands where `shareWires` has it.
 -- Assumes nothing.
 use mathlib.Core.Path.{_≡_, sym}
 use Prim.Native.Nat.{suc, _+_, _-_, _*_}

@@ -1,4 +1,4 @@
--- `pieces::put_gate` meets its contract: one field after the other.
+-- `layout::put_gate` meets its contract: one field after the other.
 -- Assumes nothing.
 use mathlib.Core.Path.{refl}
 use native.Mathlib.Omega.{arith}

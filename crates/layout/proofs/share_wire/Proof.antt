@@ -1,4 +1,4 @@
--- `pieces::share_wire` meets its contract: share 1 heads the list, the others are `later_wire`'s.
+-- `layout::share_wire` meets its contract: share 1 heads the list, the others are `later_wire`'s.
 -- Assumes nothing.
 use mathlib.Core.Path.{sym}
 use Prim.Native.Nat.{suc}

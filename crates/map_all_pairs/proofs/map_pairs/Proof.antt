@@ -1,4 +1,4 @@
--- `pairing::map_pairs` meets its contract. The invariant: the pairs from share i on are left.
+-- `map_all_pairs::map_pairs` meets its contract. The invariant: the pairs from share i on are left.
 -- Assumes nothing.
 use mathlib.Core.Path.{_≡_, refl}
 use Prim.Native.Nat.{suc, _+_, _-_, _*_, _≤_}
@@ -74,7 +74,9 @@ sub-later-2 : tie.Need-sub-later-2 Inv-loop μ-loop
 sub-later-2 c = omega (arith, c .before .before .before .before .before .before .before .before .before .before .loop-test .taken)
 
 mul-v : tie.Need-mul-v Inv-loop μ-loop
-mul-v c = omega (arith, c .before .before .before .before .before .before .before .before .before .before .before .before .before .before .before .before .pre .0 .few)
+mul-v c =
+    let later = c .before .before .before .before .before .before .before .before in
+    omega (arith, later .before .before .before .before .before .before .before .before .pre .0 .few)
 
 add-v : tie.Need-add-v Inv-loop μ-loop
 add-v c = omega (arith, turn (c .before .before .before .before .before .before .before .before .before .before))

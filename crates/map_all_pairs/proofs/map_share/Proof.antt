@@ -1,4 +1,4 @@
--- `pairing::map_share` meets its contract. The invariant: c pairs have run on, and the others are left.
+-- `map_all_pairs::map_share` meets its contract. The invariant: c pairs have run on, and the others are left.
 -- Assumes nothing.
 use mathlib.Core.Path.{_≡_}
 use mathlib.Core.List.{[], _∷_}
@@ -15,7 +15,8 @@ use Rattle.layout.specs.Layout.{shareWires}
 use Rattle.map_values.proofs.Before.{left-low, right-low, left-before, right-before}
 use Rattle.secrecy.proofs.Both.{both-less}
 use Rattle.map_all_pairs.specs.Pairing.{sharePairs}
-use Rattle.map_all_pairs.proofs.Pairs.{PairsGoing, going-start, going-ready, going-more, going-long, going-end, one-pair, pair-inside, share-next, share-none}
+use Rattle.map_all_pairs.proofs.Pairs.{PairsGoing, going-start, going-ready, going-more, going-long}
+use Rattle.map_all_pairs.proofs.Pairs.{going-end, one-pair, pair-inside, share-next, share-none}
 use borrow.Author.Needs.{needs}
 use Rattle.map_all_pairs.proofs.map_share.Statement.{statement}
 use Rattle.map_all_pairs.proofs.map_share.Tie as tie
@@ -75,7 +76,8 @@ later-wire-requires : tie.Need-later-wire-requires Inv-loop μ-loop
 later-wire-requires c κs = (omega arith, left-low (c .before .before .before .before .before .before .before .before .pre .1) (below c))
 
 later-wire-requires-2 : tie.Need-later-wire-requires-2 Inv-loop μ-loop
-later-wire-requires-2 c κs = (omega arith, right-low (c .before .before .before .before .before .before .before .before .before .pre .1) (below (c .before)))
+later-wire-requires-2 c κs =
+    (omega arith, right-low (c .before .before .before .before .before .before .before .before .before .pre .1) (below (c .before)))
 
 add-map-pair : tie.Need-add-map-pair Inv-loop μ-loop
 add-map-pair c = search needs

@@ -1,4 +1,4 @@
--- `steps::map_and` meets its contract: the pairs, then the rows of each run.
+-- `map_gates::map_and` meets its contract: the pairs, then the rows of each run.
 -- Assumes nothing.
 use native.Mathlib.Omega.{arith}
 use Rattle.construction.proofs.Lawful.{lawful}

@@ -1,4 +1,4 @@
--- `steps::map_gate` meets its contract, kind by kind.
+-- `map_gates::map_gate` meets its contract, kind by kind.
 -- Assumes nothing.
 use mathlib.Core.Path.{refl}
 use native.Mathlib.Omega.{arith}

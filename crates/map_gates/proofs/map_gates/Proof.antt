@@ -1,4 +1,4 @@
--- `steps::map_gates` meets its contract. The invariant: the gates from g on are left.
+-- `map_gates::map_gates` meets its contract. The invariant: the gates from g on are left.
 -- Assumes nothing.
 use mathlib.Core.Path.{_≡_, refl, sym, _∙_}
 use Prim.Native.Nat.{_-_}
@@ -33,7 +33,8 @@ note-costs-requires : tie.Need-note-costs-requires Inv-loop μ-loop
 note-costs-requires c κs = (plan-sized (c .before .before .before .before .before .before .before .before .before .pre .0) .few, refl)
 
 mul-w : tie.Need-mul-w Inv-loop μ-loop
-mul-w c = omega (arith, plan-sized (c .before .before .before .before .before .before .before .before .before .before .before .before .pre .0) .inputs)
+mul-w c =
+    omega (arith, plan-sized (c .before .before .before .before .before .before .before .before .before .before .before .before .pre .0) .inputs)
 
 loop-holds : tie.Need-loop-holds Inv-loop μ-loop
 loop-holds c =

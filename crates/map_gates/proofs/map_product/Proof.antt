@@ -1,4 +1,4 @@
--- `steps::map_product` meets its contract: an OR's first NOTs, the AND, an OR's last NOT.
+-- `map_gates::map_product` meets its contract: an OR's first NOTs, the AND, an OR's last NOT.
 -- Assumes nothing.
 use mathlib.Core.Path.{ap, _∙_}
 use mathlib.Core.List.{List}
@@ -7,7 +7,7 @@ use native.Mathlib.Omega.{arith}
 use borrow.Author.Needs.{needs}
 use Rattle.construction.specs.Wires.{firstOn}
 use Rattle.construction.proofs.Lawful.{lawful}
-use Rattle.layout.specs.declared.Places as DP
+use Rattle.layout.specs.declared.Places as DPlaces
 use Rattle.layout.specs.Layout.{shareWires}
 use Rattle.map_gates.proofs.Or.{Begun, product-nots-ready, product-and-ready, product-last-ready, product-ran}
 use Rattle.map_gates.proofs.map_product.Statement.{statement}
@@ -63,7 +63,7 @@ begun d =
     let v = d .before .before .before in
     let y = v .before in
     let x = y .before .before in
-    let on : DP.Places → ℕ → List ℕ = λ a h. firstOn h (shareWires n a) in
+    let on : DPlaces.Places → ℕ → List ℕ = λ a h. firstOn h (shareWires n a) in
     record {
       wire = v .either3 .ensures;
       left = x .first-on .ensures n ∙ ap {A = ℕ} {B = List ℕ} (on (s .a)) (x .before .either .ensures);

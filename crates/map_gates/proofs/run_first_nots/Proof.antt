@@ -1,4 +1,4 @@
--- `steps::run_first_nots` meets its contract: two NOTs in each run, or nothing.
+-- `map_gates::run_first_nots` meets its contract: two NOTs in each run, or nothing.
 -- Assumes nothing.
 use mathlib.Core.Path.{refl}
 use borrow.Author.Needs.{needs}

@@ -1,4 +1,4 @@
--- `steps::run_last_not` meets its contract: a NOT in each run, or nothing.
+-- `map_gates::run_last_not` meets its contract: a NOT in each run, or nothing.
 -- Assumes nothing.
 use mathlib.Core.Path.{_≡_, refl}
 use Prim.Native.Nat.{ℕ, _+_, _-_, _*_, _≤_, _<_}

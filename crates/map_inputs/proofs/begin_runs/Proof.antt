@@ -1,4 +1,4 @@
--- `flipping::begin_runs` meets its contract: the second encoding is the first with shares flipped.
+-- `map_inputs::begin_runs` meets its contract: the second encoding is the first with shares flipped.
 -- Assumes nothing.
 use mathlib.Core.Path.{refl, sym}
 use native.Mathlib.Numerals.{add-one}

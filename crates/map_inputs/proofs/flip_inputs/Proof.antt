@@ -1,14 +1,11 @@
--- `flipping::flip_inputs` meets its contract. The loop's invariant: the bits of the inputs from i on are left to flip.
+-- `map_inputs::flip_inputs` meets its contract. The loop's invariant: the bits of the inputs from i on are left to flip.
 -- Assumes nothing.
-use mathlib.Core.Path.{refl, ap, _∙_}
-use mathlib.Core.List.{List}
-use Prim.Native.Nat.{ℕ, _-_, _*_}
+use mathlib.Core.Path.{refl}
+use Prim.Native.Nat.{_-_, _*_}
 use native.Mathlib.Omega.{arith}
 use lib.ListN.{length}
 use Rattle.tables.specs.Packing.{unpacked}
 use Rattle.tables.proofs.Packing.{bytes-long}
-use Rattle.secrecy.specs.Both.{flipsAt}
-use Rattle.secrecy.proofs.Inputs.{each-inputs}
 use Rattle.map_inputs.proofs.Flipping.{FlippingEach, each-start, each-fits, each-turn, each-end, each-none}
 use Rattle.map_inputs.proofs.flip_inputs.Statement.{statement}
 use Rattle.map_inputs.proofs.flip_inputs.Tie as tie
@@ -27,7 +24,6 @@ returns : tie.Need-returns Inv-loop μ-loop
 returns c =
     let s = c .before .before .before .before in
     each-none (s .pre .1) (c .if1 .taken)
-    ∙ ap (λ (fs : List ℕ). flipsAt 0 fs (unpacked (s .args .mapped .now))) (each-inputs (s .args .order) (s .args .k) _ _)
 
 sub-at : tie.Need-sub-at Inv-loop μ-loop
 sub-at c = omega (arith, c .before .before .before .before .pre .1 .from-1)
@@ -81,7 +77,6 @@ returns-2 : tie.Need-returns-2 Inv-loop μ-loop
 returns-2 c =
     let s = c .before .before .before .before .before .before in
     each-end (s .pre .1) (c .before .loop .inv) (c .loop-test .left)
-    ∙ ap (λ (fs : List ℕ). flipsAt 0 fs (unpacked (s .args .mapped .now))) (each-inputs (s .args .order) (s .args .k) _ _)
 
 pub flip-inputs-spec : {M : Type 1} → statement M
 flip-inputs-spec =

@@ -1,4 +1,4 @@
--- `flipping::flip_shares` meets its contract. The loop's invariant: the shares of the inputs from i on are left to flip.
+-- `map_inputs::flip_shares` meets its contract. The loop's invariant: the shares of the inputs from i on are left to flip.
 -- Assumes nothing.
 use mathlib.Core.Path.{refl}
 use Prim.Native.Nat.{_+_, _-_, _*_, _<_}

@@ -1,4 +1,4 @@
--- `crossing::flip_pair` meets its contract: a pair whose lower share is not k, and whose upper share none flips by, is not flipped.
+-- `map_pair::flip_pair` meets its contract: a pair whose lower share is not k, and whose upper share none flips by, is not flipped.
 -- Assumes nothing.
 use mathlib.Core.Path.{_≡_, sym, ap, ap₂, _∙_}
 use Prim.Native.Nat.{ℕ}

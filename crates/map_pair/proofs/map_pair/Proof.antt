@@ -1,4 +1,4 @@
--- `crossing::map_pair` meets its contract: the bit of the second run, then both runs.
+-- `map_pair::map_pair` meets its contract: the bit of the second run, then both runs.
 -- Assumes nothing.
 use mathlib.Core.List.{map}
 use Prim.Native.Nat.{ℕ}

@@ -1,4 +1,4 @@
--- `crossing::product_differs` meets its contract: a product of bits is a bit.
+-- `map_pair::product_differs` meets its contract: a product of bits is a bit.
 -- Assumes nothing.
 use mathlib.Core.Path.{ap₂, _∙_}
 use native.Mathlib.Omega.{arith}

@@ -1,6 +1,6 @@
--- `crossing::run_fifth` meets its contract: values so far are bits.
+-- `map_pair::run_fifth` meets its contract: values so far are bits.
 -- Assumes nothing.
-use mathlib.Core.Path.{ap, ap₂, _∙_}
+use mathlib.Core.Path.{ap, _∙_}
 use Prim.Native.Nat.{ℕ, _+_, _*_}
 use native.Mathlib.Omega.{arith}
 use lib.Bits.{bitXor}

@@ -1,4 +1,4 @@
--- `crossing::run_pair` meets its contract: five gates, one after the other, by the form of the AND's pairs.
+-- `map_pair::run_pair` meets its contract: five gates, one after the other, by the form of the AND's pairs.
 -- Assumes nothing.
 use mathlib.Core.List.{[], _∷_, map}
 use Prim.Native.Nat.{_+_}

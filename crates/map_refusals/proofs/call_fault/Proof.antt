@@ -1,4 +1,4 @@
--- `refusing::call_fault` meets its contract: of the three parts of the chain, the first that refuses.
+-- `map_refusals::call_fault` meets its contract: of the three parts of the chain, the first that refuses.
 -- Assumes nothing.
 use borrow.Author.Needs.{needs}
 use Rattle.map_refusals.proofs.call_fault.Statement.{statement}

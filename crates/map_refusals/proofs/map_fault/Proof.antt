@@ -1,4 +1,4 @@
--- `refusing::map_fault` meets its contract: the plan's refusal, one that follows from its sizes, or the plan.
+-- `map_refusals::map_fault` meets its contract: the plan's refusal, one that follows from its sizes, or the plan.
 -- Assumes nothing.
 use Rattle.construction.specs.declared.And.the-variants.{Isw}
 use Rattle.map_refusals.proofs.Faults.{plan-small, map-plan-refused, map-call-refused, map-call-ready}

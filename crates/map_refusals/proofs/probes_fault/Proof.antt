@@ -1,4 +1,4 @@
--- `refusing::probes_fault` meets its contract. The loop's invariant: the probes before j are wires.
+-- `map_refusals::probes_fault` meets its contract. The loop's invariant: the probes before j are wires.
 -- Assumes nothing.
 use Prim.Native.Nat.{_-_}
 use native.Mathlib.Numerals.{add-one}

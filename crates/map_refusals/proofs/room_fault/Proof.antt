@@ -1,4 +1,4 @@
--- `refusing::room_fault` meets its contract.
+-- `map_refusals::room_fault` meets its contract.
 -- Assumes nothing.
 use Prim.Native.Nat.{_≤_}
 use native.Mathlib.Omega.{arith}

@@ -1,4 +1,4 @@
--- `refusing::supply_fault` meets its contract: the counts first, then the bits.
+-- `map_refusals::supply_fault` meets its contract: the counts first, then the bits.
 -- Assumes nothing.
 use mathlib.Core.Path.{_∙_}
 use native.Mathlib.Omega.{arith}

@@ -1,4 +1,4 @@
--- `rerunning::map_any` meets its contract, for a table of each size.
+-- `map_runs::map_any` meets its contract, for a table of each size.
 -- Assumes nothing.
 use native.Mathlib.Omega.{arith}
 use Rattle.share_places.proofs.Turns.{plan-sized}

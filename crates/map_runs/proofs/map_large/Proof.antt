@@ -1,4 +1,4 @@
--- `rerunning::map_large` meets its contract: its arrays have room for every table.
+-- `map_runs::map_large` meets its contract: its arrays have room for every table.
 -- Assumes nothing.
 use mathlib.Core.Path.{sym}
 use Prim.Native.Nat.{ℕ}

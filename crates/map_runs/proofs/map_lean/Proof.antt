@@ -1,4 +1,4 @@
--- `rerunning::map_lean` meets its contract: a tiny table, and any other.
+-- `map_runs::map_lean` meets its contract: a tiny table, and any other.
 -- Assumes nothing.
 use native.Mathlib.Omega.{arith}
 use Rattle.share_places.proofs.Turns.{plan-sized}

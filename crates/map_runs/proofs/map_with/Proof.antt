@@ -1,4 +1,4 @@
--- `rerunning::map_with` meets its contract: shares are noted, both runs begun, then the gates follow.
+-- `map_runs::map_with` meets its contract: shares are noted, both runs begun, then the gates follow.
 -- Assumes nothing.
 use native.Mathlib.Omega.{arith}
 use Rattle.planning.proofs.Planning.{plan-fits}

@@ -1,4 +1,4 @@
--- `rerunning::map_work` meets its contract: with little stack where it can be, and else with more.
+-- `map_runs::map_work` meets its contract: with little stack where it can be, and else with more.
 -- Assumes nothing.
 use native.Mathlib.Omega.{arith}
 use Rattle.share_places.proofs.Turns.{plan-sized}

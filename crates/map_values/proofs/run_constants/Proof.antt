@@ -1,4 +1,4 @@
--- `driving::run_constants` meets its contract. The invariant: s shares have run on, and `bit` is the next one.
+-- `map_values::run_constants` meets its contract. The invariant: s shares have run on, and `bit` is the next one.
 -- Assumes nothing.
 use mathlib.Core.Path.{_≡_, refl}
 use mathlib.Core.Bool.{cond}

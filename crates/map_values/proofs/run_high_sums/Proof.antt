@@ -1,4 +1,4 @@
--- `driving::run_high_sums` meets its contract. The invariant: in each run j sums have run on, and `Upright`.
+-- `map_values::run_high_sums` meets its contract. The invariant: in each run j sums have run on, and `Upright`.
 -- Assumes nothing.
 use mathlib.Core.Path.{_≡_, refl}
 use Prim.Native.Nat.{_+_, _-_, _*_, _≤_, _<_}

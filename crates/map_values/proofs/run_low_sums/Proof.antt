@@ -1,4 +1,4 @@
--- `driving::run_low_sums` meets its contract. The invariant, of each run: c sums have run on.
+-- `map_values::run_low_sums` meets its contract. The invariant, of each run: c sums have run on.
 -- Assumes nothing.
 use mathlib.Core.Path.{refl}
 use Prim.Native.Nat.{_+_, _-_, _*_, _<_, _≤_}

@@ -1,4 +1,4 @@
--- `driving::run_not` meets its contract: a value so far is a bit.
+-- `map_values::run_not` meets its contract: a value so far is a bit.
 -- Assumes nothing.
 use mathlib.Core.Path.{sym}
 use mathlib.Core.List.{[]}

@@ -1,4 +1,4 @@
--- `driving::run_nots` meets its contract: one NOT after the other.
+-- `map_values::run_nots` meets its contract: one NOT after the other.
 -- Assumes nothing.
 use mathlib.Core.Path.{refl}
 use mathlib.Core.List.{[], _∷_}
@@ -17,7 +17,8 @@ run-not-requires c κs = let s = c .before .before in (runs-less 1 (s .pre .0) (
 -- the first NOT has run on
 first :
     (c : tie.After-run-not)
-    → Ran (gate NOT (c .before .before .before .args .left) 0 ∷ []) [] (c .before .before .before .args .w) (c .before .before .before .args .run .now)
+    → Ran (gate NOT (c .before .before .before .args .left) 0 ∷ []) [] (c .before .before .before .args .w)
+    (c .before .before .before .args .run .now)
     (c .before .before .before .args .w + 1) 1 (c .run-not .last .0)
 unfolding total
 first c =

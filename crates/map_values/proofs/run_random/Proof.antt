@@ -1,4 +1,4 @@
--- `driving::run_random` meets its contract: a random gate drives its bit.
+-- `map_values::run_random` meets its contract: a random gate drives its bit.
 -- Assumes nothing.
 use mathlib.Core.Path.{sym}
 use mathlib.Core.List.{[], _∷_}

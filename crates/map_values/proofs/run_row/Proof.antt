@@ -1,4 +1,4 @@
--- `driving::run_row` meets its contract: in each run the own product, the first sums, the last sums.
+-- `map_values::run_row` meets its contract: in each run the own product, the first sums, the last sums.
 -- Assumes nothing.
 use native.Mathlib.Omega.{arith}
 use Rattle.tables.proofs.Ran.{runs-less}

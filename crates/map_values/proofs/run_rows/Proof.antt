@@ -1,4 +1,4 @@
--- `driving::run_rows` meets its contract. The invariant, of each run: i rows have run on.
+-- `map_values::run_rows` meets its contract. The invariant, of each run: i rows have run on.
 -- Assumes nothing.
 use mathlib.Core.Path.{refl}
 use Prim.Native.Nat.{_-_}

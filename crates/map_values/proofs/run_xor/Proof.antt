@@ -1,4 +1,4 @@
--- `driving::run_xor` meets its contract: values so far are bits.
+-- `map_values::run_xor` meets its contract: values so far are bits.
 -- Assumes nothing.
 use mathlib.Core.Path.{sym, ap, _∙_}
 use mathlib.Core.List.{[]}

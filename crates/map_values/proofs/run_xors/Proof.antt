@@ -1,4 +1,4 @@
--- `driving::run_xors` meets its contract. The invariant: s shares have run on.
+-- `map_values::run_xors` meets its contract. The invariant: s shares have run on.
 -- Assumes nothing.
 use mathlib.Core.Path.{refl, ap₂}
 use mathlib.Core.List.{List, [], _∷_}

@@ -1,4 +1,4 @@
--- `assembling::mask_any` meets its contract: a table of each size.
+-- `mask_bytes::mask_any` meets its contract: a table of each size.
 -- Assumes nothing.
 use native.Mathlib.Omega.{arith}
 use borrow.Author.Needs.{needs}

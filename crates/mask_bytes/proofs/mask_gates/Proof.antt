@@ -1,4 +1,4 @@
--- `assembling::mask_gates` meets its contract: three parts of the buffer, each lent to the function that writes it.
+-- `mask_bytes::mask_gates` meets its contract: three parts of the buffer, each lent to the function that writes it.
 -- Assumes nothing.
 use native.Mathlib.Omega.{arith}
 use borrow.Author.Needs.{needs}

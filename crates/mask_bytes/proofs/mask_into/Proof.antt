@@ -1,4 +1,4 @@
--- `assembling::mask_into` meets its contract: with little stack where it can be, and else with more.
+-- `mask_bytes::mask_into` meets its contract: with little stack where it can be, and else with more.
 -- Assumes nothing.
 use native.Mathlib.Omega.{arith}
 use Rattle.share_places.proofs.Turns.{plan-sized}

@@ -1,4 +1,4 @@
--- `assembling::mask_lean` meets its contract: a tiny table, and any other.
+-- `mask_bytes::mask_lean` meets its contract: a tiny table, and any other.
 -- Assumes nothing.
 use native.Mathlib.Omega.{arith}
 use borrow.Author.Needs.{needs}

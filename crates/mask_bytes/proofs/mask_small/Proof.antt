@@ -1,4 +1,4 @@
--- `assembling::mask_small` meets its contract: its arrays have room.
+-- `mask_bytes::mask_small` meets its contract: its arrays have room.
 -- Assumes nothing.
 use mathlib.Core.Path.{sym}
 use Prim.Native.Nat.{ℕ}

@@ -1,4 +1,4 @@
--- `assembling::mask_with` meets its contract: the sizes and what follows them are the masked table.
+-- `mask_bytes::mask_with` meets its contract: the sizes and what follows them are the masked table.
 -- Assumes nothing.
 use native.Mathlib.Omega.{arith}
 use borrow.Author.Needs.{needs}

@@ -1,4 +1,4 @@
--- `kinds::put_pair_kinds` meets its contract: five bytes, one after the other.
+-- `mask_kinds::put_pair_kinds` meets its contract: five bytes, one after the other.
 -- Assumes nothing.
 use mathlib.Core.Path.{refl}
 use mathlib.Core.List.{[], _∷_}

@@ -1,4 +1,4 @@
--- `kinds::write_further_kinds` meets its contract: a constant's or an OR's kinds.
+-- `mask_kinds::write_further_kinds` meets its contract: a constant's or an OR's kinds.
 -- Assumes nothing.
 use mathlib.Core.Path.{_≡_}
 use native.Mathlib.Omega.{arith}

@@ -1,4 +1,4 @@
--- `kinds::write_kinds_of` meets its contract: a further kind, an AND's kinds, or one byte before the kinds that stand already.
+-- `mask_kinds::write_kinds_of` meets its contract: a further kind, an AND's kinds, or one byte before the kinds that stand already.
 -- Assumes nothing.
 use native.Mathlib.Omega.{arith}
 use borrow.Author.Needs.{needs}

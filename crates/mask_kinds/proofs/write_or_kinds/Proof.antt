@@ -1,4 +1,4 @@
--- `kinds::write_or_kinds` meets its contract: two NOTs, the AND, a NOT.
+-- `mask_kinds::write_or_kinds` meets its contract: two NOTs, the AND, a NOT.
 -- Assumes nothing.
 use mathlib.Core.Path.{_≡_, refl, _∙_}
 use mathlib.Core.List.{[], _∷_}

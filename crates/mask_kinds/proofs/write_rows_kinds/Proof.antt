@@ -1,4 +1,4 @@
--- `kinds::write_rows_kinds` meets its contract. The invariant: the kinds of i rows are written, the others follow them.
+-- `mask_kinds::write_rows_kinds` meets its contract. The invariant: the kinds of i rows are written, the others follow them.
 -- Assumes nothing.
 use mathlib.Core.Path.{refl}
 use Prim.Native.Nat.{suc, _+_, _-_, _*_, _≤_}
@@ -6,13 +6,13 @@ use native.Mathlib.Nat.{mul-le-mul-left}
 use native.Mathlib.Omega.{arith}
 use lib.ListN.{length}
 use Rattle.mask_kinds.specs.Kinds.{rowKinds, XorsFrom}
-use Rattle.layout.proofs.Bytes.{Joining, joining-start, joining-turn, joining-end}
+use Rattle.layout.proofs.Bytes.{PutPieces, put-pieces-start, put-pieces-turn, put-pieces-end}
 use Rattle.mask_kinds.proofs.GateKinds.{row-kinds-long, row-head, xors-after}
 use Rattle.mask_kinds.proofs.write_rows_kinds.Statement.{statement}
 use Rattle.mask_kinds.proofs.write_rows_kinds.Tie as tie
 
 abbrev Inv-loop : tie.InvT-loop
-Inv-loop kinds₀ at n to₀ i₀ kinds to i = Joining n at n (λ _. rowKinds n) kinds₀ to i kinds × XorsFrom to kinds
+Inv-loop kinds₀ at n to₀ i₀ kinds to i = PutPieces n at n (λ _. rowKinds n) kinds₀ to i kinds × XorsFrom to kinds
 
 abbrev μ-loop : tie.MeasureT-loop
 μ-loop kinds₀ at n to₀ i₀ kinds to i = n - i
@@ -28,7 +28,7 @@ within c =
 
 loop-holds : tie.Need-loop-holds Inv-loop μ-loop
 loop-holds c = (
-  joining-start (c .args .n) (c .args .at) _ _ _ _ (λ i h. row-kinds-long (c .args .n) (omega (arith, h))) (omega arith) (c .pre .0),
+  put-pieces-start (c .args .n) (c .args .at) _ _ _ _ (λ i h. row-kinds-long (c .args .n) (omega (arith, h))) (omega arith) (c .pre .0),
   c .pre .1,
 )
 
@@ -52,7 +52,7 @@ loop-again c =
     let inv = head .loop .inv in
     let some = row-kinds-long n (omega arith) in
     let put = row-head (head .loop .to) n b (omega arith) (inv .1) (within c) in (
-      joining-turn (inv .0) _ _ (c .loop-test .taken) some refl put refl,
+      put-pieces-turn (inv .0) _ _ (c .loop-test .taken) some refl put refl,
       xors-after (head .loop .to) (rowKinds n) b (inv .1) (omega (arith, within c, some)) put (omega (arith, some)),
     )
 
@@ -60,7 +60,7 @@ same-length : tie.Need-same-length Inv-loop μ-loop
 same-length c = c .before .loop .inv .0 .long
 
 returns : tie.Need-returns Inv-loop μ-loop
-returns c = joining-end (c .before .loop .inv .0) (c .loop-test .left)
+returns c = put-pieces-end (c .before .loop .inv .0) (c .loop-test .left)
 
 pub write-rows-kinds-spec : {M : Type 1} → statement M
 write-rows-kinds-spec =

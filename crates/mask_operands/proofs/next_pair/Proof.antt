@@ -1,4 +1,4 @@
--- `writing::next_pair` meets its contract: the next upper share, or the first pair of the next lower share.
+-- `mask_operands::next_pair` meets its contract: the next upper share, or the first pair of the next lower share.
 -- Assumes nothing.
 use borrow.Author.Needs.{needs}
 use Rattle.mask_operands.proofs.PairNumbers.{pair-next, pair-turn}

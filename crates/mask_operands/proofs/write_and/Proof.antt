@@ -1,4 +1,4 @@
--- `writing::write_and` meets its contract: the pairs, then the rows.
+-- `mask_operands::write_and` meets its contract: the pairs, then the rows.
 -- Assumes nothing.
 use mathlib.Core.Path.{_≡_, refl, ap, _∙_}
 use mathlib.Core.List.{List, _++_}

@@ -1,4 +1,4 @@
--- `writing::write_constant` meets its contract. The invariant: s shares are written, and `left` is the next one's operand.
+-- `mask_operands::write_constant` meets its contract. The invariant: s shares are written, and `left` is the next one's operand.
 -- Assumes nothing.
 use mathlib.Core.Path.{_≡_, refl, ap}
 use mathlib.Core.Bool.{Bool, true, false, cond}
@@ -9,13 +9,13 @@ use lib.Dec.{eqb}
 use borrow.Author.Tests.{ne-eqb}
 use Rattle.tables.specs.Tables.{two, pairBytes}
 use Rattle.layout.specs.Layout.{constantGates}
-use Rattle.layout.proofs.Bytes.{pairs-joined, Joining, joining-start, joining-turn, joining-end}
+use Rattle.layout.proofs.Bytes.{pairs-pieces, PutPieces, put-pieces-start, put-pieces-turn, put-pieces-end}
 use Rattle.mask_operands.proofs.write_constant.Statement.{statement}
 use Rattle.mask_operands.proofs.write_constant.Tie as tie
 
 abbrev Inv-loop : tie.InvT-loop
 Inv-loop ops₀ at n value left₀ s₀ ops left s =
-    Joining 4 at n (λ s. pairBytes (constantGates value s)) ops₀ (at + 4 * s) s ops × (left ≡ cond (eqb s 0) value 0)
+    PutPieces 4 at n (λ s. pairBytes (constantGates value s)) ops₀ (at + 4 * s) s ops × (left ≡ cond (eqb s 0) value 0)
 
 abbrev μ-loop : tie.MeasureT-loop
 μ-loop ops₀ at n value left₀ s₀ ops left s = n - s
@@ -24,7 +24,7 @@ loop-holds : tie.Need-loop-holds Inv-loop μ-loop
 unfolding pairBytes
 loop-holds c =
     let s = c .before in
-    (joining-start 4 (s .args .at) _ _ _ _ (λ _ _. refl) (omega arith) (s .pre .0), refl)
+    (put-pieces-start 4 (s .args .at) _ _ _ _ (λ _ _. refl) (omega arith) (s .pre .0), refl)
 
 mul-put-gate : tie.Need-mul-put-gate Inv-loop μ-loop
 mul-put-gate c = omega arith
@@ -55,7 +55,7 @@ loop-again c =
     let call = c .before .before in
     let head = call .before .before .before in
     let piece = ap {A = ℕ} {B = List ℕ} (λ y. two y ++ two 0) (head .loop .inv .1) in (
-      joining-turn (head .loop .inv .0) _ _ (omega arith) refl piece (call .put-gate .ensures) (omega arith),
+      put-pieces-turn (head .loop .inv .0) _ _ (omega arith) refl piece (call .put-gate .ensures) (omega arith),
       rw (ne-eqb (head .loop .s + 1) 0 (λ e. omega (arith, e))),
     )
 
@@ -63,7 +63,7 @@ same-length : tie.Need-same-length Inv-loop μ-loop
 same-length c = c .before .loop .inv .0 .long
 
 returns : tie.Need-returns Inv-loop μ-loop
-returns c = rw pairs-joined (joining-end (c .before .loop .inv .0) (omega arith))
+returns c = rw pairs-pieces (put-pieces-end (c .before .loop .inv .0) (omega arith))
 
 pub write-constant-spec : {M : Type 1} → statement M
 write-constant-spec =

@@ -1,4 +1,4 @@
--- `writing::write_five` meets its contract: five gates, one after the other, by the form of the AND's pairs.
+-- `mask_operands::write_five` meets its contract: five gates, one after the other, by the form of the AND's pairs.
 -- Assumes nothing.
 use mathlib.Core.Path.{refl, ap, _∙_}
 use mathlib.Core.List.{List, _++_}

@@ -1,4 +1,4 @@
--- `writing::write_operands_of` meets its contract, kind by kind.
+-- `mask_operands::write_operands_of` meets its contract, kind by kind.
 -- Assumes nothing.
 use mathlib.Core.Path.{_≡_}
 use native.Mathlib.Omega.{arith}
@@ -6,7 +6,7 @@ use borrow.Author.Needs.{needs}
 use Rattle.tables.specs.Tables.{pairBytes}
 use Rattle.construction.specs.Gadgets.{gadgetOf}
 use Rattle.construction.specs.Wires.{andPart}
-use Rattle.layout.specs.Layout.{shareWires, joined, xorGates, andGates, orGates}
+use Rattle.layout.specs.Layout.{shareWires, piecesFrom, xorGates, andGates, orGates}
 use Rattle.layout.proofs.Pieces.{xor-gates, constant-gates, and-gates, or-gates}
 use Rattle.share_places.specs.Located.{placesAt}
 use Rattle.mask_operands.proofs.Written.{room-where, written-where}
@@ -36,7 +36,8 @@ unfolding pairBytes
 returns c g = rw (c .before .before .before .before .before .if1 .taken) (c .before .before .put-gate .ensures)
 
 write-constant-requires : tie.Need-write-constant-requires
-write-constant-requires c κs = let R = c .before .before .before .before .before .before .before .pre .2 in (rw (c .before .if2 .taken) at (R .room), R .small)
+write-constant-requires c κs =
+    let R = c .before .before .before .before .before .before .before .pre .2 in (rw (c .before .if2 .taken) at (R .room), R .small)
 
 same-length-2 : tie.Need-same-length-2
 same-length-2 c = search needs
@@ -48,7 +49,8 @@ returns-2 c g =
     let n = s .args .n in
     let A = shareWires n (at (s .args .left)) in
     let B = shareWires n (at (s .args .right)) in
-    rw (c .before .before .before .before .if2 .taken, constant-gates (gadgetOf (s .args .and)) (s .args .left) n g (s .args .w) A B) (c .before .before .write-constant .ensures)
+    rw (c .before .before .before .before .if2 .taken, constant-gates (gadgetOf (s .args .and)) (s .args .left) n g (s .args .w) A B)
+    (c .before .before .write-constant .ensures)
 
 places-at-requires : tie.Need-places-at-requires
 places-at-requires c κs = c .before .before .before .before .before .before .pre .0
@@ -60,7 +62,8 @@ write-xor-requires : tie.Need-write-xor-requires
 write-xor-requires c κs =
     let right = c .before .before in
     let left = right .before in
-    let R = room-where (left .before .before .before .before .before .before .before .pre .2) (left .places-at .ensures .0) (right .places-at2 .ensures .0) in
+    let R = room-where (left .before .before .before .before .before .before .before .pre .2)
+    (left .places-at .ensures .0) (right .places-at2 .ensures .0) in
     (R .shares, rw (c .before .if3 .taken) at (R .room))
 
 same-length-3 : tie.Need-same-length-3
@@ -70,7 +73,8 @@ returns-3 : tie.Need-returns-3
 returns-3 c g =
     let s = c .before .before .before .before .before .before .before .before .before .before .before .before .before in
     let n = s .args .n in
-    written-where (gadgetOf (s .args .and)) (s .args .kind) (s .args .left) n g (s .args .w) (s .args .at) (s .args .ops .now) (λ A B. joined n 0 (xorGates A B))
+    written-where (gadgetOf (s .args .and)) (s .args .kind) (s .args .left) n g (s .args .w)
+    (s .args .at) (s .args .ops .now) (λ A B. piecesFrom n 0 (xorGates A B))
     (λ A B. rw (c .before .before .before .before .if3 .taken) (xor-gates (gadgetOf (s .args .and)) (s .args .left) n g (s .args .w) A B))
     (c .before .before .before .before .before .before .places-at .ensures .0)
     (c .before .before .before .before .before .places-at2 .ensures .0)
@@ -80,7 +84,8 @@ write-and-requires : tie.Need-write-and-requires
 write-and-requires c κs =
     let right = c .before .before .before in
     let left = right .before in
-    let R = room-where (left .before .before .before .before .before .before .before .pre .2) (left .places-at .ensures .0) (right .places-at2 .ensures .0) in
+    let R = room-where (left .before .before .before .before .before .before .before .pre .2)
+    (left .places-at .ensures .0) (right .places-at2 .ensures .0) in
     let is = c .before .if4 .taken in
     (R .shares, rw is at (R .wires), rw is at (R .room))
 
@@ -91,7 +96,8 @@ returns-4 : tie.Need-returns-4
 returns-4 c g =
     let s = c .before .before .before .before .before .before .before .before .before .before .before .before .before .before in
     let n = s .args .n in
-    written-where (gadgetOf (s .args .and)) (s .args .kind) (s .args .left) n g (s .args .w) (s .args .at) (s .args .ops .now) (andGates (gadgetOf (s .args .and)) n (s .args .w))
+    written-where (gadgetOf (s .args .and)) (s .args .kind) (s .args .left) n g (s .args .w) (s .args .at)
+    (s .args .ops .now) (andGates (gadgetOf (s .args .and)) n (s .args .w))
     (λ A B. rw (c .before .before .before .before .if4 .taken) (and-gates (gadgetOf (s .args .and)) n (andPart g) (s .args .w) A B))
     (c .before .before .before .before .before .before .before .places-at .ensures .0)
     (c .before .before .before .before .before .before .places-at2 .ensures .0)
@@ -101,13 +107,15 @@ returns-4 c g =
 is-or : (c : tie.Else4) → c .before .before .before .before .before .before .before .before .before .before .args .kind ≡ 5
 is-or c =
     let plain = c .before .before .before .before .before .before .before .before .before .before .pre .2 .plain in
-    omega (arith, plain .0, plain .1, c .before .before .before .before .before .if1 .left, c .before .before .before .before .if2 .left, c .before .if3 .left, c .if4 .left)
+    let kinds = c .before .before .before .before in
+    omega (arith, plain .0, plain .1, kinds .before .if1 .left, kinds .if2 .left, c .before .if3 .left, c .if4 .left)
 
 write-or-requires : tie.Need-write-or-requires
 write-or-requires c κs =
     let right = c .before .before .before in
     let left = right .before in
-    let R = room-where (left .before .before .before .before .before .before .before .pre .2) (left .places-at .ensures .0) (right .places-at2 .ensures .0) in
+    let R = room-where (left .before .before .before .before .before .before .before .pre .2)
+    (left .places-at .ensures .0) (right .places-at2 .ensures .0) in
     let is = is-or (c .before) in
     (R .some, R .shares, rw is at (R .wires), rw is at (R .room))
 
@@ -118,7 +126,8 @@ returns-5 : tie.Need-returns-5
 returns-5 c g =
     let s = c .before .before .before .before .before .before .before .before .before .before .before .before .before .before in
     let n = s .args .n in
-    written-where (gadgetOf (s .args .and)) (s .args .kind) (s .args .left) n g (s .args .w) (s .args .at) (s .args .ops .now) (orGates (gadgetOf (s .args .and)) n (s .args .w))
+    written-where (gadgetOf (s .args .and)) (s .args .kind) (s .args .left) n g (s .args .w) (s .args .at)
+    (s .args .ops .now) (orGates (gadgetOf (s .args .and)) n (s .args .w))
     (λ A B. rw (is-or (c .before .before .before .before)) (or-gates (gadgetOf (s .args .and)) (s .args .left) n g (s .args .w) A B))
     (c .before .before .before .before .before .before .before .places-at .ensures .0)
     (c .before .before .before .before .before .before .places-at2 .ensures .0)

@@ -1,4 +1,4 @@
--- `writing::write_or` meets its contract: two NOTs, the AND, a NOT.
+-- `mask_operands::write_or` meets its contract: two NOTs, the AND, a NOT.
 -- Assumes nothing.
 use Prim.Native.Nat.{_+_, _<_}
 use native.Mathlib.Nat.{mul-le-mul-left}

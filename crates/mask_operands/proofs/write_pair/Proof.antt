@@ -1,4 +1,4 @@
--- `writing::write_pair` meets its contract: whichever AND it is, its own call has written.
+-- `mask_operands::write_pair` meets its contract: whichever AND it is, its own call has written.
 -- Assumes nothing.
 use borrow.Author.Needs.{needs}
 use Rattle.mask_operands.proofs.write_pair.Statement.{statement}

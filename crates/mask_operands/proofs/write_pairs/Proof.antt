@@ -1,4 +1,4 @@
--- `writing::write_pairs` meets its contract. The invariant: c pairs are written, and p is the pair that is number c.
+-- `mask_operands::write_pairs` meets its contract. The invariant: c pairs are written, and p is the pair that is number c.
 -- Assumes nothing.
 use mathlib.Core.Path.{refl, ap}
 use mathlib.Core.List.{List}
@@ -10,9 +10,9 @@ use Rattle.tables.specs.Tables.{Gate, pairBytes}
 use Rattle.construction.specs.Shares.{tri}
 use Rattle.construction.specs.Gadgets.{gadgetOf}
 use Rattle.layout.specs.Layout.{shareWires, pairGates}
-use Rattle.mask_operands.specs.Operands.{PairNo}
+use Rattle.mask_operands.specs.OperandRoom.{PairNo}
 use Rattle.layout.proofs.ShareWires.{share-low}
-use Rattle.layout.proofs.Bytes.{pairs-joined, Joining, joining-start, joining-turn, joining-end}
+use Rattle.layout.proofs.Bytes.{pairs-pieces, PutPieces, put-pieces-start, put-pieces-turn, put-pieces-end}
 use Rattle.layout.proofs.Pieces.{pairNumber, pairs-in-turn}
 use Rattle.mask_operands.proofs.PairNumbers.{pair-piece, pair-first}
 use Rattle.mask_operands.proofs.write_pairs.Statement.{statement}
@@ -20,7 +20,8 @@ use Rattle.mask_operands.proofs.write_pairs.Tie as tie
 
 abbrev Inv-loop : tie.InvT-loop
 Inv-loop and ops₀ at w n a b m p₀ c₀ ops p c =
-    Joining 20 at (tri n) (λ c. pairBytes (pairGates (gadgetOf and) (shareWires n a) (shareWires n b) (w + 5 * c) (pairNumber n c))) ops₀ (at + 20 * c) c ops
+    PutPieces 20 at (tri n) (λ c. pairBytes (pairGates (gadgetOf and) (shareWires n a) (shareWires n b) (w + 5 * c) (pairNumber n c))) ops₀
+    (at + 20 * c) c ops
     × (c < tri n → PairNo n c p)
 
 abbrev μ-loop : tie.MeasureT-loop
@@ -33,7 +34,7 @@ loop-holds : tie.Need-loop-holds Inv-loop μ-loop
 unfolding pairBytes
 loop-holds c =
     let s = c .before .before in
-    (joining-start 20 (s .args .at) _ _ _ _ (λ _ _. refl) (omega arith) (s .pre .2), pair-first (s .args .n))
+    (put-pieces-start 20 (s .args .at) _ _ _ _ (λ _ _. refl) (omega arith) (s .pre .2), pair-first (s .args .n))
 
 -- in a turn there is a pair, and room for it
 module _ (c : tie.In-loop Inv-loop μ-loop) where
@@ -124,7 +125,7 @@ loop-again c =
     (bj .later-wire2 .ensures .1 n (P .inside))
     (aj .later-wire .ensures .1 n (P .inside))
     (bi .share-wire2 .ensures .1 n (lower test)) in (
-      joining-turn (head .loop .inv .0) _ _ (more test) refl (ap {A = List Gate} {B = List ℕ} pairBytes piece)
+      put-pieces-turn (head .loop .inv .0) _ _ (more test) refl (ap {A = List Gate} {B = List ℕ} pairBytes piece)
           (call .write-pair .ensures) (omega arith),
       rw add-one (c .next-pair .ensures (head .loop .c) P),
     )
@@ -141,7 +142,7 @@ same-length c = c .before .loop .inv .0 .long
 returns : tie.Need-returns Inv-loop μ-loop
 returns c =
     let count = c .before .before .pair-count .ensures in
-    (omega (arith, count), rw (pairs-in-turn, pairs-joined) (joining-end (c .before .loop .inv .0) (omega (arith, count, c .loop-test .left))))
+    (omega (arith, count), rw (pairs-in-turn, pairs-pieces) (put-pieces-end (c .before .loop .inv .0) (omega (arith, count, c .loop-test .left))))
 
 pub write-pairs-spec : {M : Type 1} → statement M
 write-pairs-spec =

@@ -1,4 +1,4 @@
--- `writing::write_xor` meets its contract. The invariant: s shares are written, the others follow them.
+-- `mask_operands::write_xor` meets its contract. The invariant: s shares are written, the others follow them.
 -- Assumes nothing.
 use mathlib.Core.Path.{refl, ap₂}
 use mathlib.Core.List.{_++_}
@@ -7,13 +7,13 @@ use native.Mathlib.Omega.{arith}
 use Rattle.tables.specs.Tables.{two, pairBytes}
 use Rattle.layout.specs.Layout.{shareWires, xorGates}
 use Rattle.layout.proofs.ShareWires.{share-low}
-use Rattle.layout.proofs.Bytes.{pairs-joined, Joining, joining-start, joining-turn, joining-end}
+use Rattle.layout.proofs.Bytes.{pairs-pieces, PutPieces, put-pieces-start, put-pieces-turn, put-pieces-end}
 use Rattle.mask_operands.proofs.write_xor.Statement.{statement}
 use Rattle.mask_operands.proofs.write_xor.Tie as tie
 
 abbrev Inv-loop : tie.InvT-loop
 Inv-loop ops₀ at n a b s₀ ops s =
-    Joining 4 at n (λ s. pairBytes (xorGates (shareWires n a) (shareWires n b) s)) ops₀ (at + 4 * s) s ops
+    PutPieces 4 at n (λ s. pairBytes (xorGates (shareWires n a) (shareWires n b) s)) ops₀ (at + 4 * s) s ops
 
 abbrev μ-loop : tie.MeasureT-loop
 μ-loop ops₀ at n a b s₀ ops s = n - s
@@ -22,7 +22,7 @@ loop-holds : tie.Need-loop-holds Inv-loop μ-loop
 unfolding pairBytes
 loop-holds c =
     let s = c .before in
-    joining-start 4 (s .args .at) _ _ _ _ (λ _ _. refl) (omega arith) (s .pre .1)
+    put-pieces-start 4 (s .args .at) _ _ _ _ (λ _ _. refl) (omega arith) (s .pre .1)
 
 share-wire-requires : tie.Need-share-wire-requires Inv-loop μ-loop
 share-wire-requires c κs =
@@ -61,13 +61,13 @@ loop-again c =
     let piece = ap₂ (λ (x y : ℕ). two x ++ two y)
     (left .share-wire .ensures .1 n (test .loop-test .taken))
     (right .share-wire2 .ensures .1 n (test .loop-test .taken)) in
-    joining-turn (head .loop .inv) _ _ (omega arith) refl piece (call .put-gate .ensures) (omega arith)
+    put-pieces-turn (head .loop .inv) _ _ (omega arith) refl piece (call .put-gate .ensures) (omega arith)
 
 same-length : tie.Need-same-length Inv-loop μ-loop
 same-length c = c .before .loop .inv .long
 
 returns : tie.Need-returns Inv-loop μ-loop
-returns c = rw pairs-joined (joining-end (c .before .loop .inv) (omega arith))
+returns c = rw pairs-pieces (put-pieces-end (c .before .loop .inv) (omega arith))
 
 pub write-xor-spec : {M : Type 1} → statement M
 write-xor-spec =

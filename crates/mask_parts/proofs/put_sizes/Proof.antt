@@ -1,4 +1,4 @@
--- `parts::put_sizes` meets its contract: three fields, one after the other.
+-- `mask_parts::put_sizes` meets its contract: three fields, one after the other.
 -- Assumes nothing.
 use mathlib.Core.Path.{refl}
 use mathlib.Core.List.{_++_}

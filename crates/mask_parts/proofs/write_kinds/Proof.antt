@@ -1,4 +1,4 @@
--- `parts::write_kinds` meets its contract: the kinds from gate g on are left to write, over those of XOR gates.
+-- `mask_parts::write_kinds` meets its contract: the kinds from gate g on are left to write, over those of XOR gates.
 -- Assumes nothing.
 use mathlib.Core.Path.{_≡_, refl}
 use Prim.Native.Nat.{_+_, _-_, _≤_}
@@ -10,7 +10,7 @@ use Rattle.tables.specs.Tables.{kindOf, tableOf}
 use Rattle.construction.specs.Wires.{cost}
 use Rattle.mask_kinds.specs.Kinds.{gateKinds}
 use Rattle.share_places.proofs.Turns.{turn, plan-sized}
-use Rattle.mask_parts.specs.Parts.{stretch}
+use Rattle.mask_parts.specs.Stretch.{stretch}
 use Rattle.mask_parts.proofs.Stretches.{Kinds, kinds-start, kinds-room, kinds-turn, kinds-end}
 use Rattle.mask_parts.proofs.write_kinds.Statement.{statement}
 use Rattle.mask_parts.proofs.write_kinds.Tie as tie

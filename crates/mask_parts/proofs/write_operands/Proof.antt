@@ -1,4 +1,4 @@
--- `parts::write_operands` meets its contract: the operands from gate g on are left to write.
+-- `mask_parts::write_operands` meets its contract: the operands from gate g on are left to write.
 -- Assumes nothing.
 use mathlib.Core.Path.{_≡_, refl}
 use Prim.Native.Nat.{_+_, _-_, _*_, _≤_}
@@ -10,7 +10,7 @@ use Rattle.construction.specs.Gadgets.{gadgetOf}
 use Rattle.construction.specs.Wires.{cost}
 use Rattle.share_places.proofs.Turns.{Turn, plan-sized, located-room}
 use Rattle.mask_parts.proofs.Stretches.{
-  Operands,
+  OperandsLeft,
   operandsWhole,
   operands-start,
   operands-facts,
@@ -24,7 +24,7 @@ use Rattle.mask_parts.proofs.write_operands.Tie as tie
 
 abbrev Inv-loop : tie.InvT-loop
 Inv-loop and table from to w head base step ops₀ n gates costs next₀ at₀ g₀ ops next at g =
-    Operands (gadgetOf and) (tableOf table) n (operandsWhole (gadgetOf and) (tableOf table) n from to w ops₀) ops₀ to g next at ops
+    OperandsLeft (gadgetOf and) (tableOf table) n (operandsWhole (gadgetOf and) (tableOf table) n from to w ops₀) ops₀ to g next at ops
 
 abbrev μ-loop : tie.MeasureT-loop
 μ-loop and table from to w head base step ops₀ n gates costs next₀ at₀ g₀ ops next at g = to - g

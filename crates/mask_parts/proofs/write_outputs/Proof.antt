@@ -1,4 +1,4 @@
--- `parts::write_outputs` meets its contract: the wires of o outputs are written, the others follow them.
+-- `mask_parts::write_outputs` meets its contract: the wires of o outputs are written, the others follow them.
 -- Assumes nothing.
 use mathlib.Core.Path.{_∙_}
 use Prim.Native.Nat.{suc, _+_, _-_, _*_, _≤_}
@@ -8,15 +8,15 @@ use borrow.Author.Needs.{needs}
 use lib.ListN.{length}
 use Rattle.tables.specs.Tables.{tableOf}
 use Rattle.tables.proofs.Put.{put-zero}
-use Rattle.layout.proofs.Bytes.{Joining, joining-start, joining-turn, joining-end}
+use Rattle.layout.proofs.Bytes.{PutPieces, put-pieces-start, put-pieces-turn, put-pieces-end}
 use Rattle.share_places.proofs.Turns.{plan-sized, located-room}
-use Rattle.mask_parts.proofs.Stretches.{outputPiece, outputs-joined, output-below, output-long, output-piece, read-low}
+use Rattle.mask_parts.proofs.Stretches.{outputPiece, outputs-pieces, output-below, output-long, output-piece, read-low}
 use Rattle.mask_parts.proofs.write_outputs.Statement.{statement}
 use Rattle.mask_parts.proofs.write_outputs.Tie as tie
 
 abbrev Inv-loop : tie.InvT-loop
 Inv-loop table head base step outs₀ n gates outputs at₀ o₀ outs at o =
-    Joining (2 * n) 0 outputs (outputPiece (tableOf table) n) outs₀ at o outs
+    PutPieces (2 * n) 0 outputs (outputPiece (tableOf table) n) outs₀ at o outs
 
 abbrev μ-loop : tie.MeasureT-loop
 μ-loop table head base step outs₀ n gates outputs at₀ o₀ outs at o = outputs - o
@@ -24,7 +24,7 @@ abbrev μ-loop : tie.MeasureT-loop
 loop-holds : tie.Need-loop-holds Inv-loop μ-loop
 loop-holds c =
     let p = c .before .before .before .before .before .pre in
-    joining-start _ 0 _ _ _ _ (λ i h. output-long (p .0) (p .1) h) (omega arith) (omega (arith, p .2))
+    put-pieces-start _ 0 _ _ _ _ (λ i h. output-long (p .0) (p .1) h) (omega arith) (omega (arith, p .2))
 
 -- a turn stays inside the buffer
 within :
@@ -73,7 +73,7 @@ loop-again c =
     let h = test .loop-test .taken in
     let piece = output-piece (p .0) (p .1) h (c .before .before .before .before .before .output-at .ensures .0) (c .before .before .before
     .before .places-at .ensures .0) in
-    joining-turn (test .before .loop .inv) _ _ h (output-long (p .0) (p .1) h) piece (c .before .before .write-shares .ensures) (omega arith)
+    put-pieces-turn (test .before .loop .inv) _ _ h (output-long (p .0) (p .1) h) piece (c .before .before .write-shares .ensures) (omega arith)
 
 same-length : tie.Need-same-length Inv-loop μ-loop
 same-length c = c .before .loop .inv .long
@@ -82,8 +82,8 @@ returns : tie.Need-returns Inv-loop μ-loop
 returns c =
     let s = c .before .before .before .before .before .before .before in
     let p = s .args .p in
-    rw (outputs-joined (tableOf (s .args .table .now)) (p .shares) (p .outputs) (s .pre .0 .outputs))
-    (joining-end (c .before .loop .inv) (c .loop-test .left) ∙ put-zero _ _)
+    rw (outputs-pieces (tableOf (s .args .table .now)) (p .shares) (p .outputs) (s .pre .0 .outputs))
+    (put-pieces-end (c .before .loop .inv) (c .loop-test .left) ∙ put-zero _ _)
 
 pub write-outputs-spec : {M : Type 1} → statement M
 write-outputs-spec =

@@ -1,15 +1,15 @@
--- `rows::write_high_sums` meets its contract. The invariant: j sums are written, the others follow them, and `Upright`.
+-- `mask_rows::write_high_sums` meets its contract. The invariant: j sums are written, the others follow them, and `Upright`.
 -- Assumes nothing.
 use mathlib.Core.Path.{refl, ap, _∙_}
-use Prim.Native.Nat.{ℕ, _+_, _-_, _*_, _≤_, _<_}
+use Prim.Native.Nat.{ℕ, _+_, _-_, _*_, _≤_}
 use native.Mathlib.Omega.{arith}
 use mathlib.Core.List.{List, _++_}
 use Rattle.tables.specs.Tables.{two, pairBytes}
 use Rattle.tables.specs.Inside.{putAt}
 use Rattle.construction.specs.Shares.{pairAt}
 use Rattle.construction.proofs.Forms.{form-below}
-use Rattle.layout.specs.Layout.{joined, sumGates}
-use Rattle.layout.proofs.Bytes.{pairs-joined, Joining, joining-start, joining-turn, joining-end}
+use Rattle.layout.specs.Layout.{piecesFrom, sumGates}
+use Rattle.layout.proofs.Bytes.{pairs-pieces, PutPieces, put-pieces-start, put-pieces-turn, put-pieces-end}
 use Rattle.layout.proofs.Pieces.{Upright, upright-start, upright-turn, upright-high, upright-within}
 use Rattle.layout.proofs.Pieces.{upright-low}
 use Rattle.mask_rows.proofs.write_high_sums.Statement.{statement}
@@ -17,7 +17,7 @@ use Rattle.mask_rows.proofs.write_high_sums.Tie as tie
 
 abbrev Inv-loop : tie.InvT-loop
 Inv-loop ops₀ at last w n i form z₀ j₀ ops z j =
-    Joining 4 at i (λ j. pairBytes (sumGates last (λ j. w + 5 * pairAt n j i + form .high) j)) ops₀ (at + 4 * j) j ops
+    PutPieces 4 at i (λ j. pairBytes (sumGates last (λ j. w + 5 * pairAt n j i + form .high) j)) ops₀ (at + 4 * j) j ops
     × Upright n w i j z
 
 abbrev μ-loop : tie.MeasureT-loop
@@ -47,7 +47,7 @@ loop-holds : tie.Need-loop-holds Inv-loop μ-loop
 unfolding pairBytes
 loop-holds c =
     let s = c .before .before in (
-      joining-start 4 (s .args .at) _ _ _ _ (λ _ _. refl) (omega arith) (s .pre .3),
+      put-pieces-start 4 (s .args .at) _ _ _ _ (λ _ _. refl) (omega arith) (s .pre .3),
       upright-start (s .args .n) (s .args .w) (s .args .i),
     )
 
@@ -99,7 +99,7 @@ loop-again c =
     let form = head .before .pair-form .result in
     let piece = ap (λ (v : ℕ). two (s .args .last + j) ++ two v)
     {x = head .loop .z - 5 + form .high} {y = s .args .w + 5 * pairAt (s .args .n) j (s .args .i) + form .high} (omega (arith, high)) in (
-      joining-turn (head .loop .inv .0) _ _ (omega arith) refl piece (call .put-gate .ensures) (omega arith),
+      put-pieces-turn (head .loop .inv .0) _ _ (omega arith) refl piece (call .put-gate .ensures) (omega arith),
       upright-turn _ _ _ j _ (omega arith) (s .pre .0) up,
     )
 
@@ -112,9 +112,9 @@ returns c =
     let s = c .before .before .before .before in
     let a = s .args in
     let sums : ℕ → List ℕ =
-    λ v. pairBytes (joined (a .i) 0 (sumGates (a .last) (λ j. a .w + 5 * pairAt (a .n) j (a .i) + v))) in (
+    λ v. pairBytes (piecesFrom (a .i) 0 (sumGates (a .last) (λ j. a .w + 5 * pairAt (a .n) j (a .i) + v))) in (
       λ h. upright-low _ _ _ (c .before .loop .j) _ h (omega (arith, inv .0 .within)) (inv .1),
-      rw pairs-joined (joining-end (inv .0) (omega arith))
+      rw pairs-pieces (put-pieces-end (inv .0) (omega arith))
           ∙ ap {A = ℕ} {B = List ℕ} (λ v. putAt (s .args .at) (sums v) (s .args .ops .now)) (c .before .before .pair-form .ensures .high),
     )
 

@@ -1,4 +1,4 @@
--- `rows::write_low_sums` meets its contract. The invariant: c sums are written, the others follow them.
+-- `mask_rows::write_low_sums` meets its contract. The invariant: c sums are written, the others follow them.
 -- Assumes nothing.
 use mathlib.Core.Path.{refl, ap, _∙_}
 use mathlib.Core.List.{List}
@@ -9,14 +9,14 @@ use Rattle.tables.specs.Inside.{putAt}
 use Rattle.construction.specs.Gadgets.{gadgetOf}
 use Rattle.construction.specs.Wires.{pairWire}
 use Rattle.construction.proofs.Forms.{form-below}
-use Rattle.layout.specs.Layout.{joined, sumGates}
-use Rattle.layout.proofs.Bytes.{pairs-joined, Joining, joining-start, joining-turn, joining-end}
+use Rattle.layout.specs.Layout.{piecesFrom, sumGates}
+use Rattle.layout.proofs.Bytes.{pairs-pieces, PutPieces, put-pieces-start, put-pieces-turn, put-pieces-end}
 use Rattle.mask_rows.proofs.write_low_sums.Statement.{statement}
 use Rattle.mask_rows.proofs.write_low_sums.Tie as tie
 
 abbrev Inv-loop : tie.InvT-loop
 Inv-loop ops₀ at last z m form c₀ ops c =
-    Joining 4 at m (λ c. pairBytes (sumGates last (λ c. z + 5 * c + form .low) c)) ops₀ (at + 4 * c) c ops
+    PutPieces 4 at m (λ c. pairBytes (sumGates last (λ c. z + 5 * c + form .low) c)) ops₀ (at + 4 * c) c ops
 
 abbrev μ-loop : tie.MeasureT-loop
 μ-loop ops₀ at last z m form c₀ ops c = m - c
@@ -35,7 +35,7 @@ loop-holds : tie.Need-loop-holds Inv-loop μ-loop
 unfolding pairBytes
 loop-holds c =
     let s = c .before .before in
-    joining-start 4 (s .args .at) _ _ _ _ (λ _ _. refl) (omega arith) (s .pre .2)
+    put-pieces-start 4 (s .args .at) _ _ _ _ (λ _ _. refl) (omega arith) (s .pre .2)
 
 mul-put-gate : tie.Need-mul-put-gate Inv-loop μ-loop
 mul-put-gate c = omega arith
@@ -73,7 +73,7 @@ unfolding pairBytes
 loop-again c =
     let call = c .before .before in
     let head = call .before .before .before .before in
-    joining-turn (head .loop .inv) _ _ (omega arith) refl refl (call .put-gate .ensures) (omega arith)
+    put-pieces-turn (head .loop .inv) _ _ (omega arith) refl refl (call .put-gate .ensures) (omega arith)
 
 same-length : tie.Need-same-length Inv-loop μ-loop
 same-length c = c .before .loop .inv .long
@@ -81,8 +81,8 @@ same-length c = c .before .loop .inv .long
 returns : tie.Need-returns Inv-loop μ-loop
 returns c =
     let a = c .before .before .before .before .args in
-    let sums : ℕ → List ℕ = λ v. pairBytes (joined (a .m) 0 (sumGates (a .last) (λ c. a .z + 5 * c + v))) in
-    rw pairs-joined (joining-end (c .before .loop .inv) (omega arith))
+    let sums : ℕ → List ℕ = λ v. pairBytes (piecesFrom (a .m) 0 (sumGates (a .last) (λ c. a .z + 5 * c + v))) in
+    rw pairs-pieces (put-pieces-end (c .before .loop .inv) (omega arith))
     ∙ ap {A = ℕ} {B = List ℕ} (λ v. putAt (a .at) (sums v) (a .ops .now))
     (c .before .before .pair-form .ensures .low)
 

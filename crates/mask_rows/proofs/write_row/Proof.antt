@@ -1,4 +1,4 @@
--- `rows::write_row` meets its contract: the own product, the first sums, the last sums.
+-- `mask_rows::write_row` meets its contract: the own product, the first sums, the last sums.
 -- Assumes nothing.
 use mathlib.Core.Path.{_≡_, refl}
 use mathlib.Core.List.{_++_}
@@ -57,7 +57,12 @@ write-low-sums-requires c κs =
     let z = high .write-high-sums .result in
     let low = high .write-high-sums .ensures .0 in (
       omega arith,
-      λ m h. omega (arith, low-within (gadgetOf (s .args .and)) (s .args .n) (s .args .w) (s .args .i) z m (low (omega arith)) (omega arith), s .pre .3),
+      λ m h. omega (
+        arith,
+        low-within (gadgetOf (s .args .and)) (s .args .n) (s .args .w)
+            (s .args .i) z m (low (omega arith)) (omega arith),
+        s .pre .3,
+      ),
       omega arith,
     )
 

@@ -1,4 +1,4 @@
--- `rows::write_rows` meets its contract. The invariant: i rows are written, the others follow them.
+-- `mask_rows::write_rows` meets its contract. The invariant: i rows are written, the others follow them.
 -- Assumes nothing.
 use mathlib.Core.Path.{_≡_, ap}
 use mathlib.Core.List.{List}
@@ -10,14 +10,14 @@ use Rattle.tables.specs.Tables.{pairBytes}
 use Rattle.tables.proofs.Format.{pairs-long}
 use Rattle.construction.specs.Gadgets.{Gadget, gadgetOf}
 use Rattle.layout.specs.Layout.{shareWires, rowGates}
-use Rattle.layout.proofs.Bytes.{pairs-joined, Joining, joining-start, joining-turn, joining-end}
+use Rattle.layout.proofs.Bytes.{pairs-pieces, PutPieces, put-pieces-start, put-pieces-turn, put-pieces-end}
 use Rattle.layout.proofs.Pieces.{row-long}
 use Rattle.mask_rows.proofs.write_rows.Statement.{statement}
 use Rattle.mask_rows.proofs.write_rows.Tie as tie
 
 abbrev Inv-loop : tie.InvT-loop
 Inv-loop and ops₀ at v w n a b to₀ from₀ i₀ ops to from i =
-    Joining (4 * n) at n (λ i. pairBytes (rowGates (gadgetOf and) n w (v + n * i) (shareWires n a) (shareWires n b) i)) ops₀ to i ops
+    PutPieces (4 * n) at n (λ i. pairBytes (rowGates (gadgetOf and) n w (v + n * i) (shareWires n a) (shareWires n b) i)) ops₀ to i ops
     × (from ≡ v + n * i)
 
 abbrev μ-loop : tie.MeasureT-loop
@@ -45,7 +45,8 @@ loop-holds c =
     let n = s .args .n in
     let A = shareWires n (s .args .a) in
     let B = shareWires n (s .args .b) in (
-      joining-start (4 * n) (s .args .at) _ _ _ _ (λ i h. row-bytes (gadgetOf (s .args .and)) n (s .args .w) _ A B i h) (omega arith) (omega (arith, s .pre .3)),
+      put-pieces-start (4 * n) (s .args .at) _ _ _ _ (λ i h. row-bytes (gadgetOf (s .args .and)) n (s .args .w) _ A B i h)
+          (omega arith) (omega (arith, s .pre .3)),
       omega arith,
     )
 
@@ -87,7 +88,8 @@ loop-again c =
     let B = shareWires n (s .args .b) in
     let inv = head .loop .inv in
     let piece = ap (λ (v : ℕ). pairBytes (rowGates (gadgetOf (s .args .and)) n (s .args .w) v A B i)) (inv .1) in (
-      joining-turn (inv .0) _ _ (test .loop-test .taken) (row-bytes (gadgetOf (s .args .and)) n (s .args .w) _ A B i (test .loop-test .taken)) piece
+      put-pieces-turn (inv .0) _ _ (test .loop-test .taken)
+          (row-bytes (gadgetOf (s .args .and)) n (s .args .w) _ A B i (test .loop-test .taken)) piece
           (call .write-row .ensures) (omega arith),
       omega (arith, inv .1),
     )
@@ -96,7 +98,7 @@ same-length : tie.Need-same-length Inv-loop μ-loop
 same-length c = c .before .loop .inv .0 .long
 
 returns : tie.Need-returns Inv-loop μ-loop
-returns c = rw pairs-joined (joining-end (c .before .loop .inv .0) (c .loop-test .left))
+returns c = rw pairs-pieces (put-pieces-end (c .before .loop .inv .0) (c .loop-test .left))
 
 pub write-rows-spec : {M : Type 1} → statement M
 write-rows-spec =

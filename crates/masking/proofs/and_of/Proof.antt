@@ -1,7 +1,6 @@
 -- `masking::and_of` meets its contract: by its test.
 -- Assumes nothing.
 use Rattle.masking.proofs.Masked.{and-zero, and-other}
-use borrow.Author.Needs.{needs}
 use Rattle.masking.proofs.and_of.Statement.{statement}
 use Rattle.masking.proofs.and_of.Tie as tie
 

@@ -16,7 +16,8 @@ same-length c = search needs
 returns : tie.Need-returns
 returns c =
     let s = c .before .before .before .before .before .before .before in
-    ordered-none (gadgetOf (s .args .and)) (s .args .input .now) (c .before .before .before .before .if1 .taken) (c .before .before .mask-table .ensures)
+    ordered-none (gadgetOf (s .args .and)) (s .args .input .now) (c .before .before .before .before .if1 .taken)
+    (c .before .before .mask-table .ensures)
 
 sub-mask-table : tie.Need-sub-mask-table
 sub-mask-table c = search needs

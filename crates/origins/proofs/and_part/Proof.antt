@@ -1,4 +1,4 @@
--- `marking::and_part` meets its contract: a wire before the rows is a pair's, any other is its row's product or sum.
+-- `origins::and_part` meets its contract: a wire before the rows is a pair's, any other is its row's product or sum.
 -- Assumes nothing.
 use native.Mathlib.Omega.{arith}
 use borrow.Author.Needs.{needs}

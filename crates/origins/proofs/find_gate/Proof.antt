@@ -1,4 +1,4 @@
--- `marking::find_gate` meets its contract. The invariant, `Seeking`, says that the wire is among the new wires of the gates left.
+-- `origins::find_gate` meets its contract. The invariant, `Seeking`, says that the wire is among the new wires of the gates left.
 -- Assumes nothing.
 use mathlib.Core.Path.{_≡_, refl, _∙_}
 use Prim.Native.Nat.{_-_, _≤_}

@@ -1,4 +1,4 @@
--- `marking::gate_marks` meets its contract, kind by kind.
+-- `origins::gate_marks` meets its contract, kind by kind.
 -- Assumes nothing.
 use mathlib.Core.Path.{_≡_}
 use native.Mathlib.Omega.{arith}

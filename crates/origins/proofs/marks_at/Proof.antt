@@ -1,4 +1,4 @@
--- `marking::marks_at` meets its contract: an input share by its number, any other wire by its gate.
+-- `origins::marks_at` meets its contract: an input share by its number, any other wire by its gate.
 -- Assumes nothing.
 use Prim.Native.Nat.{_<_}
 use native.Mathlib.Nat.{mod-lt}

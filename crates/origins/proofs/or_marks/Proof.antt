@@ -1,4 +1,4 @@
--- `marking::or_marks` meets its contract: the NOTs, and the wires of the AND.
+-- `origins::or_marks` meets its contract: the NOTs, and the wires of the AND.
 -- Assumes nothing.
 use mathlib.Core.Path.{_≡_}
 use Prim.Native.Nat.{_+_}

@@ -1,4 +1,4 @@
--- `marking::pair_of` meets its contract. The invariant, `PairLeft`, says where the pair stands among the pairs left to pass.
+-- `origins::pair_of` meets its contract. The invariant, `PairLeft`, says where the pair stands among the pairs left to pass.
 -- Assumes nothing.
 use native.Mathlib.Omega.{arith}
 use Rattle.origins.proofs.Finding.{PairLeft, pair-start, pair-some, pair-turn, pair-end}

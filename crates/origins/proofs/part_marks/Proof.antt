@@ -1,4 +1,4 @@
--- `marking::part_marks` meets its contract: a wire of a pair by its place in the form, a row's by its row.
+-- `origins::part_marks` meets its contract: a wire of a pair by its place in the form, a row's by its row.
 -- Assumes nothing.
 use native.Mathlib.Omega.{arith}
 use borrow.Author.Needs.{needs}

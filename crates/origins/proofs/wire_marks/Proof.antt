@@ -1,4 +1,4 @@
--- `marking::wire_marks` meets its contract: the plan's refusal, 13, or the share numbers.
+-- `origins::wire_marks` meets its contract: the plan's refusal, 13, or the share numbers.
 -- Assumes nothing.
 use Rattle.construction.specs.Gadgets.{gadgetOf}
 use Rattle.construction.specs.Says.{plainFault}

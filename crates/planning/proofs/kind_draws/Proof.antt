@@ -1,4 +1,4 @@
--- `sizing::kind_draws` meets its contract: so many gates times what one draws.
+-- `planning::kind_draws` meets its contract: so many gates times what one draws.
 -- Assumes nothing.
 use mathlib.Core.Path.{ap}
 use Prim.Native.Nat.{ℕ, _≤_, _*_}
@@ -15,7 +15,8 @@ gate-draws-requires c κs = c .pre .1
 few : (c : tie.After-gate-draws) → c .before .args .count * c .gate-draws .result ≤ 65535 * 465
 few c =
     let s = c .before in
-    few-times (s .args .count) _ 465 (s .pre .0) (omega (arith, c .gate-draws .ensures, draws-small (kindOf (s .args .kind)) (s .args .n) (s .pre .1)))
+    few-times (s .args .count) _ 465 (s .pre .0)
+    (omega (arith, c .gate-draws .ensures, draws-small (kindOf (s .args .kind)) (s .args .n) (s .pre .1)))
 
 mul-result : tie.Need-mul-result
 mul-result c = record { fits = omega (arith, few c) }

@@ -1,4 +1,4 @@
--- `sizing::kind_wires` meets its contract: so many gates times what one costs.
+-- `planning::kind_wires` meets its contract: so many gates times what one costs.
 -- Assumes nothing.
 use mathlib.Core.Path.{ap}
 use Prim.Native.Nat.{ℕ, _≤_, _*_}

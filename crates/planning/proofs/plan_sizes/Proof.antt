@@ -1,4 +1,4 @@
--- `sizing::plan_sizes` meets its contract: the code computes the formula's figures, and tests them as the formula does.
+-- `planning::plan_sizes` meets its contract: the code computes the formula's figures, and tests them as the formula does.
 -- Assumes nothing.
 use native.Mathlib.Omega.{arith}
 use borrow.Author.Needs.{needs}

@@ -1,9 +1,9 @@
--- `sizing::plan_table` meets its contract: each refusal is the first of the chain, and what passes is planned by its counts.
+-- `planning::plan_table` meets its contract: each refusal is the first of the chain, and what passes is planned by its counts.
 -- Assumes nothing.
 use mathlib.Core.Path.{ap}
 use native.Mathlib.Omega.{arith}
 use borrow.Author.Needs.{needs}
-use Rattle.tables.specs.declared.Counts as DC
+use Rattle.tables.specs.declared.Counts as DCounts
 use Rattle.tables.proofs.Answers.{refused-passed}
 use Rattle.tables.proofs.Accept.{accepted-long, has-gates}
 use Rattle.planning.specs.Plans.{Maskable}
@@ -39,7 +39,7 @@ random-fault-requires : tie.Need-random-fault-requires
 random-fault-requires c κs =
     let p = c .before .before .before .before in (
       has-gates _ (refused-passed (p .before .before .table-fault .ensures) (p .if1 .left)) (c .before .before .field2 .ensures .0),
-      ap (λ (x : DC.Counts). x .randoms) (c .count-kinds .ensures),
+      ap (λ (x : DCounts.Counts). x .randoms) (c .count-kinds .ensures),
     )
 
 order-fault-requires : tie.Need-order-fault-requires

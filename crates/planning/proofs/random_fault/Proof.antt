@@ -1,4 +1,4 @@
--- `sizing::random_fault` meets its contract: no gate is random, or the loop searches what is left of the gates.
+-- `planning::random_fault` meets its contract: no gate is random, or the loop searches what is left of the gates.
 -- Assumes nothing.
 use Prim.Native.Nat.{_-_, _≤_}
 use mathlib.Core.Path.{sym, _∙_}

@@ -1,4 +1,4 @@
--- `probing::free_of` meets its contract. The loop's invariant: looking from k on finds what looking from 1 on finds.
+-- `probes::free_of` meets its contract. The loop's invariant: looking from k on finds what looking from 1 on finds.
 -- Assumes nothing.
 use Prim.Native.Nat.{suc, _-_}
 use native.Mathlib.Numerals.{add-one}

@@ -1,4 +1,4 @@
--- `probing::free_share` meets its contract: the smallest number that is not among those that the probes carry.
+-- `probes::free_share` meets its contract: the smallest number that is not among those that the probes carry.
 -- Assumes nothing.
 use Rattle.construction.specs.Gadgets.{gadgetOf}
 use Rattle.planning.proofs.Planning.{plan-fits}

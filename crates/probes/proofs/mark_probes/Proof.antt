@@ -1,4 +1,4 @@
--- `probing::mark_probes` meets its contract. The loop's invariant: the numbers of the probes from j on are left to mark.
+-- `probes::mark_probes` meets its contract. The loop's invariant: the numbers of the probes from j on are left to mark.
 -- Assumes nothing.
 use Prim.Native.Nat.{_-_}
 use native.Mathlib.Numerals.{add-one}

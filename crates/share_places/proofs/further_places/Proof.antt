@@ -1,4 +1,4 @@
--- `placing::further_places` meets its contract: a constant's shares in a row, or an OR's.
+-- `share_places::further_places` meets its contract: a constant's shares in a row, or an OR's.
 -- Assumes nothing.
 use mathlib.Core.Path.{_≡_}
 use Prim.Native.Nat.{_+_, _≤_}
@@ -53,7 +53,8 @@ returns-2 : tie.Need-returns-2
 returns-2 c =
     let s = c .before .before .before in
     rw (is-or (c .before .before))
-    (or-places-are (s .args .n) (s .args .w) (s .pre .2) (s .pre .3) (fits (c .before .before)) (c .and-first .ensures .1) (c .before .and-cost .ensures))
+    (or-places-are (s .args .n) (s .args .w) (s .pre .2) (s .pre .3) (fits (c .before .before))
+    (c .and-first .ensures .1) (c .before .and-cost .ensures))
 
 pub further-places-spec : {M : Type 1} → statement M
 further-places-spec =

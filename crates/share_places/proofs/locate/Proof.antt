@@ -1,4 +1,4 @@
--- `placing::locate` meets its contract: the inputs, then the gates.
+-- `share_places::locate` meets its contract: the inputs, then the gates.
 -- Assumes nothing.
 use Prim.Native.Nat.{_*_}
 use native.Mathlib.Omega.{arith}

@@ -1,4 +1,4 @@
--- `placing::new_places` meets its contract: the places as the tests of the kind choose them.
+-- `share_places::new_places` meets its contract: the places as the tests of the kind choose them.
 -- Assumes nothing.
 use native.Mathlib.Omega.{arith}
 use Rattle.construction.proofs.Figures.{tri-small}
@@ -46,7 +46,8 @@ returns-2 : tie.Need-returns-2
 returns-2 c =
     let s = c .before .before .before .before .before .before .before in
     let p = s .pre in
-    new-places-are (s .args .kind) (s .args .n) (s .args .w) (s .args .a) (c .before .before .before .before .before .before .if1 .left) (p .1) (p .2) (p .3) (p .4)
+    new-places-are (s .args .kind) (s .args .n) (s .args .w) (s .args .a)
+    (c .before .before .before .before .before .before .if1 .left) (p .1) (p .2) (p .3) (p .4)
     (c .before .before .before .before .before .and-first .ensures .1)
     (c .before .before .before .before .either .ensures)
     (c .before .before .before .either2 .ensures)

@@ -1,4 +1,4 @@
--- `placing::place_gates` meets its contract: the gates before number g are noted, and gate g begins at wire w.
+-- `share_places::place_gates` meets its contract: the gates before number g are noted, and gate g begins at wire w.
 -- Assumes nothing.
 use mathlib.Core.Path.{_≡_, refl}
 use Prim.Native.Nat.{_+_, _-_}
@@ -134,7 +134,8 @@ same-length-3 : tie.Need-same-length-3 Inv-loop μ-loop
 same-length-3 c = c .before .loop .inv .noted .steps
 
 returns : tie.Need-returns Inv-loop μ-loop
-returns c = placing-end (c .before .before .before .before .before .before .before .before .before .pre .0) (c .before .loop .inv) (c .loop-test .left)
+returns c =
+    placing-end (c .before .before .before .before .before .before .before .before .before .pre .0) (c .before .loop .inv) (c .loop-test .left)
 
 pub place-gates-spec : {M : Type 1} → statement M
 place-gates-spec =

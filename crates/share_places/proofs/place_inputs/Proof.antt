@@ -1,4 +1,4 @@
--- `placing::place_inputs` meets its contract: the inputs before number i are noted, and the next one begins at wire n·i.
+-- `share_places::place_inputs` meets its contract: the inputs before number i are noted, and the next one begins at wire n·i.
 -- Assumes nothing.
 use Prim.Native.Nat.{_+_, _-_, _≤_}
 use native.Mathlib.Omega.{arith}

@@ -1,4 +1,4 @@
--- `placing::places_at` meets its contract: an element of a 16-bit array is below 65,536.
+-- `share_places::places_at` meets its contract: an element of a 16-bit array is below 65,536.
 -- Assumes nothing.
 use mathlib.Core.Path.{refl}
 use borrow.Author.Needs.{needs}

@@ -9,12 +9,12 @@ use Rattle.tables.specs.Tables.{kindOf}
 use Rattle.tables.specs.Inside.{PlainByte}
 use Rattle.construction.specs.Shares.{pairAt}
 use Rattle.construction.specs.Wires.{cost}
-use Rattle.layout.specs.declared.Places as DP
+use Rattle.layout.specs.declared.Places as DPlaces
 use Rattle.layout.specs.Layout.{ReadsShares}
-use Rattle.mask_operands.specs.declared.Pair as DQ
+use Rattle.mask_operands.specs.declared.Pair as DPair
 
 -- what writing the operands of a plain gate's new wires takes: wires, or a value, that a field can hold, and room for them
-pub record OperandRoom (kind value n w : ℕ) (a b : DP.Places) (at : ℕ) (ops : List ℕ) : Type 0 where
+pub record OperandRoom (kind value n w : ℕ) (a b : DPlaces.Places) (at : ℕ) (ops : List ℕ) : Type 0 where
   pub plain : PlainByte kind
   pub small : value < 65536
   pub some : 1 ≤ n
@@ -30,7 +30,7 @@ pub record PairRoom (w ai bj aj bi at : ℕ) (ops : List ℕ) : Type 0 where
   pub room : at + 20 ≤ length ops
 
 -- a pair of shares i < j is number c of the pairs of n shares
-pub record PairNo (n c : ℕ) (p : DQ.Pair) : Type 0 where
+pub record PairNo (n c : ℕ) (p : DPair.Pair) : Type 0 where
   pub rising : p .i < p .j
   pub inside : p .j < n
   pub place : c ≡ pairAt n (p .i) (p .j)
