@@ -94,6 +94,13 @@ secrets-of G s o xs ys ts ps c done =
     let h = map-good G s o xs ys ts ps _ _ _ (answered-0 _ _ (c .mapping) (c .map-says .answer) (done .map-ok) .0) in
     (h .first, h .second)
 
+-- what one secret's way left: the values of its run, at the front of their buffer, and what was decoded
+record WayLeft {o : ℕ} {m xs ts : List ℕ} (values outs : List ℕ) (w : Way o m xs ts) : Type 0 where
+  count : length values ≡ w .ran .value
+  ran : written (w .values) (w .ran) ≡ values
+  read : (ws : List ℕ) → All (λ p. p < length values) ws → readAll (w .values .after) ws ≡ readAll values ws
+  decoded : written (w .bits) (w .decoded) ≡ outs
+
 module _ (a : DAnd.And) where
   abbrev G : Gadget
   G = gadgetOf a
@@ -189,17 +196,6 @@ module _ (a : DAnd.And) where
               left-0 fault-of (outputsOf (tableOf m) raw) (w .outputs .before) (w .outputs .after) (ran .0) (w .run-says .outputs)
               ∙ ap₂ (λ (u : Table) (l : List ℕ). over (outputsOf u l) (w .outputs .before)) read-back run-is
 
-          values-written : written (w .values) (w .ran) ≡ values
-          values-written =
-              ap (take (w .ran .value)) values-left ∙ over-front values (w .values .before) (w .ran .value) values-count
-
-          read-values :
-              (ws : List ℕ) → All (λ p. p < wires (maskedTable G o t)) ws → readAll (w .values .after) ws ≡ readAll values ws
-          read-values ws below =
-              let long = values-long (lawful a) o t (plain-passed G s o plain .plain) xs ts hx ht in
-              ap (λ (l : List ℕ). readAll l ws) values-left
-              ∙ read-over values (w .values .before) ws (subst (λ (n : ℕ). All (λ p. p < n) ws) (sym long) below)
-
           -- the masked outputs, as the next call takes them
           masked-outputs : take (word m 4) (w .outputs .after) ≡ outputsOf (maskedTable G o t) values
           masked-outputs =
@@ -208,11 +204,21 @@ module _ (a : DAnd.And) where
               outputs-left
               ∙ over-front (outputsOf (maskedTable G o t) values) (w .outputs .before) _ (read-length values (maskedTable G o t .outputs))
 
-          decoded : w .decoded .number ≡ 0 → written (w .bits) (w .decoded) ≡ outputsOf t (run t xs [])
-          decoded decode-ok =
-              wrote _ _ (w .bits) (w .decoded) (w .decode-says) decode-ok
-              ∙ ap (decode o) masked-outputs
-              ∙ computes (lawful a) o t (plain-passed G s o plain .plain) .same-outputs xs ts hx ht
+          left : w .decoded .number ≡ 0 → WayLeft values (outputsOf t (run t xs [])) w
+          left decode-ok =
+              record {
+                count = values-count;
+                ran =
+                    ap (take (w .ran .value)) values-left
+                    ∙ over-front values (w .values .before) (w .ran .value) values-count;
+                read =
+                    λ ws below.
+                    ap (λ (l : List ℕ). readAll l ws) values-left ∙ read-over values (w .values .before) ws below;
+                decoded =
+                    wrote _ _ (w .bits) (w .decoded) (w .decode-says) decode-ok
+                    ∙ ap (decode o) masked-outputs
+                    ∙ computes (lawful a) o t (plain-passed G s o plain .plain) .same-outputs xs ts hx ht;
+              }
 
       -- with room, none of them is refused
       module _ (room : WayRoom G t w) where
@@ -337,20 +343,23 @@ module _ (a : DAnd.And) where
       filled b vs n e long = ap (take n) (left-0 f vs (b .before) (b .after) ok e) ∙ over-front vs (b .before) n long
 
       module _ (done : Done c) where
-        -- the values of both runs, as running left them
-        first-read :
-            (ws : List ℕ) → All (λ p. p < wires (maskedTable G o plain)) ws
-            → readAll (c .first .values .after) ws ≡ readAll (maskedRun G o plain xs bs) ws
-        first-read =
-            read-values s o (h .plain) (tableWritten c) xs bs is (h .first) (h .tape) (c .first) (done .first .encode-ok)
-            (done .first .run-ok)
+        -- what both ways left; the second went with the mapped tape
+        first : WayLeft (maskedRun G o plain xs bs) (outputsOf plain (run plain xs [])) (c .first)
+        first =
+            let d = done .first in
+            left s o (h .plain) (tableWritten c) xs bs is (h .first) (h .tape) (c .first) (d .encode-ok) (d .run-ok) (d .decode-ok)
 
-        second-read :
-            (ws : List ℕ) → All (λ p. p < wires (maskedTable G o plain)) ws
-            → readAll (c .second .values .after) ws ≡ readAll (maskedRun G o plain ys us) ws
-        second-read =
-            read-values s o (h .plain) (tableWritten c) ys us is (h .second) tape-us (c .second) (done .second .encode-ok)
-            (done .second .run-ok)
+        second : WayLeft (maskedRun G o plain ys ms) (outputsOf plain (run plain ys [])) (c .second)
+        second =
+            let d = done .second in
+            subst (λ (v : List ℕ). WayLeft (maskedRun G o plain ys v) (outputsOf plain (run plain ys [])) (c .second)) us-is
+            (left s o (h .plain) (tableWritten c) ys us is (h .second) tape-us (c .second) (d .encode-ok) (d .run-ok) (d .decode-ok))
+
+        -- the wires of the masked table have values in each run
+        in-run : (zs vs ws : List ℕ) → areSecrets plain zs ≡ true → isTape G o plain vs ≡ true
+            → All (λ p. p < wires (maskedTable G o plain)) ws → All (λ p. p < length (maskedRun G o plain zs vs)) ws
+        in-run zs vs ws hz hv =
+            subst (λ (n : ℕ). All (λ p. p < n) ws) (sym (values-long (lawful a) o plain accepted zs vs hz hv))
 
         -- the wires that the probes read, by what a probe reads
         read-alike :
@@ -367,10 +376,9 @@ module _ (a : DAnd.And) where
             ap (λ (r : List ℕ). readAll r ws) (same-run s o (h .plain) (tableWritten c) zs vs is hz hv) in
             record {
               same-left =
-                  second-read ws below
-                  ∙ ap (λ (v : List ℕ). readAll (maskedRun G o plain ys v) ws) us-is
+                  second .read ws (in-run ys ms ws (h .second) (of-bits l ms of-ms) below)
                   ∙ I .same-seen bs (h .tape)
-                  ∙ sym (first-read ws below);
+                  ∙ sym (first .read ws (in-run xs bs ws (h .first) (h .tape) below));
               untold =
                   in-bytes l (areSecrets plain) map (readIn o (tableWritten c) ws)
                   (λ zs us′ hz hw.
@@ -389,8 +397,6 @@ module _ (a : DAnd.And) where
 
         assured : Assured G s o xs ys ts ps c
         assured =
-            let d = done .first in
-            let e = done .second in
             record {
               with-pins =
                   subst (λ (m : Table). ReadAlike G s o xs ys ts ps c (ofEach (probeReads m) ps))
@@ -401,24 +407,11 @@ module _ (a : DAnd.And) where
                   (read-alike single (pins-single inBits bits-once G (probeMarks G) plain o hides-pins)
                   (rw (each-single (maskedTable G o plain) ps) probes-below));
               first-run =
-                  filled (c .one) (maskedRun G o plain xs bs) _ (c .map-says .first-run)
-                  (values-count s o (h .plain) (tableWritten c) xs bs is (h .first) (h .tape) (c .first) (d .encode-ok) (d .run-ok))
-                  ∙ sym
-                  (values-written s o (h .plain) (tableWritten c) xs bs is (h .first) (h .tape) (c .first) (d .encode-ok) (d .run-ok));
+                  filled (c .one) (maskedRun G o plain xs bs) _ (c .map-says .first-run) (first .count) ∙ sym (first .ran);
               second-run =
-                  let same-run = ap (maskedRun G o plain ys) us-is in
-                  filled (c .other) (maskedRun G o plain ys ms) _ (c .map-says .second-run)
-                  (ap length (sym same-run)
-                  ∙ values-count s o (h .plain) (tableWritten c) ys us is (h .second) tape-us (c .second) (e .encode-ok) (e .run-ok))
-                  ∙ sym same-run
-                  ∙ sym
-                  (values-written s o (h .plain) (tableWritten c) ys us is (h .second) tape-us (c .second) (e .encode-ok) (e .run-ok));
-              first-decoded =
-                  decoded s o (h .plain) (tableWritten c) xs bs is (h .first) (h .tape) (c .first) (d .encode-ok) (d .run-ok)
-                  (d .decode-ok);
-              second-decoded =
-                  decoded s o (h .plain) (tableWritten c) ys us is (h .second) tape-us (c .second) (e .encode-ok) (e .run-ok)
-                  (e .decode-ok);
+                  filled (c .other) (maskedRun G o plain ys ms) _ (c .map-says .second-run) (second .count) ∙ sym (second .ran);
+              first-decoded = first .decoded;
+              second-decoded = second .decoded;
             }
 
   -- the laws
