@@ -86,14 +86,6 @@ wrote f xs b r w z =
     ap₂ (λ (k : ℕ) (ys : List ℕ). take k ys) (ok .1) (left-0 f xs (b .before) (b .after) (ok .0) (w .written))
     ∙ over-front xs (b .before) (length xs) refl
 
--- the secrets of calls that all answered 0
-pub secrets-of :
-    (G : Gadget) (s : List ℕ) (o : ℕ) (xs ys ts ps : List ℕ) (c : Calls G s o xs ys ts ps) → Done c
-    → (areSecrets (tableOf s) xs ≡ true) × (areSecrets (tableOf s) ys ≡ true)
-secrets-of G s o xs ys ts ps c done =
-    let h = map-good G s o xs ys ts ps _ _ _ (answered-0 _ _ (c .mapping) (c .map-says .answer) (done .map-ok) .0) in
-    (h .first, h .second)
-
 -- what one secret's way left: the values of its run, at the front of their buffer, and what was decoded
 record WayLeft {o : ℕ} {m xs ts : List ℕ} (values outs : List ℕ) (w : Way o m xs ts) : Type 0 where
   count : length values ≡ w .ran .value

@@ -17,7 +17,6 @@ pub mod Written
 pub mod Counted
 pub mod Whole
 pub mod Assurance
-pub mod Earlier
 pub mod FlipsAt
 pub mod Both
 pub mod MapGates
