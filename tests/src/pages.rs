@@ -1,5 +1,6 @@
 //! Tests of the pages: the commands that they show print what is shown, the files that they link are
-//! there, the table of sizes is that of docs/sizes, and the theorem stands in the file as it is quoted.
+//! there, no line is too long, the tables of sizes are those of docs/sizes, and the theorem stands in
+//! the file as it is quoted.
 
 use std::fs;
 use std::os::unix::fs::symlink;
@@ -9,30 +10,30 @@ use std::process::Command;
 use crate::programs::root;
 use crate::running::{Folder, Ran};
 
-const PAGES: [&str; 10] = [
-    "README.md",
-    "CONTRIBUTING.md",
-    "docs/ARCHITECTURE.md",
-    "docs/ASSURANCE.md",
-    "docs/DECISIONS.md",
-    "docs/FORMAT.md",
-    "docs/LANDINGS.md",
-    "docs/PERFORMANCE.md",
-    "examples/README.md",
-    "tests/README.md",
-];
+/// The folders that have pages.
+const FOLDERS: [&str; 5] = ["", "docs/", "docs/landings/", "examples/", "tests/"];
+
+/// The most characters that a line of a page has.
+const LONGEST_LINE: usize = 140;
+
+/// The most lines that README has.
+const README_LINES: usize = 150;
 
 /// All tests of the pages.
 pub fn test() -> Result<(), String> {
     let (mut shown, mut links) = (0, 0);
-    for name in PAGES {
+    let names = pages()?;
+    for name in &names {
         let page = fs::read_to_string(root().join(name)).map_err(|error| told(name, error))?;
+        check_lines(name, &page)?;
         shown += run_commands(name, &page)?;
         links += check_links(name, &page)?;
     }
     check_sizes()?;
-    let quotes = check_quotes()?;
-    println!("pages: {shown} commands, {links} links, the table of sizes, {quotes} quotes");
+    let (pages, quotes) = (names.len(), check_quotes()?);
+    println!(
+        "pages: {pages} of them, {shown} commands, {links} links, the tables of sizes, {quotes} quotes"
+    );
     let functions = check_script()?;
     println!("pages: {functions} functions of the script, each with a line of what it does");
     Ok(())
@@ -40,6 +41,37 @@ pub fn test() -> Result<(), String> {
 
 fn told(name: &str, error: std::io::Error) -> String {
     format!("FAILED: {name}: {error}")
+}
+
+/// The names of all pages, by their place in the project.
+fn pages() -> Result<Vec<String>, String> {
+    let mut names = Vec::new();
+    for folder in FOLDERS {
+        let files = fs::read_dir(root().join(folder)).map_err(|error| told(folder, error))?;
+        let files = files.flatten().filter_map(|file| file.file_name().into_string().ok());
+        let found = names.len();
+        names.extend(
+            files.filter(|file| file.ends_with(".md")).map(|file| folder.to_owned() + &file),
+        );
+        if names.len() == found {
+            return Err(format!("FAILED: '{folder}' has no page"));
+        }
+    }
+    names.sort();
+    Ok(names)
+}
+
+/// No line of a page has too many characters, and README not too many lines.
+fn check_lines(name: &str, page: &str) -> Result<(), String> {
+    let is_long = |line: &str| line.chars().count() > LONGEST_LINE;
+    if let Some(before) = page.lines().position(is_long) {
+        let line = before + 1;
+        return Err(format!("FAILED: {name}: line {line} has more than {LONGEST_LINE} characters"));
+    }
+    if name == "README.md" && page.lines().count() > README_LINES {
+        return Err(format!("FAILED: {name} has more than {README_LINES} lines"));
+    }
+    Ok(())
 }
 
 /// A command that a page shows, and the lines under it.
@@ -111,13 +143,10 @@ fn check_links(name: &str, page: &str) -> Result<usize, String> {
     }
 }
 
-/// docs/ARCHITECTURE.md has the table that docs/sizes prints, and each page that says what to believe has its table.
+/// Each table that docs/sizes prints stands on its page: the sizes of all crates, and what to believe.
 fn check_sizes() -> Result<(), String> {
     check_table("docs/ARCHITECTURE.md", &[])?;
-    for name in ["README.md", "docs/ASSURANCE.md", "docs/ARCHITECTURE.md"] {
-        check_table(name, &["believe"])?;
-    }
-    Ok(())
+    check_table("docs/ASSURANCE.md", &["believe"])
 }
 
 /// A page has the table that docs/sizes prints with the words given.
