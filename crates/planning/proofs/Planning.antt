@@ -7,42 +7,47 @@ use Prim.Native.Nat.{ℕ, zero, suc, _+_, _*_, _≤_, _<_}
 use native.Mathlib.Nat.{mul-le-mul}
 use native.Mathlib.Numerals.{add-one}
 use native.Mathlib.Omega.{arith}
-use borrow.Author.Tests.{lt-ltb, le-ltb, not-false}
+use borrow.Author.Tests.{not-false}
 use lib.Dec.{ltb}
 use lib.ListN.{length, drop, drop-of-length-le}
 use lib.Seq.{drop-cons}
 use Rattle.tables.specs.declared.Refusal as DRefusal
 use Rattle.tables.specs.Refusals.{Fault, fault, none, passed, orElse, refusedIf}
-use Rattle.tables.specs.Tables.{NOT, XOR, AND, CONSTANT, OR, kindOf, noGate, gateOf, Table, wires, word, tableOf}
+use Rattle.tables.specs.Tables.{Kind, NOT, XOR, AND, RANDOM, CONSTANT, OR, UNKNOWN, kindOf, Gate, noGate, gateOf, Table, wires, tableOf}
 use Rattle.tables.specs.Tables.{tableBytes, tableFault, isRandom, randomFault}
 use Rattle.tables.specs.Counted.{countsOf}
 use Rattle.tables.specs.Inside.{Refused}
-use Rattle.tables.proofs.Tests.{both-passed, not-refused, or-else-assoc}
-use Rattle.tables.proofs.Answers.{refused-is, refused-passed, refused-fails, first-of}
-use Rattle.tables.proofs.Total.{total-below, count-small}
+use Rattle.tables.proofs.Tests.{both-passed, first-passed, not-refused, or-else-assoc}
+use Rattle.tables.proofs.Answers.{refused-is, refused-same, refused-passed, refused-fails, first-of}
+use Rattle.tables.proofs.Total.{total-below, total-small}
 use Rattle.tables.proofs.Format.{table-long}
-use Rattle.tables.proofs.Accept.{inputs-of, gates-of-length, outputs-of-length, accepted-few}
+use Rattle.tables.proofs.Accept.{gates-of-length, accepted-few}
 use Rattle.tables.specs.declared.Counts as DCounts
 use Rattle.planning.specs.declared.Totals as DTotals
 use Rattle.planning.specs.declared.Plan as DPlan
+use Rattle.planning.specs.declared.Tally as DTally
+use Rattle.planning.specs.declared.Masked as DMasked
+use Rattle.planning.specs.declared.Tallied as DTallied
+use Rattle.planning.specs.declared.Tallied.the-variants as Tallied
 use Rattle.planning.specs.declared.Planned as DPlanned
 use Rattle.planning.specs.declared.Planned.the-variants as Planned
 use Rattle.construction.specs.Shares.{sharesOf}
 use Rattle.construction.specs.declared.And as DAnd
 use Rattle.construction.specs.declared.And.the-variants.{Isw}
-use Rattle.construction.specs.Gadgets.{isw, gadgetOf}
+use Rattle.construction.specs.Gadgets.{Gadget, isw, gadgetOf}
 use Rattle.construction.specs.Wires.{cost, maskedTable, tapeLong}
 use Rattle.construction.specs.Says.{orderOk, orderFault, tooMany, plainFault}
-use Rattle.construction.specs.Counts.{draws, figuresBy, tooManyBy}
-use Rattle.planning.specs.Plans.{Maskable, FewGates, TotalsSay, Countable, noPlan, planBy, PlannedBy, plannedFault, plannedSizes}
-use Rattle.planning.specs.Plans.{PlanReady, PlanSays, PlanFits, planBytes}
+use Rattle.construction.specs.Counts.{draws, counted, figuresBy}
+use Rattle.planning.specs.Maskable.{maskableFault}
+use Rattle.planning.specs.Plans.{Maskable, FewGates, TotalsSay, Countable, TallyOf, TalliedSays, MaskedBy, tooLarge}
+use Rattle.planning.specs.Plans.{noPlan, planOf, PlannedBy, plannedFault, plannedSizes, PlanReady, PlanSays, PlanFits, planBytes}
 use Rattle.construction.proofs.Passed.{PlainPassed, plain-passed}
 use Rattle.construction.proofs.Orders.{order-range}
 use Rattle.construction.proofs.Lawful.{lawful}
 use Rattle.construction.proofs.Placed.{masked-outputs}
 use Rattle.construction.proofs.Costs.{masked-wires, masked-tape}
-use Rattle.construction.proofs.Figures.{cost-small, draws-small, draws-below}
-use Rattle.construction.proofs.Counted.{manyOf, wires-counted, tape-counted, masked-inputs, eight-counted}
+use Rattle.construction.proofs.Figures.{cost-small, draws-small, draws-below, total-counted}
+use Rattle.construction.proofs.Counted.{figuresOf, wires-counted, tape-counted, masked-inputs}
 
 -- the search for a random gate, at gate i: what is left of the gates
 pub record Searching (t : Table) (i : ℕ) : Type 0 where
@@ -81,51 +86,72 @@ search-end {t} {i} S h = S .rest ∙ rw (drop-of-length-le (t .gates) {i = i} h)
 pub few-times : (c v m : ℕ) → c ≤ 65535 → v ≤ m → c * v ≤ 65535 * m
 few-times c v m h k = mul-le-mul {n₂ = 65535} {m₂ = m} h k
 
+-- so many gates of a kind, times what is at most m
+many-times : (c v m : ℕ) → v ≤ m → c * v ≤ c * m
+many-times c v m h = mul-le-mul {n₂ = c} {m₂ = m} (omega arith) h
+
 -- the totals of counts that a table can have
 module _ {c : DCounts.Counts} {n : ℕ} {r : DTotals.Totals} (F : FewGates c) (few : n ≤ 31) (T : TotalsSay c n r) where
-  pub few-total-wires : r .wires ≤ 5 * (65535 * 3289)
+  pub few-total-wires : r .wires ≤ 65535 * 3289
   few-total-wires =
       omega (
         arith,
+        F .all,
         T .wires,
-        few-times (c .nots) (cost NOT n) 3289 (F .nots) (cost-small NOT n few),
-        few-times (c .xors) (cost XOR n) 3289 (F .xors) (cost-small XOR n few),
-        few-times (c .ands) (cost AND n) 3289 (F .ands) (cost-small AND n few),
-        few-times (c .constants) (cost CONSTANT n) 3289 (F .constants) (cost-small CONSTANT n few),
-        few-times (c .ors) (cost OR n) 3289 (F .ors) (cost-small OR n few),
+        many-times (c .nots) (cost NOT n) 3289 (cost-small NOT n few),
+        many-times (c .xors) (cost XOR n) 3289 (cost-small XOR n few),
+        many-times (c .ands) (cost AND n) 3289 (cost-small AND n few),
+        many-times (c .constants) (cost CONSTANT n) 3289 (cost-small CONSTANT n few),
+        many-times (c .ors) (cost OR n) 3289 (cost-small OR n few),
       )
 
-  pub few-total-draws : r .draws ≤ 2 * (65535 * 465)
+  pub few-total-draws : r .draws ≤ 65535 * 465
   few-total-draws =
       omega (
         arith,
+        F .all,
         T .draws,
-        few-times (c .ands) (draws AND n) 465 (F .ands) (draws-small AND n few),
-        few-times (c .ors) (draws OR n) 465 (F .ors) (draws-small OR n few),
+        many-times (c .ands) (draws AND n) 465 (draws-small AND n few),
+        many-times (c .ors) (draws OR n) 465 (draws-small OR n few),
       )
 
 pub few-shares : {s : List ℕ} {o : ℕ} → Maskable s o → sharesOf o ≤ 31
 few-shares {o = o} M = omega (arith, order-range o (M .order) .1)
+
+-- a plain table's gates of each kind are no more than all of them
+abbrev plainOne : Kind → ℕ
+plainOne NOT = 1
+plainOne XOR = 1
+plainOne AND = 1
+plainOne RANDOM = 0
+plainOne CONSTANT = 1
+plainOne OR = 1
+plainOne (UNKNOWN k) = 0
+
+one-at-most : (k : Kind) → plainOne k ≤ 1
+one-at-most NOT = omega arith
+one-at-most XOR = omega arith
+one-at-most AND = omega arith
+one-at-most RANDOM = omega arith
+one-at-most CONSTANT = omega arith
+one-at-most OR = omega arith
+one-at-most (UNKNOWN k) = omega arith
+
+counts-few : (gs : List Gate) → length gs ≤ 65535 → FewGates (countsOf gs)
+counts-few gs h =
+    record { all = omega (arith, h, total-counted plainOne (λ k. refl) gs, total-small plainOne 1 one-at-most gs) }
 
 -- the counts of an accepted table, at an order that 6 accepts
 pub countable :
     {s : List ℕ} {o i q : ℕ} {c : DCounts.Counts} → Maskable s o → i < 65536 → q < 65536 → c ≡ countsOf (tableOf s .gates)
     → Countable o i q c
 countable {s} {o} M hi hq e =
-    let gs = tableOf s .gates in
-    let few = accepted-few s (M .table) in
     record {
       order = few-shares M;
       inputs = omega (arith, hi);
       outputs = omega (arith, hq);
       gates = rw e
-          (record {
-            nots = omega (arith, count-small 0 gs, gates-of-length s, few);
-            xors = omega (arith, count-small 1 gs, gates-of-length s, few);
-            ands = omega (arith, count-small 2 gs, gates-of-length s, few);
-            constants = omega (arith, count-small 4 gs, gates-of-length s, few);
-            ors = omega (arith, count-small 5 gs, gates-of-length s, few);
-          });
+          (counts-few (tableOf s .gates) (omega (arith, gates-of-length s, accepted-few s (M .table))));
     }
 
 -- an answer that refuses
@@ -142,20 +168,15 @@ refuses {f} {s} {o} {r} R h =
 
 -- the checks of the plan in their order: 1 to 5, then 6 and 7, then 8
 pub table-refused :
-    {s : List ℕ} {o : ℕ} {r : DRefusal.Refusal} → Refused (tableFault s) r → (r .number ≡ 0 → ⊥)
-    → (a : DAnd.And) → PlanSays (plainFault (gadgetOf a) s o) s o (Planned.Refused r)
-unfolding plainFault
-table-refused R h a = refuses (first-of _ R h) h
+    (s : List ℕ) (o : ℕ) {r : DRefusal.Refusal} → Refused (tableFault s) r → (r .number ≡ 0 → ⊥) → Refused (maskableFault s o) r
+unfolding maskableFault
+table-refused s o R h = first-of _ R h
 
-module _ {s : List ℕ} {o : ℕ} {r : DRefusal.Refusal} (T : passed (tableFault s) ≡ true)
+module _ (s : List ℕ) (o : ℕ) {r : DRefusal.Refusal} (T : passed (tableFault s) ≡ true)
     (R : Refused (orElse (orderFault o) (randomFault 0 (tableOf s .gates))) r) where
-  pub chain-refused : (r .number ≡ 0 → ⊥) → (a : DAnd.And) → PlanSays (plainFault (gadgetOf a) s o) s o (Planned.Refused r)
-  unfolding plainFault
-  chain-refused h a =
-      let many = refusedIf (tooMany (gadgetOf a) o (tableOf s)) 8 in
-      refuses
-      (rw (T, or-else-assoc (orderFault o) (randomFault 0 (tableOf s .gates)) many) (first-of many R h))
-      h
+  pub chain-refused : Refused (maskableFault s o) r
+  unfolding maskableFault
+  chain-refused = rw T R
 
   pub maskable : r .number ≡ 0 → Maskable s o
   maskable h =
@@ -166,82 +187,132 @@ module _ {s : List ℕ} {o : ℕ} {r : DRefusal.Refusal} (T : passed (tableFault
         plain = both .1;
       }
 
--- 8 or the sizes by the formula, from what the code has computed: n shares, and the gates' totals
-module _ (o i g q : ℕ) {n : ℕ} {c : DCounts.Counts} {r : DTotals.Totals} (en : n ≡ sharesOf o) (T : TotalsSay c n r) where
+pub maskable-passed : {s : List ℕ} {o : ℕ} → Maskable s o → passed (maskableFault s o) ≡ true
+unfolding maskableFault
+maskable-passed M = rw (M .table, M .order, M .plain)
+
+eight-last :
+    (G : Gadget) (s : List ℕ) (o : ℕ)
+    → plainFault G s o ≡ orElse (maskableFault s o) (refusedIf (tooMany G o (tableOf s)) 8)
+unfolding plainFault maskableFault
+eight-last G s o =
+    let random = randomFault 0 (tableOf s .gates) in
+    let many = refusedIf (tooMany G o (tableOf s)) 8 in
+    ap (λ (f : Fault). orElse (tableFault s) f) (or-else-assoc (orderFault o) random many)
+    ∙ or-else-assoc (tableFault s) (orElse (orderFault o) random) many
+
+pub seven-refused :
+    {s : List ℕ} {o : ℕ} {r : DRefusal.Refusal} → TalliedSays s o (Tallied.Refused r)
+    → (a : DAnd.And) → PlanSays (plainFault (gadgetOf a) s o) s o (Planned.Refused r)
+seven-refused {s} {o} {r} R a =
+    refuses (refused-same (eight-last (gadgetOf a) s o) (first-of (refusedIf (tooMany (gadgetOf a) o (tableOf s)) 8) (R .0) (R .1))) (R .1)
+
+-- what a tally says, by its case
+pub tallied-as : (s : List ℕ) (o : ℕ) {r q : DTallied.Tallied} → TalliedSays s o r → r ≡ q → TalliedSays s o q
+tallied-as s o T e = subst (λ (x : DTallied.Tallied). TalliedSays s o x) e T
+
+-- the masked sizes by the formula, from what the code has computed: n shares, and the gates' totals
+module _ (o i q : ℕ) {n : ℕ} {c : DCounts.Counts} {r : DTotals.Totals} (en : n ≡ sharesOf o) (T : TotalsSay c n r) where
   all : TotalsSay c (sharesOf o) r
   all = subst (λ (m : ℕ). TotalsSay c m r) en T
 
-  by-wires : n * i + r .wires ≡ figuresBy o i q c .wires
-  by-wires = λ j. en j * i + all .wires j
-
-  by-many : {b d : Bool} → ltb 65535 (n * i + r .wires) ≡ b → ltb 65535 (n * q) ≡ d → tooManyBy o i q c ≡ (b || d)
-  by-many x y = sym (λ j. ltb 65535 (by-wires j) || ltb 65535 (en j * q)) ∙ (λ j. x j || y j)
-
-  by-eight : {z : DRefusal.Refusal} → tooManyBy o i q c ≡ true → Refused (fault 8 0) z → PlannedBy o i g q c (Planned.Refused z)
-  by-eight e R = record {
-    fault = (λ j. record { number = R .number j; place = R .place j }) ∙ sym (ap (λ (b : Bool). refusedIf b 8) e);
-    sizes = sym (ap (λ (b : Bool). cond b noPlan (planBy o i g q c)) e);
+  pub masked-by :
+      MaskedBy o i q c
+      (record {
+        shares = n;
+        gates = r .wires;
+        wires = n * i + r .wires;
+        outputs = n * q;
+        tape = 2 * o * i + r .draws;
+      })
+  masked-by = record {
+    shares = en;
+    gates = all .wires;
+    wires = λ j. en j * i + all .wires j;
+    outputs = λ j. en j * q;
+    tape = λ j. 2 * o * i + all .draws j;
   }
 
-  pub many-wires : {z : DRefusal.Refusal} → Refused (fault 8 0) z → 65535 < n * i + r .wires → PlannedBy o i g q c (Planned.Refused z)
-  many-wires R h = by-eight (by-many (lt-ltb 65535 _ h) refl) R
+-- masked sizes are small
+pub record MaskedFits (m : DMasked.Masked) : Type 0 where
+  pub shares : m .shares ≤ 31
+  pub gates : m .gates ≤ 65535 * 3289
+  pub wires : m .wires ≤ 65535 * 3320
+  pub outputs : m .outputs ≤ 65535 * 31
+  pub tape : m .tape ≤ 65535 * 496
 
-  pub many-outputs :
-      {z : DRefusal.Refusal} → Refused (fault 8 0) z → n * i + r .wires ≤ 65535 → 65535 < n * q
-      → PlannedBy o i g q c (Planned.Refused z)
-  many-outputs R h k = by-eight (by-many (le-ltb 65535 _ h) (lt-ltb 65535 _ k)) R
+pub masked-fits : {o i q : ℕ} {c : DCounts.Counts} {m : DMasked.Masked} → Countable o i q c → MaskedBy o i q c m → MaskedFits m
+masked-fits {o} {i} {q} {c} {m} C M =
+    let r : DTotals.Totals = record { wires = m .gates; draws = counted (λ k. draws k (sharesOf o)) c } in
+    let T : TotalsSay c (sharesOf o) r = record { wires = M .gates; draws = refl } in
+    let gates = few-total-wires (C .gates) (C .order) T in
+    let inputs = few-times i (sharesOf o) 31 (C .inputs) (C .order) in
+    record {
+      shares = omega (arith, M .shares, C .order);
+      gates = gates;
+      wires = omega (arith, M .wires, M .gates, gates, inputs);
+      outputs = omega (arith, M .outputs, few-times q (sharesOf o) 31 (C .outputs) (C .order));
+      tape = omega (arith, M .tape, few-total-draws (C .gates) (C .order) T, inputs);
+    }
 
-  pub plan-ready :
-      n * i + r .wires ≤ 65535 → n * q ≤ 65535
-      → PlannedBy o i g q c
-      (Planned.Ready
-      (record {
-        order = o;
-        inputs = i;
-        gates = g;
-        outputs = q;
-        shares = n;
-        wires = n * i + r .wires;
-        tape = 2 * o * i + r .draws;
-      }))
-  plan-ready h k =
-      let e = by-many (le-ltb 65535 _ h) (le-ltb 65535 _ k) in
-      record {
-        fault = sym (ap (λ (b : Bool). refusedIf b 8) e);
-        sizes = (λ j.
-            record {
-              order = o;
-              inputs = i;
-              gates = g;
-              outputs = q;
-              shares = en j;
-              wires = by-wires j;
-              tape = 2 * o * i + all .draws j;
-            })
-            ∙ sym (ap (λ (b : Bool). cond b noPlan (planBy o i g q c)) e);
-      }
+-- 8 by masked sizes, or the plan
+pub planned-large :
+    {o : ℕ} {y : DTally.Tally} {m : DMasked.Masked} {z : DRefusal.Refusal} → tooLarge m ≡ true → Refused (fault 8 0) z
+    → PlannedBy o y m (Planned.Refused z)
+planned-large {o} {y} {m} e R = record {
+  fault = (λ j. record { number = R .number j; place = R .place j }) ∙ sym (ap (λ (b : Bool). refusedIf b 8) e);
+  sizes = sym (ap (λ (b : Bool). cond b noPlan (planOf o y m)) e);
+}
 
--- what was planned by the formula, from the sizes that the table states and its counts, is what the table comes to
-pub planned-counted :
-    {s : List ℕ} {o i g q : ℕ} {c : DCounts.Counts} {r : DPlanned.Planned} → Maskable s o → i ≡ word s 0 → g ≡ word s 2 → q ≡ word s 4
-    → c ≡ countsOf (tableOf s .gates) → PlannedBy o i g q c r
+pub planned-small :
+    {o : ℕ} {y : DTally.Tally} {m : DMasked.Masked} → tooLarge m ≡ false → PlannedBy o y m (Planned.Ready (planOf o y m))
+planned-small {o} {y} {m} e = record {
+  fault = sym (ap (λ (b : Bool). refusedIf b 8) e);
+  sizes = sym (ap (λ (b : Bool). cond b noPlan (planOf o y m)) e);
+}
+
+-- the masked sizes of a table by its tally
+module _ {t : Table} {y : DTally.Tally} {o : ℕ} {m : DMasked.Masked} (T : TallyOf t y) (M : MaskedBy o (y .inputs) (y .outputs) (y .counts) m) where
+  tally-wires : m .wires ≡ figuresOf o t .wires
+  tally-wires = M .wires ∙ (λ j. figuresBy o (T .inputs j) (T .outputs j) (T .counts j) .wires)
+
+  pub tally-outputs : m .outputs ≡ sharesOf o * length (t .outputs)
+  tally-outputs = M .outputs ∙ (λ j. sharesOf o * T .outputs j)
+
+  module _ (a : DAnd.And) where
+    pub wires-masked : m .wires ≡ wires (maskedTable (gadgetOf a) o t)
+    wires-masked = tally-wires ∙ sym (wires-counted (gadgetOf a) o t)
+
+    pub gates-masked : m .gates ≡ length (maskedTable (gadgetOf a) o t .gates)
+    gates-masked =
+        let inputs : sharesOf o * y .inputs ≡ sharesOf o * t .inputs = λ j. sharesOf o * T .inputs j in
+        omega (arith, wires-masked, M .wires, M .gates, inputs, masked-inputs (gadgetOf a) o t)
+
+    pub tape-masked : m .tape ≡ tapeLong (gadgetOf a) o t
+    tape-masked =
+        M .tape
+        ∙ (λ j. figuresBy o (T .inputs j) (T .outputs j) (T .counts j) .tape)
+        ∙ sym (tape-counted (gadgetOf a) o t (lawful a))
+
+    pub large-many : tooLarge m ≡ tooMany (gadgetOf a) o t
+    large-many = λ j. ltb 65535 (wires-masked j) || ltb 65535 (tally-outputs j)
+
+-- what was planned by the masked sizes of a table's tally is what the table comes to
+pub planned-tally :
+    {s : List ℕ} {o : ℕ} {y : DTally.Tally} {m : DMasked.Masked} {r : DPlanned.Planned} → Maskable s o → TallyOf (tableOf s) y
+    → MaskedBy o (y .inputs) (y .outputs) (y .counts) m → PlannedBy o y m r
     → (a : DAnd.And) → PlanSays (plainFault (gadgetOf a) s o) s o r
-planned-counted {s} {o} {i} {g} {q} {c} {r} M ei eg eq ec P a =
-    let t = tableOf s in
-    let inputs : i ≡ t .inputs = ei ∙ sym (inputs-of s) in
-    let gates : g ≡ length (t .gates) = eg ∙ sym (gates-of-length s) in
-    let outputs : q ≡ length (t .outputs) = eq ∙ sym (outputs-of-length s) in
-    by-case (manyOf o t) (λ b. eight-counted (gadgetOf b) s o (M .table) (M .order) (M .plain))
-    (P .fault ∙ (λ j. refusedIf (tooManyBy o (inputs j) (outputs j) (ec j)) 8))
-    (P .sizes
-    ∙ (λ j. cond (tooManyBy o (inputs j) (outputs j) (ec j)) noPlan (planBy o (inputs j) (gates j) (outputs j) (ec j))))
+planned-tally {s} {o} {y} {m} {r} S T M P a =
+    by-case (tooLarge m)
+    (λ b. eight-last (gadgetOf b) s o
+    ∙ first-passed (maskableFault s o) _ (maskable-passed S)
+    ∙ ap (λ (x : Bool). refusedIf x 8) (sym (large-many T M b)))
+    (P .fault)
+    (P .sizes)
   where
-    whole : DPlan.Plan
-    whole = planBy o (tableOf s .inputs) (length (tableOf s .gates)) (length (tableOf s .outputs)) (countsOf (tableOf s .gates))
-
     by-case :
         (b : Bool) → ((a : DAnd.And) → plainFault (gadgetOf a) s o ≡ refusedIf b 8) → plannedFault r ≡ refusedIf b 8
-        → plannedSizes r ≡ cond b noPlan whole → PlanSays (plainFault (gadgetOf a) s o) s o r
+        → plannedSizes r ≡ cond b noPlan (planOf o y m) → PlanSays (plainFault (gadgetOf a) s o) s o r
     by-case true e f z =
         subst (λ (x : Fault). PlanSays x s o r) (sym (e a))
         (record {
@@ -257,12 +328,12 @@ planned-counted {s} {o} {i} {g} {q} {c} {r} M ei eg eq ec P a =
           sizes = λ h. subst (λ (p : DPlan.Plan). PlanReady s p) (sym z)
               (record {
                 none = e;
-                inputs = refl;
-                gates = refl;
-                outputs = refl;
-                shares = refl;
-                wires = λ b. sym (wires-counted (gadgetOf b) o (tableOf s));
-                tape = λ b. sym (tape-counted (gadgetOf b) o (tableOf s) (lawful b));
+                inputs = T .inputs;
+                gates = T .gates;
+                outputs = T .outputs;
+                shares = M .shares;
+                wires = wires-masked T M;
+                tape = tape-masked T M;
               });
         })
 

@@ -2,31 +2,35 @@
 -- that answers, or the sizes of the masked table.
 -- Assumes nothing.
 use mathlib.Core.Path.{_≡_}
-use mathlib.Core.Bool.{true, cond}
+use mathlib.Core.Bool.{Bool, true, _||_, cond}
 use mathlib.Core.List.{List}
-use Prim.Native.Nat.{ℕ, _-_, _*_, _≤_}
+use Prim.Native.Nat.{ℕ, _+_, _-_, _*_, _≤_}
+use lib.Dec.{ltb}
 use lib.ListN.{length}
 use Rattle.tables.specs.declared.Counts as DCounts
 use Rattle.planning.specs.declared.Plan as DPlan
 use Rattle.planning.specs.declared.Totals as DTotals
+use Rattle.planning.specs.declared.Tally as DTally
+use Rattle.planning.specs.declared.Masked as DMasked
+use Rattle.planning.specs.declared.Tallied as DTallied
+use Rattle.planning.specs.declared.Tallied.the-variants as Tallied
 use Rattle.planning.specs.declared.Planned as DPlanned
 use Rattle.planning.specs.declared.Planned.the-variants as Planned
 use Rattle.tables.specs.Refusals.{Fault, fault, none, passed, refusedIf}
-use Rattle.tables.specs.Tables.{wires, tableOf, tableFault, randomFault, tableLong}
+use Rattle.tables.specs.Tables.{Table, wires, tableOf, tableFault, randomFault, tableLong}
+use Rattle.tables.specs.Counted.{countsOf}
+use Rattle.tables.specs.Inside.{Refused}
 use Rattle.construction.specs.Shares.{sharesOf}
 use Rattle.construction.specs.declared.And as DAnd
 use Rattle.construction.specs.Gadgets.{gadgetOf}
 use Rattle.construction.specs.Wires.{cost, maskedTable, tapeLong}
 use Rattle.construction.specs.Says.{orderOk, plainFault}
-use Rattle.construction.specs.Counts.{draws, counted, figuresBy, tooManyBy}
+use Rattle.construction.specs.Counts.{draws, counted, figuresBy}
+use Rattle.planning.specs.Maskable.{maskableFault}
 
--- no more gates of a kind than a table can have
+-- no more gates than a plain table can have
 pub record FewGates (c : DCounts.Counts) : Type 0 where
-  pub nots : c .nots ≤ 65535
-  pub xors : c .xors ≤ 65535
-  pub ands : c .ands ≤ 65535
-  pub constants : c .constants ≤ 65535
-  pub ors : c .ors ≤ 65535
+  pub all : c .nots + c .xors + c .ands + c .constants + c .ors ≤ 65535
 
 -- what so many gates of each kind cost and draw at n shares
 pub record TotalsSay (c : DCounts.Counts) (n : ℕ) (r : DTotals.Totals) : Type 0 where
@@ -60,24 +64,46 @@ abbrev pub plannedSizes : DPlanned.Planned → DPlan.Plan
 plannedSizes (Planned.Refused r) = noPlan
 plannedSizes (Planned.Ready p) = p
 
--- the plan by the formula, of i inputs, g gates, q outputs and the counts c
-abbrev pub planBy : ℕ → ℕ → ℕ → ℕ → DCounts.Counts → DPlan.Plan
-planBy o i g q c =
-    let f = figuresBy o i q c in
-    record {
-      order = o;
-      inputs = i;
-      gates = g;
-      outputs = q;
-      shares = f .shares;
-      wires = f .wires;
-      tape = f .tape;
-    }
+-- the sizes of a plain table, and its gates of each kind
+pub record TallyOf (t : Table) (y : DTally.Tally) : Type 0 where
+  pub inputs : y .inputs ≡ t .inputs
+  pub gates : y .gates ≡ length (t .gates)
+  pub outputs : y .outputs ≡ length (t .outputs)
+  pub counts : y .counts ≡ countsOf (t .gates)
 
--- planning by the formula: 8, or the sizes
-pub record PlannedBy (o i g q : ℕ) (c : DCounts.Counts) (r : DPlanned.Planned) : Type 0 where
-  pub fault : plannedFault r ≡ refusedIf (tooManyBy o i q c) 8
-  pub sizes : plannedSizes r ≡ cond (tooManyBy o i q c) noPlan (planBy o i g q c)
+-- the first of 1 to 7, or the sizes and the gates of each kind of a table that they accept
+abbrev pub TalliedSays : List ℕ → ℕ → DTallied.Tallied → Type 0
+TalliedSays s o (Tallied.Refused r) = Refused (maskableFault s o) r × (r .number ≡ 0 → ⊥)
+TalliedSays s o (Tallied.Ready y) = Maskable s o × TallyOf (tableOf s) y × Countable o (y .inputs) (y .outputs) (y .counts)
+
+-- the masked sizes by the formula, of i inputs, q outputs and the counts c
+pub record MaskedBy (o i q : ℕ) (c : DCounts.Counts) (m : DMasked.Masked) : Type 0 where
+  pub shares : m .shares ≡ figuresBy o i q c .shares
+  pub gates : m .gates ≡ counted (λ k. cost k (sharesOf o)) c
+  pub wires : m .wires ≡ figuresBy o i q c .wires
+  pub outputs : m .outputs ≡ sharesOf o * q
+  pub tape : m .tape ≡ figuresBy o i q c .tape
+
+-- 8 refuses masked sizes
+abbrev pub tooLarge : DMasked.Masked → Bool
+tooLarge m = ltb 65535 (m .wires) || ltb 65535 (m .outputs)
+
+-- the plan of masked sizes
+abbrev pub planOf : ℕ → DTally.Tally → DMasked.Masked → DPlan.Plan
+planOf o y m = record {
+  order = o;
+  inputs = y .inputs;
+  gates = y .gates;
+  outputs = y .outputs;
+  shares = m .shares;
+  wires = m .wires;
+  tape = m .tape;
+}
+
+-- planning by masked sizes: 8, or the plan
+pub record PlannedBy (o : ℕ) (y : DTally.Tally) (m : DMasked.Masked) (r : DPlanned.Planned) : Type 0 where
+  pub fault : plannedFault r ≡ refusedIf (tooLarge m) 8
+  pub sizes : plannedSizes r ≡ cond (tooLarge m) noPlan (planOf o y m)
 
 -- none of 1 to 8 refuses at the plan's order, and these are the sizes of the plain table and of its masked table, with whichever AND
 pub record PlanReady (s : List ℕ) (p : DPlan.Plan) : Type 0 where

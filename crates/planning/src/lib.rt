@@ -1,7 +1,7 @@
 // What a plain table and an order come to: refusals 1 to 8, or the sizes of the masked table.
 ghost use mathlib.Core.Path.{_≡_};
 ghost use Prim.Native.Nat.{_*_, _≤_};
-ghost use Rattle.tables.specs.Tables.{kindOf, tableOf, randomFault, total};
+ghost use Rattle.tables.specs.Tables.{kindOf, tableOf, tableLong, randomFault, total};
 ghost use Rattle.tables.specs.Counted.{ofKind};
 ghost use Rattle.tables.specs.Inside.{Refused, HasGates};
 ghost use Rattle.construction.specs.declared.And as DAnd;
@@ -9,7 +9,8 @@ ghost use Rattle.construction.specs.Gadgets.{gadgetOf};
 ghost use Rattle.construction.specs.Wires.{cost};
 ghost use Rattle.construction.specs.Counts.{draws};
 ghost use Rattle.construction.specs.Says.{plainFault};
-ghost use Rattle.planning.specs.Plans.{FewGates, TotalsSay, Countable, PlannedBy, PlanSays, PlanFits, planBytes};
+ghost use Rattle.planning.specs.Plans.{FewGates, TotalsSay, Countable, TalliedSays, MaskedBy, tooLarge};
+ghost use Rattle.planning.specs.Plans.{PlannedBy, PlanSays, PlanFits, planBytes};
 
 // The order and the sizes of a plain table that 1 to 8 accept at it, and its masked table's wires and tape bits.
 pub struct Plan {
@@ -26,6 +27,29 @@ pub struct Plan {
 pub enum Planned {
     Refused(tables::Refusal),
     Ready(Plan),
+}
+
+// The sizes of a plain table, and how many of its gates are of each kind.
+pub struct Tally {
+    pub inputs: usize,
+    pub gates: usize,
+    pub outputs: usize,
+    pub counts: tables::Counts,
+}
+
+// Whether 1 to 7 accept a plain table at an order: the refusal, or what its masked sizes follow from.
+pub enum Tallied {
+    Refused(tables::Refusal),
+    Ready(Tally),
+}
+
+// The sizes of a masked table, also of one that 8 refuses.
+pub struct Masked {
+    pub shares: usize,
+    pub gates: usize,
+    pub wires: usize,
+    pub outputs: usize,
+    pub tape: usize,
 }
 
 // The masked wires and the random bits of a plain table's gates, in all.
@@ -84,45 +108,55 @@ fn gate_totals(counts: tables::Counts, n: usize) -> Totals
     }
 }
 
-// 8, or the sizes, by the formula: from the order, the stated sizes and the gates of each kind alone.
-fn plan_sizes(
-    order: u8,
-    inputs: usize,
-    gates: usize,
-    outputs: usize,
-    counts: tables::Counts,
-) -> Planned
+// The masked sizes by the formula: from the order, the stated sizes and the gates of each kind alone.
+pub fn masked_sizes(order: u8, inputs: usize, outputs: usize, counts: tables::Counts) -> Masked
     requires { ⌜ Countable order inputs outputs counts ⌝ }
-    ensures { λ r. ⌜ PlannedBy order inputs gates outputs counts r ⌝ }
+    ensures { λ r. ⌜ MaskedBy order inputs outputs counts r ⌝ }
 {
     let order = order as usize;
     let shares = 2 * order + 1;
     let all = gate_totals(counts, shares);
-    let wires = shares * inputs + all.wires;
-    if wires > 65535 {
-        return Planned::Refused(tables::refuse(8, 0));
+    Masked {
+        shares,
+        gates: all.wires,
+        wires: shares * inputs + all.wires,
+        outputs: shares * outputs,
+        tape: 2 * order * inputs + all.draws,
     }
-    if shares * outputs > 65535 {
+}
+
+// Whether 8 refuses masked sizes.
+pub fn too_large(masked: Masked) -> bool
+    ensures { λ r. ⌜ r ≡ tooLarge masked ⌝ }
+{
+    (masked.wires > 65535) | (masked.outputs > 65535)
+}
+
+// 8 by masked sizes that are given, or the plan.
+fn plan_sizes(order: u8, tally: Tally, masked: Masked) -> Planned
+    ensures { λ r. ⌜ PlannedBy order tally masked r ⌝ }
+{
+    if too_large(masked) {
         return Planned::Refused(tables::refuse(8, 0));
     }
     Planned::Ready(Plan {
-        order,
-        inputs,
-        gates,
-        outputs,
-        shares,
-        wires,
-        tape: 2 * order * inputs + all.draws,
+        order: order as usize,
+        inputs: tally.inputs,
+        gates: tally.gates,
+        outputs: tally.outputs,
+        shares: masked.shares,
+        wires: masked.wires,
+        tape: masked.tape,
     })
 }
 
-// What a plain table and an order come to: the first of refusals 1 to 8, or the sizes.
-pub fn plan_table(table: &[u8], order: u8) -> Planned
-    ensures { λ r. ⌜ ((a : DAnd.And) → PlanSays (plainFault (gadgetOf a) (now (table .entry)) order) (now (table .entry)) order r) ⌝ }
+// The first of refusals 1 to 7 for a plain table and an order, or the table's sizes and its gates of each kind.
+pub fn tally_table(table: &[u8], order: u8) -> Tallied
+    ensures { λ r. ⌜ TalliedSays (now (table .entry)) order r ⌝ }
 {
     let found = checking::table_fault(table);
     if found.number != 0 {
-        return Planned::Refused(found);
+        return Tallied::Refused(found);
     }
     let inputs = tables::field(table, 0);
     let gates = tables::field(table, 2);
@@ -131,9 +165,39 @@ pub fn plan_table(table: &[u8], order: u8) -> Planned
     let random = random_fault(table, gates, counts.randoms);
     let first = tables::first_of(construction::order_fault(order), random);
     if first.number != 0 {
-        return Planned::Refused(first);
+        return Tallied::Refused(first);
     }
-    plan_sizes(order, inputs, gates, outputs, counts)
+    Tallied::Ready(Tally {
+        inputs,
+        gates,
+        outputs,
+        counts,
+    })
+}
+
+// What a plain table and an order come to: the first of refusals 1 to 8, or the sizes.
+pub fn plan_table(table: &[u8], order: u8) -> Planned
+    ensures { λ r. ⌜ ((a : DAnd.And) → PlanSays (plainFault (gadgetOf a) (now (table .entry)) order) (now (table .entry)) order r) ⌝ }
+{
+    let tallied = tally_table(table, order);
+    match tallied {
+        Tallied::Refused(f) => {
+            return Planned::Refused(f);
+        }
+        Tallied::Ready(t) => {
+            let counts = t.counts;
+            let masked = masked_sizes(order, t.inputs, t.outputs, counts);
+            return plan_sizes(order, t, masked);
+        }
+    }
+}
+
+// How many bytes a table of so many gates and outputs has.
+pub fn table_bytes(gates: usize, outputs: usize) -> usize
+    requires { ⌜ (gates ≤ 4294967295) × (outputs ≤ 4294967295) ⌝ }
+    ensures { λ r. ⌜ r ≡ tableLong gates outputs ⌝ }
+{
+    6 + 5 * gates + 2 * outputs
 }
 
 // How many bytes the masked table of a plan has.
@@ -141,6 +205,5 @@ pub fn plan_bytes(p: Plan) -> usize
     requires { ⌜ PlanFits p ⌝ }
     ensures { λ r. ⌜ r ≡ planBytes p ⌝ }
 {
-    let gates = p.wires - p.shares * p.inputs;
-    6 + 5 * gates + 2 * (p.shares * p.outputs)
+    table_bytes(p.wires - p.shares * p.inputs, p.shares * p.outputs)
 }

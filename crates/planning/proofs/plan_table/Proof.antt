@@ -1,103 +1,43 @@
--- `planning::plan_table` meets its contract: each refusal is the first of the chain, and what passes is planned by its counts.
+-- `planning::plan_table` meets its contract: one of 1 to 7, or 8 or the plan by the table's masked sizes.
 -- Assumes nothing.
-use mathlib.Core.Path.{ap}
-use native.Mathlib.Omega.{arith}
 use borrow.Author.Needs.{needs}
-use Rattle.tables.specs.declared.Counts as DCounts
-use Rattle.tables.proofs.Answers.{refused-passed}
-use Rattle.tables.proofs.Accept.{accepted-long, has-gates}
-use Rattle.planning.specs.Plans.{Maskable}
-use Rattle.planning.proofs.Planning.{table-refused, chain-refused, maskable, countable, planned-counted}
+use Rattle.planning.proofs.Planning.{tallied-as, seven-refused, planned-tally}
 use Rattle.planning.proofs.plan_table.Statement.{statement}
 use Rattle.planning.proofs.plan_table.Tie as tie
 
-table-fault-requires : tie.Need-table-fault-requires
-table-fault-requires c κs = search needs
+tally-table-requires : tie.Need-tally-table-requires
+tally-table-requires c κs = search needs
+
+enum-known-tallied : tie.Need-enum-known-tallied
+enum-known-tallied c = search needs
 
 returns : tie.Need-returns
-returns c = table-refused (c .before .before .table-fault .ensures) (c .if1 .taken)
+returns c = seven-refused (tallied-as _ _ (c .before .before .before .tally-table .ensures) (c .before .tallied .given .1))
 
-field-requires : tie.Need-field-requires
-field-requires c κs = omega (arith, accepted-long _ (refused-passed (c .before .before .table-fault .ensures) (c .if1 .left)))
+enum-known-tallied-2 : tie.Need-enum-known-tallied-2
+enum-known-tallied-2 c = search needs
 
-field-requires-2 : tie.Need-field-requires-2
-field-requires-2 c κs =
-    let p = c .before in
-    omega (arith, accepted-long _ (refused-passed (p .before .before .table-fault .ensures) (p .if1 .left)))
+masked-sizes-requires : tie.Need-masked-sizes-requires
+masked-sizes-requires c κs =
+    tallied-as _ _ (c .before .before .before .before .tally-table .ensures) (c .before .before .tallied2 .given .1) .2
 
-field-requires-3 : tie.Need-field-requires-3
-field-requires-3 c κs =
-    let p = c .before .before in
-    omega (arith, accepted-long _ (refused-passed (p .before .before .table-fault .ensures) (p .if1 .left)))
-
-count-kinds-requires : tie.Need-count-kinds-requires
-count-kinds-requires c κs =
-    let p = c .before .before .before in
-    has-gates _ (refused-passed (p .before .before .table-fault .ensures) (p .if1 .left)) (c .before .field2 .ensures .0)
-
-random-fault-requires : tie.Need-random-fault-requires
-random-fault-requires c κs =
-    let p = c .before .before .before .before in (
-      has-gates _ (refused-passed (p .before .before .table-fault .ensures) (p .if1 .left)) (c .before .before .field2 .ensures .0),
-      ap (λ (x : DCounts.Counts). x .randoms) (c .count-kinds .ensures),
-    )
-
-order-fault-requires : tie.Need-order-fault-requires
-order-fault-requires c κs = search needs
-
-first-of-requires : tie.Need-first-of-requires
-first-of-requires c κs = search needs
+plan-sizes-requires : tie.Need-plan-sizes-requires
+plan-sizes-requires c κs = search needs
 
 returns-2 : tie.Need-returns-2
 returns-2 c =
-    let p = c .before .before .before .before .before .before .before .before .before in
-    chain-refused
-    (refused-passed (p .before .before .table-fault .ensures) (p .if1 .left))
-    (c .before .before .first-of .ensures _ _ (c .before .before .before .order-fault .ensures)
-    (c .before .before .before .before .random-fault .ensures))
-    (c .if2 .taken)
-
-abbrev start : tie.Else2 → tie.Start
-start c = c .before .before .before .before .before .before .before .before .before .before .before .before .before
-
--- 1 to 7 accept
-accept : (c : tie.Else2) → Maskable (start c .args .table .now) (start c .args .order)
-accept c =
-    let p = c .before .before .before .before .before .before .before .before .before in
-    maskable
-    (refused-passed (p .before .before .table-fault .ensures) (p .if1 .left))
-    (c .before .before .first-of .ensures _ _ (c .before .before .before .order-fault .ensures)
-    (c .before .before .before .before .random-fault .ensures))
-    (c .if2 .left)
-
-plan-sizes-requires : tie.Need-plan-sizes-requires
-plan-sizes-requires c κs =
-    let p = c .before .before .before .before .before in
-    countable (accept c) (p .before .before .before .field .ensures .1) (p .before .field3 .ensures .1) (p .count-kinds .ensures)
-
-returns-3 : tie.Need-returns-3
-returns-3 c =
-    let p = c .before .before .before .before .before .before in
-    planned-counted (accept (c .before))
-    (p .before .before .before .field .ensures .0)
-    (p .before .before .field2 .ensures .0)
-    (p .before .field3 .ensures .0)
-    (p .count-kinds .ensures)
-    (c .plan-sizes .ensures)
+    let T = tallied-as _ _ (c .before .before .before .before .before .before .tally-table .ensures)
+    (c .before .before .before .before .tallied2 .given .1) in
+    planned-tally (T .0) (T .1) (c .before .masked-sizes .ensures) (c .plan-sizes .ensures)
 
 pub plan-table-spec : {M : Type 1} → statement M
 plan-table-spec =
     tie.close
     (tie.spec
-    table-fault-requires
+    tally-table-requires
+    enum-known-tallied
     returns
-    field-requires
-    field-requires-2
-    field-requires-3
-    count-kinds-requires
-    random-fault-requires
-    order-fault-requires
-    first-of-requires
-    returns-2
+    enum-known-tallied-2
+    masked-sizes-requires
     plan-sizes-requires
-    returns-3)
+    returns-2)
