@@ -1,0 +1,3 @@
+-- Laws that the proofs of the sizes program's line cite.
+mod Largest
+mod Line
