@@ -104,4 +104,11 @@ m-cases =
       pins-10 = refl;
       single-pins-10 = refl;
       joined-pins-10 = refl;
+      reads-50 = refl;
+      free-50 = refl;
+      tape-50 = refl;
+      wire-50 = refl;
+      wire-50-stays = refl;
+      first-alone-tape = refl;
+      first-alone-changes-50 = refl;
     }

@@ -1,10 +1,11 @@
 -- The M cases of document 01, "Table of examples", as one table of statements about the definitions, with the costs of an AND,
--- the forecast line, the table without gates and a masked NOT; those with tapes in packed form too (Card 4); and what probes read
--- and carry with their pins (Card 9).
+-- the forecast line, the table without gates and a masked NOT; those with tapes in packed form too (Card 4); what probes read
+-- and carry with their pins (Card 9); and a map of the first AND alone, by which a probe on the second
+-- reads another value.
 -- Assumes nothing.
 use mathlib.Core.Path.{_≡_}
-use mathlib.Core.List.{List, [], _∷_}
-use Prim.Native.Nat.{ℕ, _-_}
+use mathlib.Core.List.{List, [], _∷_, _++_}
+use Prim.Native.Nat.{ℕ, _+_, _-_, _*_}
 use lib.ListN.{getD, take, drop}
 use Rattle.tables.specs.Refusals.{Fault, none, fault}
 use Rattle.tables.specs.Tables.{gate, NOT, XOR, AND, RANDOM, Table, tableOf, tableFault}
@@ -70,6 +71,28 @@ abbrev pub pinsAfter : (ℕ → Table → ℕ → List ℕ) → List ℕ
 pinsAfter mk =
     let ys : List ℕ = 1 ∷ 0 ∷ [] in
     readAll (valuesOf ys (mapped isw mk 1 theAnd secrets ys pinTape (10 ∷ []))) (readsAt 10)
+
+-- two inputs, the AND of them, the AND of this and the second input, output; and a tape for it
+abbrev pub twoAnds : Table
+twoAnds = tableOf (2 ∷ 0 ∷ 2 ∷ 0 ∷ 1 ∷ 0 ∷ 2 ∷ 2 ∷ 0 ∷ 0 ∷ 1 ∷ 0 ∷ 2 ∷ 0 ∷ 1 ∷ 0 ∷ 3 ∷ 0 ∷ [])
+
+abbrev pub twoTape : List ℕ
+twoTape = tape ++ (0 ∷ 0 ∷ 0 ∷ [])
+
+-- the mapped tape of a probe on wire 50, share 2 of the second AND's result
+abbrev pub bothMapped : List ℕ
+bothMapped = mapped isw (probeMarks isw) 1 twoAnds secrets toSecrets twoTape (50 ∷ [])
+
+-- "a map that treats the first AND properly and copies the rest": the inputs' bits and the first AND's are mapped, the others are
+-- the tape's
+abbrev pub firstAlone : List ℕ
+firstAlone =
+    let m = 2 * 1 * twoAnds .inputs + tri (sharesOf 1) in
+    take m bothMapped ++ drop m twoTape
+
+-- the value of wire 50
+abbrev pub wire50 : List ℕ → List ℕ → ℕ
+wire50 xs ts = getD (maskedRun isw 1 twoAnds xs ts) 50 0
 
 -- "The tape 1 0 0 1 1 0 1 becomes the byte 59 in hexadecimal"
 abbrev pub tapeByte : List ℕ
@@ -190,3 +213,12 @@ pub record MCases : Type 0 where
   pub pins-10 : readAll (valuesOf secrets pinTape) (readsAt 10) ≡ 0 ∷ 0 ∷ 0 ∷ []
   pub single-pins-10 : pinsAfter (wireMarks isw) ≡ 0 ∷ 1 ∷ 1 ∷ []
   pub joined-pins-10 : pinsAfter (probeMarks isw) ≡ 0 ∷ 0 ∷ 0 ∷ []
+  -- of two ANDs both are mapped: a probe on share 2 of the second's result has k = 1, and its wire stays
+  pub reads-50 : probeReads (maskedTable isw 1 twoAnds) 50 ≡ 50 ∷ 49 ∷ 40 ∷ []
+  pub free-50 : freeShare (probeMarks isw) 1 twoAnds (50 ∷ []) ≡ 1
+  pub tape-50 : bothMapped ≡ 0 ∷ 0 ∷ 0 ∷ 1 ∷ 0 ∷ 0 ∷ 1 ∷ 1 ∷ 0 ∷ 0 ∷ []
+  pub wire-50 : wire50 secrets twoTape ≡ 0
+  pub wire-50-stays : wire50 toSecrets bothMapped ≡ 0
+  -- where the second AND's random bits are copied, it changes
+  pub first-alone-tape : firstAlone ≡ 0 ∷ 0 ∷ 0 ∷ 1 ∷ 0 ∷ 0 ∷ 1 ∷ 0 ∷ 0 ∷ 0 ∷ []
+  pub first-alone-changes-50 : wire50 toSecrets firstAlone ≡ 1
