@@ -47,7 +47,7 @@ pub fn map_tape(
         }
         planning::Planned::Ready(p) => {
             let k = probes::free_share(and, table, p, probes);
-            map_runs::map_work(and, table, p, k, first, second, tape, mapped, one, other);
+            map_arrays::map_work(and, table, p, k, first, second, tape, mapped, one, other);
             return tables::Answer {
                 number: 0,
                 place: 0,

@@ -18,7 +18,7 @@ pub fn mask_table(and: construction::And, table: &[u8], order: u8, out: &mut [u8
             if out.len() < bytes {
                 return tables::refused(tables::refuse(9, 0));
             }
-            mask_bytes::mask_into(and, table, p, out);
+            mask_arrays::mask_into(and, table, p, out);
             return tables::done(tables::refuse(0, 0), bytes as u32);
         }
     }

@@ -1,22 +1,22 @@
--- `mask_bytes::mask_lean` meets its contract: a tiny table, and any other.
+-- `mask_arrays::mask_into` meets its contract: with little stack where it can be, and else with more.
 -- Assumes nothing.
 use native.Mathlib.Omega.{arith}
-use borrow.Author.Needs.{needs}
 use Rattle.share_places.proofs.Turns.{plan-sized}
-use Rattle.mask_bytes.proofs.mask_lean.Statement.{statement}
-use Rattle.mask_bytes.proofs.mask_lean.Tie as tie
+use borrow.Author.Needs.{needs}
+use Rattle.mask_arrays.proofs.mask_into.Statement.{statement}
+use Rattle.mask_arrays.proofs.mask_into.Tie as tie
 
 add-if1 : tie.Need-add-if1
 add-if1 c = omega (arith, plan-sized (c .before .before .before .pre .0) .plain)
 
-mask-tiny-requires : tie.Need-mask-tiny-requires
-mask-tiny-requires c κs = let pre = c .before .before .before .before .before .pre in (pre .0, c .before .if1 .taken, pre .1)
+mask-lean-requires : tie.Need-mask-lean-requires
+mask-lean-requires c κs = let pre = c .before .before .before .before .before .pre in (pre .0, pre .1)
 
 same-length : tie.Need-same-length
 same-length c = search needs
 
 returns : tie.Need-returns
-returns c = c .before .before .mask-tiny .ensures
+returns c = c .before .before .mask-lean .ensures
 
 mask-any-requires : tie.Need-mask-any-requires
 mask-any-requires c κs = let pre = c .before .before .before .before .before .pre in (pre .0, pre .1)
@@ -27,12 +27,12 @@ same-length-2 c = search needs
 returns-2 : tie.Need-returns-2
 returns-2 c = c .before .before .mask-any .ensures
 
-pub mask-lean-spec : {M : Type 1} → statement M
-mask-lean-spec =
+pub mask-into-spec : {M : Type 1} → statement M
+mask-into-spec =
     tie.close
     (tie.spec
     add-if1
-    mask-tiny-requires
+    mask-lean-requires
     same-length
     returns
     mask-any-requires

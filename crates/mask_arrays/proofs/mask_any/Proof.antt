@@ -1,10 +1,10 @@
--- `mask_bytes::mask_any` meets its contract: a table of each size.
+-- `mask_arrays::mask_any` meets its contract: a table of each size.
 -- Assumes nothing.
 use native.Mathlib.Omega.{arith}
 use borrow.Author.Needs.{needs}
 use Rattle.share_places.proofs.Turns.{plan-sized}
-use Rattle.mask_bytes.proofs.mask_any.Statement.{statement}
-use Rattle.mask_bytes.proofs.mask_any.Tie as tie
+use Rattle.mask_arrays.proofs.mask_any.Statement.{statement}
+use Rattle.mask_arrays.proofs.mask_any.Tie as tie
 
 add-if1 : tie.Need-add-if1
 add-if1 c = omega (arith, plan-sized (c .before .before .before .pre .0) .plain)

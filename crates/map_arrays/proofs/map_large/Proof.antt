@@ -1,4 +1,4 @@
--- `map_runs::map_large` meets its contract: its arrays have room for every table.
+-- `map_arrays::map_large` meets its contract: its arrays have room for every table.
 -- Assumes nothing.
 use mathlib.Core.Path.{sym}
 use Prim.Native.Nat.{ℕ}
@@ -7,8 +7,8 @@ use lib.ListN.{length-replicate}
 use Rattle.share_places.proofs.Placing.{room-of}
 use Rattle.share_places.proofs.Turns.{plan-sized}
 use borrow.Author.Needs.{needs}
-use Rattle.map_runs.proofs.map_large.Statement.{statement}
-use Rattle.map_runs.proofs.map_large.Tie as tie
+use Rattle.map_arrays.proofs.map_large.Statement.{statement}
+use Rattle.map_arrays.proofs.map_large.Tie as tie
 
 slice-aggregate-map-with : tie.Need-slice-aggregate-map-with
 slice-aggregate-map-with c = sym (length-replicate {A = ℕ} 65536 0)

@@ -1,16 +1,16 @@
--- `map_runs::map_work` meets its contract: with little stack where it can be, and else with more.
+-- `map_arrays::map_lean` meets its contract: a tiny table, and any other.
 -- Assumes nothing.
 use native.Mathlib.Omega.{arith}
 use Rattle.share_places.proofs.Turns.{plan-sized}
 use borrow.Author.Needs.{needs}
-use Rattle.map_runs.proofs.map_work.Statement.{statement}
-use Rattle.map_runs.proofs.map_work.Tie as tie
+use Rattle.map_arrays.proofs.map_lean.Statement.{statement}
+use Rattle.map_arrays.proofs.map_lean.Tie as tie
 
 add-if1 : tie.Need-add-if1
 add-if1 c = omega (arith, plan-sized (c .before .before .before .before .before .before .before .before .pre .plan) .plain)
 
-map-lean-requires : tie.Need-map-lean-requires
-map-lean-requires c κs = search needs
+map-tiny-requires : tie.Need-map-tiny-requires
+map-tiny-requires c κs = (c .before .before .before .before .before .before .before .before .before .before .before .before .pre, c .before .before .before .if1 .taken)
 
 same-length : tie.Need-same-length
 same-length c = search needs
@@ -22,10 +22,10 @@ same-length-3 : tie.Need-same-length-3
 same-length-3 c = search needs
 
 returns : tie.Need-returns
-returns c = search needs
+returns c = c .before .before .before .before .before .before .map-tiny .ensures
 
 map-any-requires : tie.Need-map-any-requires
-map-any-requires c κs = search needs
+map-any-requires c κs = c .before .before .before .before .before .before .before .before .before .before .before .before .pre
 
 same-length-4 : tie.Need-same-length-4
 same-length-4 c = search needs
@@ -37,14 +37,14 @@ same-length-6 : tie.Need-same-length-6
 same-length-6 c = search needs
 
 returns-2 : tie.Need-returns-2
-returns-2 c = search needs
+returns-2 c = c .before .before .before .before .before .before .map-any .ensures
 
-pub map-work-spec : {M : Type 1} → statement M
-map-work-spec =
+pub map-lean-spec : {M : Type 1} → statement M
+map-lean-spec =
     tie.close
     (tie.spec
     add-if1
-    map-lean-requires
+    map-tiny-requires
     same-length
     same-length-2
     same-length-3

@@ -1,12 +1,12 @@
--- `mask_bytes::mask_small` meets its contract: its arrays have room.
+-- `mask_arrays::mask_small` meets its contract: its arrays have room.
 -- Assumes nothing.
 use mathlib.Core.Path.{sym}
 use Prim.Native.Nat.{ℕ}
 use lib.ListN.{length-replicate}
 use borrow.Author.Needs.{needs}
 use Rattle.share_places.proofs.Placing.{room-of}
-use Rattle.mask_bytes.proofs.mask_small.Statement.{statement}
-use Rattle.mask_bytes.proofs.mask_small.Tie as tie
+use Rattle.mask_arrays.proofs.mask_small.Statement.{statement}
+use Rattle.mask_arrays.proofs.mask_small.Tie as tie
 
 slice-aggregate-mask-with : tie.Need-slice-aggregate-mask-with
 slice-aggregate-mask-with c = sym (length-replicate {A = ℕ} 2048 0)
