@@ -105,12 +105,12 @@ build_part() {
     keep $names
 }
 
-# The crates that some files are proved and built from; maps has the theorem that mask names.
+# The crates that some files are proved and built from; secrecy has the theorem that mask names.
 crates_of() {
     for name; do
         case $name in
         lib*) echo masks_c ;;
-        mask) echo mask maps ;;
+        mask) echo mask secrecy ;;
         *) echo "$name" ;;
         esac
     done
