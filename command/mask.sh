@@ -60,7 +60,6 @@ mask() {
     else
         write_out "$3"
     fi
-    find_page "$theorem_file"
     mask_answer "$3" >"$scratch/answer"
     unwritten="'$3' is written, but standard output is not"
     answer <"$scratch/answer"
@@ -73,12 +72,14 @@ mask_answer() {
 {"file":$(json_string "$table"),"out":$(json_string "$1"),"order":$order,"and":"$and",
 "shares":$shares,"wires":$masked_wires,"tape_bits":$tape_bits,"bytes":$masked_bytes,
 "theorem":{"name":"$theorem","file":$(json_string "$(whole_path "$theorem_file")")},
+"full_text":$(json_string "$(whole_path "$conditions_file")"),
 "plain_sha256":"$plain_sum","masked_sha256":"$masked_sum"}
 TXT
     else
         cat <<TXT
 $shares shares, $masked_wires wires, $tape_bits tape bits, AND: $and
-Whoever holds at most $needles to it, pins of the touched gates included, learns nothing of the secrets: '$theorem' in $page
+Whoever holds at most $needles to it in a run with a fresh tape, pins of the touched gates included, learns nothing of the secrets:
+'$theorem' in $(shown_page "$theorem_file"), under the conditions in $(shown_page "$conditions_file")
 SHA-256 $plain_sum of the table, $masked_sum of the masked one
 TXT
     fi

@@ -203,6 +203,12 @@ find_page() {
     [ -z "$installed" ] || page=$(readlink -f -- "${home}../../../share/doc/fantzori")/${1##*/}
 }
 
+# The same as it stands in a line.
+shown_page() {
+    find_page "$1"
+    in_a_line "$page"
+}
+
 # The whole path of a page or a proof.
 whole_path() {
     find_page "$1"

@@ -248,12 +248,26 @@ fn works(folder: &Folder, tools: &Tools, prefix: &Path) -> Result<(), String> {
     all_work(&command, &caller, &|run| {
         run.env("PATH", &tools.0);
     })?;
+    proved(&command, &caller, prefix)?;
     for arguments in [&["build"][..], &["test"], &["bench"], &["fuzz", "1"], &["install", "x"]] {
         let ran = Ran::of(Command::new(&command).args(arguments).current_dir(&caller))?;
         let told = format!("fantzori: {} is a command of the project's folder", arguments[0]);
         ensure(ran.is_ended(2, &told), &ran, "it is not told that this one is installed")?;
     }
     Ok(())
+}
+
+/// The installed command names the proof and the page of the conditions as they are installed.
+fn proved(command: &Path, caller: &Path, prefix: &Path) -> Result<(), String> {
+    let ran =
+        Ran::of(Command::new(command).args(["mask", "1", "../table", "out"]).current_dir(caller))?;
+    let pages = fs::canonicalize(prefix.join("share/doc/fantzori"))
+        .map_err(|error| format!("FAILED: {}: {error}", prefix.display()))?;
+    let [proof, page] = ["Whole.antt", "ASSURANCE.md"].map(|name| pages.join(name));
+    let due =
+        format!("'demands' in {}, under the conditions in {}", proof.display(), page.display());
+    let told = ran.out.lines().nth(2) == Some(&due) && proof.is_file() && page.is_file();
+    ensure(ran.is_done() && told, &ran, &due)
 }
 
 /// A replaced program or part of the installed command is not used.

@@ -183,7 +183,7 @@ fn all_work(command: &Path, caller: &Path, prepare: &dyn Fn(&mut Command)) -> Re
     for and in And::BOTH {
         drop(fs::remove_file(&out));
         let ran = run(&with_and(and, &["mask", "1", "../table", "out"]))?;
-        ensure(ran.is_done() && ran.out.lines().count() == 3, &ran, "masking fails")?;
+        ensure(ran.is_done() && ran.out.lines().count() == 4, &ran, "masking fails")?;
         let written = fs::read(&out).map_err(|error| format!("FAILED: OUT: {error}"))?;
         ensure(written == masked_with(and, 1, &the_and())?, &ran, "OUT is another table")?;
     }

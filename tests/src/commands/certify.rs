@@ -204,7 +204,7 @@ fn of_and(and: And) -> &'static str {
 }
 
 /// The whole path of a file of the project that is there.
-fn there(name: &str) -> Result<String, String> {
+pub fn there(name: &str) -> Result<String, String> {
     let path = fs::canonicalize(root().join(name)).map_err(|error| format!("{name}: {error}"))?;
     path.to_str().map(String::from).ok_or("FAILED: the project's folder is no text".into())
 }

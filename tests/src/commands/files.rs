@@ -94,7 +94,7 @@ fn readers(folder: &Folder) -> Result<(), String> {
         let ran = folder.script(&format!("{start}\"$@\" | head -n 1"), &["show", "table"])?;
         ensure(ran.is_done() && ran.out.lines().eq([first]), &ran, "the first line is another")?;
         let ran = folder.script(&format!("{start}\"$@\""), &["mask", "1", "table", "out"])?;
-        ensure(ran.is_done() && ran.out.lines().count() == 3, &ran, "masking fails")?;
+        ensure(ran.is_done() && ran.out.lines().count() == 4, &ran, "masking fails")?;
         let script = format!("{start}\"$@\" 2>told | head -c 1");
         let ran = folder.script(&script, &["mask", "1", "table", "-"])?;
         ensure(

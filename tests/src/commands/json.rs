@@ -9,6 +9,7 @@ use compare::examples::{and_chain, the_and};
 use compare::model::{self, And};
 use compare::samples::samples;
 
+use super::certify::there;
 use super::reader::{Json, escaped, object};
 use crate::running::{Folder, Ran, ensure, masked, masked_with, with_and};
 
@@ -97,9 +98,8 @@ fn made(folder: &Folder, table: &[u8], and: And, order: u8) -> Result<(), String
     let found = answer(&ran, 0)?;
     let masked = masked_with(and, order, table)?;
     ensure(folder.read("made")? == masked, &ran, "OUT is another table")?;
-    let theorem = found.at("theorem").and_then(|theorem| theorem.at("file"));
-    let file = theorem.map(Json::text).unwrap_or_default();
-    ensure(file.ends_with("crates/secrecy/proofs/Whole.antt"), &ran, "the theorem's file is another")?;
+    let [file, page] = ["crates/secrecy/proofs/Whole.antt", "docs/ASSURANCE.md"].map(there);
+    let (file, page) = (file?, page?);
     let sizes = model::forecast(table, order).map_err(|refusal| format!("FAILED: {refusal:?}"))?;
     let (plain_sum, masked_sum) = (folder.sum("table")?, folder.sum("made")?);
     let due = |out: &str| {
@@ -113,6 +113,7 @@ fn made(folder: &Folder, table: &[u8], and: And, order: u8) -> Result<(), String
             ("tape_bits", Json::Number(sizes.tape.into())),
             ("bytes", masked.len().into()),
             ("theorem", object([("name", "demands".into()), ("file", file[..].into())])),
+            ("full_text", page[..].into()),
             ("plain_sha256", plain_sum[..].into()),
             ("masked_sha256", masked_sum[..].into()),
         ])
