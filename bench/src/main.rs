@@ -6,10 +6,6 @@
 //!     bench report FILE..    prints the table of rows measured in one layout or several
 //!     bench stack            prints how much stack each call of the archive takes
 //!
-//! Where BENCH_OLD_KINDS is set, the tables with constants and ORs, which come last, are left out: so an
-//! archive that has not these kinds can be measured. One that has no DOM AND can be measured without
-//! the feature `dom`.
-//!
 //! All are called through the same trait on slices, with buffers that are lent once and used
 //! again; none is inlined into the loop that measures it. A size is measured on as many different
 //! inputs as make up the largest size together, in turn, so that the processor cannot learn a small
@@ -108,10 +104,8 @@ fn print_stack() {
     for call in CALLS {
         let of_call = rows.iter().filter(|row| row.call.split(',').next() == Some(call));
         let most = |stack: fn(&Row) -> f64| of_call.clone().map(stack).fold(0.0, f64::max);
-        if of_call.clone().next().is_some() {
-            let (ours, theirs) = (most(|row| row.times.ours), most(|row| row.times.theirs));
-            println!("{call:<13} {ours:>8} {theirs:>9}");
-        }
+        let (ours, theirs) = (most(|row| row.times.ours), most(|row| row.times.theirs));
+        println!("{call:<13} {ours:>8} {theirs:>9}");
     }
 }
 
@@ -121,9 +115,7 @@ fn all_rows(gauge: Gauge) -> Vec<Row> {
     let mut rows = sized(gauge, &mut rng);
     rows.extend(largest(gauge, &mut rng));
     rows.extend(plain(gauge, &mut rng));
-    if env::var_os("BENCH_OLD_KINDS").is_none() {
-        rows.extend(all_kinds(gauge, &mut rng));
-    }
+    rows.extend(all_kinds(gauge, &mut rng));
     rows
 }
 
@@ -243,9 +235,7 @@ fn all_kinds(gauge: Gauge, rng: &mut Rng) -> Vec<Row> {
     on_maskings("run, 5 kinds", |gauge, maskings| run(gauge, &masked(maskings)));
     on_maskings("marks, 5 kinds", marks);
     on_maskings("map, 5 kinds", map);
-    if cfg!(feature = "dom") {
-        rows.extend(dom(gauge, rng, maskings.into_iter().flatten().collect()));
-    }
+    rows.extend(dom(gauge, rng, maskings.into_iter().flatten().collect()));
     rows
 }
 

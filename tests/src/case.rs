@@ -20,7 +20,7 @@ pub enum Call {
 }
 
 impl Call {
-    /// All of them; those with the DOM AND come last.
+    /// All of them.
     pub const ALL: [Call; 11] = [
         Call::Check,
         Call::Forecast,

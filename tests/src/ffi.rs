@@ -93,12 +93,6 @@ unsafe extern "C" {
         other: *mut u8,
         other_len: usize,
     ) -> Answer;
-}
-
-// The entries with the DOM AND, and the version, which came after them.
-#[cfg(feature = "dom")]
-unsafe extern "C" {
-    safe fn masks_version() -> u32;
 
     fn masks_mask_dom(
         table: *const u8,
@@ -129,6 +123,8 @@ unsafe extern "C" {
         other: *mut u8,
         other_len: usize,
     ) -> Answer;
+
+    safe fn masks_version() -> u32;
 }
 
 /// The entry for an AND.
@@ -136,16 +132,12 @@ macro_rules! entry {
     ($and:expr, $isw:ident, $dom:ident) => {
         match $and {
             And::Isw => $isw,
-            #[cfg(feature = "dom")]
             And::Dom => $dom,
-            #[cfg(not(feature = "dom"))]
-            And::Dom => unreachable!("without the feature `dom` no case is put to the DOM AND"),
         }
     };
 }
 
 /// The archive's version, as a number.
-#[cfg(feature = "dom")]
 #[allow(dead_code)] // The measurement, which has this file too, does not ask for it.
 pub fn version() -> u32 {
     masks_version()

@@ -16,7 +16,6 @@ mod ffi;
 mod pages;
 mod programs;
 mod running;
-#[cfg(feature = "dom")]
 mod version;
 
 use std::process::ExitCode;
@@ -46,16 +45,6 @@ usage: compare [--seed N]
        compare building
        compare pages
        compare examples";
-
-/// The calls that the archive has.
-fn calls() -> &'static [Call] {
-    if cfg!(feature = "dom") { &Call::ALL } else { &Call::ALL[..8] }
-}
-
-/// The ANDs that it has.
-fn ands() -> &'static [And] {
-    if cfg!(feature = "dom") { &And::BOTH } else { &[And::Isw] }
-}
 
 fn main() -> ExitCode {
     let arguments: Vec<String> = env::args().skip(1).collect();
@@ -110,22 +99,21 @@ fn seeds(call: Call, seed: u64) -> Rng {
 
 /// The whole comparison, with a line for each call.
 fn compare_all(seed: u64) -> Result<(), String> {
-    #[cfg(feature = "dom")]
     version::compare()?;
     let mut tallies = [Tally::default(); Call::ALL.len()];
     compare_examples(&mut tallies)?;
-    for &call in calls() {
+    for call in Call::ALL {
         let tally = &mut tallies[call.index()];
         compare_generated(call, &mut seeds(call, seed), CASES_PER_CALL, tally)?;
         println!("{}: {tally}", call.name());
     }
     compare_kinds(seed)?;
     compare_tapes(seed)?;
-    for &and in ands() {
+    for and in And::BOTH {
         compare_all_tapes(and)?;
         compare_sampled_maps(and, seed)?;
     }
-    match calls().iter().find_map(|&call| tallies[call.index()].missing(call)) {
+    match Call::ALL.into_iter().find_map(|call| tallies[call.index()].missing(call)) {
         Some(missing) => Err(format!("FAILED: {missing}")),
         None => Ok(()),
     }
@@ -133,9 +121,6 @@ fn compare_all(seed: u64) -> Result<(), String> {
 
 fn compare_examples(tallies: &mut [Tally]) -> Result<(), String> {
     for example in examples::examples() {
-        if !calls().contains(&example.case.call()) {
-            continue;
-        }
         let told = |text: String| {
             format!("FAILED: example \"{}\"\n{}\n{text}", example.name, example.case)
         };
@@ -178,7 +163,7 @@ fn compare_case(case: &Case) -> Result<Outcome, String> {
 
 /// Kinds and their operands, good and bad ones, with a line for each call.
 fn compare_kinds(seed: u64) -> Result<(), String> {
-    for call in kinds::CALLS.into_iter().filter(|call| calls().contains(call)) {
+    for call in kinds::CALLS {
         let seen =
             kinds::check(call, seed, compare_case).map_err(|text| format!("FAILED: {text}"))?;
         println!("kinds to {}: {seen}", call.name());
@@ -188,7 +173,7 @@ fn compare_kinds(seed: u64) -> Result<(), String> {
 
 /// Tapes of chosen lengths, as they should be and otherwise, with a line for each call.
 fn compare_tapes(seed: u64) -> Result<(), String> {
-    for call in tapes::CALLS.into_iter().filter(|call| calls().contains(call)) {
+    for call in tapes::CALLS {
         let seen =
             tapes::check(call, seed, compare_case).map_err(|text| format!("FAILED: {text}"))?;
         println!("tapes to {}: {seen}", call.name());
@@ -240,16 +225,16 @@ fn compare_sampled_maps(and: And, seed: u64) -> Result<(), String> {
 fn fuzz(seconds: u64, seed: u64) -> Result<(), String> {
     println!("seed {seed}");
     let start = Instant::now();
-    let mut all_seeds: Vec<Rng> = calls().iter().map(|&call| seeds(call, seed)).collect();
+    let mut all_seeds = Call::ALL.map(|call| seeds(call, seed));
     let mut tallies = [Tally::default(); Call::ALL.len()];
     let mut compared = Ok(());
     while compared.is_ok() && start.elapsed() < Duration::from_secs(seconds) {
-        compared = calls().iter().zip(&mut all_seeds).try_for_each(|(&call, seeds)| {
+        compared = Call::ALL.into_iter().zip(&mut all_seeds).try_for_each(|(call, seeds)| {
             compare_generated(call, seeds, CASES_PER_FUZZ_ROUND, &mut tallies[call.index()])
         });
     }
     let mut cases = Vec::new();
-    for &call in calls() {
+    for call in Call::ALL {
         let tally = &tallies[call.index()];
         println!("{}: {tally}", call.name());
         cases.push(format!("{} {}", call.name(), tally.cases()));
@@ -266,7 +251,7 @@ fn fuzz(seconds: u64, seed: u64) -> Result<(), String> {
 }
 
 fn repeat_case(call: &str, seed: u64) -> Result<(), String> {
-    let Some(&call) = calls().iter().find(|known| known.name() == call) else {
+    let Some(call) = Call::ALL.into_iter().find(|known| known.name() == call) else {
         return Err(format!("{call} is not a call that is compared"));
     };
     let case = generate::generate(call, &mut Rng::new(seed));
