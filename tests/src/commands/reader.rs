@@ -69,15 +69,6 @@ impl Json {
         entries.get(key)
     }
 
-    /// The text of a text or a number.
-    pub fn text(&self) -> String {
-        match self {
-            Json::Text(bytes) => String::from_utf8_lossy(bytes).into_owned(),
-            Json::Number(number) => number.to_string(),
-            _ => String::new(),
-        }
-    }
-
     /// The value in another layout, with its keys in the order of the alphabet or backwards.
     pub fn laid_out(&self, before: &str, backwards: bool) -> String {
         let inner = format!("{before}\t ");
