@@ -9,7 +9,7 @@ certify() {
     take_table "$2" "$most"
     take_file "$3" "$most" given
     given=$shown
-    see_to forecast mask
+    see_to sizes mask
     write_masked "$scratch/masked"
     if ! cmp -s "$scratch/masked" "$scratch/given"; then
         find_difference
@@ -184,7 +184,7 @@ verify() {
     take_table "$2" "$most"
     take_file "$3" "$most" given
     given=$shown
-    see_to forecast mask
+    see_to sizes mask
     write_masked "$scratch/masked"
     find_facts
     "$form" >"$scratch/again"

@@ -15,7 +15,7 @@ draw() {
     else
         take_order "$drawn_order"
         take_and "${dom:+DOM}"
-        see_to forecast mask show
+        see_to sizes mask show
         write_masked "$scratch/masked"
         can_draw "$masked_wires" "'$table' masked at order $order would have"
         title="masked at order $order, AND: $and; a box for each wire and each output of the plain table"

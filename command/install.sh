@@ -37,7 +37,7 @@ stage_files() {
 # The folder of a build: the script, the programs with their records, the key, the version, and the sums of all these.
 stage_build() {
     mkdir -p "$1/command" && cp fantzori "$1" && cp command/*.sh command/help.txt "$1/command" || return
-    for name in mask forecast show; do cp "$kept/$name" "$kept/$name.proved" "$1" || return; done
+    for name in mask forecast sizes show; do cp "$kept/$name" "$kept/$name.proved" "$1" || return; done
     echo "$key" >"$1/key" && echo "$version" >"$1/version" &&
         (cd "$1" && find . -type f | sed 's/^..//' | LC_ALL=C sort | xargs -d '\n' sha256sum -- >"$scratch/own") && cp "$scratch/own" "$1/sums"
 }

@@ -53,7 +53,7 @@ mask() {
     take_out "$3"
     not_the_table "$2" "$3"
     take_table "$2" "$most"
-    see_to forecast mask
+    see_to sizes mask
     if [ "$out" = - ]; then
         write_masked "$scratch/masked"
         print <"$scratch/masked"
@@ -90,7 +90,7 @@ forecast() {
     start
     take_order "$1"
     take_table "$2" 65536
-    see_to forecast
+    see_to forecast sizes
     line=$(order_and_table | "$kept/forecast") || die "'$kept/forecast' failed"
     # shellcheck disable=SC2086
     set -- $line

@@ -4,7 +4,7 @@
 # A file is used only where it has that SHA-256.
 
 # Everything that is built: what needs few crates, and is kept while the rest is still proved.
-first="show forecast" rest="mask libmasks_c.a libmasks.so.0"
+first="show forecast sizes" rest="mask libmasks_c.a libmasks.so.0"
 all="$first $rest"
 
 # The files that belong to the project and decide a certificate, a line each: those that git tracks, else those of command/files.txt.

@@ -31,12 +31,7 @@ TXT
 
 # Sets why: what the masked table would have too many of, and the largest order at which it has not.
 too_large() {
-    count_kinds "$scratch/table"
-    fits=15
-    while [ "$fits" -gt 0 ] && sizes_at "$fits" && { [ "$wires" -gt 65535 ] || [ "$masked_outputs" -gt 65535 ]; }; do
-        fits=$((fits - 1))
-    done
-    sizes_at "$order"
+    find_sizes
     why="masked at order $order the table would have $wires wires and $masked_outputs outputs, and 65,535 of each is the most"
     if [ "$fits" -eq 0 ]; then why="$why; no order fits"; else why="$why; the largest order that fits is $fits"; fi
 }
@@ -137,22 +132,14 @@ count_kinds() {
     nots=$1 xors=$2 ands=$3 randoms=$4 constants=$5 ors=$6
 }
 
-# The sizes of the masked table at an order, by the formulas of docs/FORMAT.md.
-sizes_at() {
-    n=$((2 * $1 + 1)) pairs=$(((2 * $1 + 1) * $1))
-    wires=$((n * inputs + nots + 3 * ors + n * (xors + constants) + (n * n + 5 * pairs) * (ands + ors))) masked_outputs=$((n * outputs))
-    tape=$((2 * $1 * inputs + pairs * (ands + ors))) bytes=$((6 + 5 * (wires - n * inputs) + 2 * masked_outputs))
-}
-
-# Sets line: what the forecast program prints for the table; by the formulas where the table is too long for it.
-find_forecast() {
-    if [ "$(wc -c <"$scratch/table")" -le 65535 ]; then
-        line=$(order_and_table | "$kept/forecast") || die "'$kept/forecast' failed"
-    else
-        count_kinds "$scratch/table"
-        sizes_at "$order"
-        line="$n $wires $tape $bytes"
-    fi
+# Sets what the sizes program prints for the table at the order, also where 8 refuses it: line, the four figures of a forecast; wires and
+# outputs of the masked table, and the largest order that fits, 0 where none does.
+find_sizes() {
+    line=$(order_and_table | "$kept/sizes") || die "'$kept/sizes' failed"
+    # shellcheck disable=SC2086
+    set -- $line
+    [ $# -eq 6 ] || die "an answer that is not known: $line"
+    line="$1 $2 $3 $4" wires=$2 masked_outputs=$5 fits=$6
 }
 
 # Masks scratch/table into a file.
@@ -172,7 +159,7 @@ write_masked() {
     shares=$((2 * order + 1)) masked_wires=$((inputs + gates)) masked_bytes=$(wc -c <"$1")
     tape_bits=$((2 * order * inputs / shares + randoms))
     written="$shares $masked_wires $tape_bits $masked_bytes"
-    find_forecast
+    find_sizes
     [ "$written" = "$line" ] || die "the masked table has the sizes $written, not $line as forecast: is the disk full?"
     plain_sum=$(sha256 <"$scratch/table") masked_sum=$(sha256 <"$1")
 }

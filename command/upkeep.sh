@@ -11,7 +11,7 @@ version() {
     start
     find_version
     if [ -n "$installed" ]; then
-        see_to mask forecast show
+        see_to mask forecast sizes show
     else
         find_key
         toolchain=$(cat toolchain.txt)

@@ -13,6 +13,7 @@
 mod building;
 mod commands;
 mod ffi;
+mod large;
 mod pages;
 mod programs;
 mod running;

@@ -1,4 +1,4 @@
-//! Tests of the programs in target/bin: mask, forecast and show against the functions of this
+//! Tests of the programs in target/bin: mask, forecast, sizes and show against the functions of this
 //! crate, and the tables under examples/ through the programs and the archive.
 
 use std::io::{Read, Write};
@@ -17,6 +17,7 @@ use compare::rng::Rng;
 use compare::samples::{Sample, bits, samples};
 
 use crate::ffi::Archive;
+use crate::large;
 
 const SEED: u64 = 3;
 /// So many generated cases are put to each program.
@@ -48,8 +49,8 @@ fn write(path: &Path, bytes: &[u8]) -> Result<(), String> {
 
 /// All tests of the programs, with a line for each group.
 pub fn test() -> Result<(), String> {
-    let [mask, forecast, show] = ["mask", "forecast", "show"].map(Program::find);
-    let (mask, forecast, show) = (mask?, forecast?, show?);
+    let [mask, forecast, sizes, show] = ["mask", "forecast", "sizes", "show"].map(Program::find);
+    let (mask, forecast, sizes, show) = (mask?, forecast?, sizes?, show?);
     let mut rng = Rng::new(SEED);
     let plain = plain_inputs(&mut rng);
     let mut masks = vec![vec![]];
@@ -57,11 +58,18 @@ pub fn test() -> Result<(), String> {
     for (input, dom) in plain.iter().zip((1..=255).cycle()) {
         masks.extend([0, dom].map(|and| [&[and], &input[..]].concat()));
         forecast.expect(input, &Written::out(model::forecast_line(input)))?;
+        sizes.expect(input, &Written::out(model::sizes_line(input)))?;
     }
     for input in &masks {
         mask.expect(input, &Written::of_mask(input))?;
     }
     println!("mask: {} inputs; forecast: {}", masks.len(), plain.len());
+    let large = large::inputs(&mut rng);
+    for input in &large {
+        sizes.expect(input, &Written::out(model::sizes_line(input)))?;
+    }
+    println!("sizes: {} inputs", plain.len() + large.len());
+    large::ensure_all(&large)?;
     let tables = tables(&mut rng);
     for table in &tables {
         show.expect(table, &Written::out(model::listing(table)))?;
@@ -70,9 +78,9 @@ pub fn test() -> Result<(), String> {
     ensure(long.out.starts_with(b"refused "), "show does not refuse what is longer than a table")?;
     println!("show: {} inputs", tables.len() + 1);
     for size in [1, 3, 4_096] {
-        in_pieces(&mask, &forecast, &show, size)?;
+        in_pieces([&mask, &forecast, &sizes, &show], size)?;
     }
-    println!("mask, forecast, show: inputs in pieces");
+    println!("mask, forecast, sizes, show: inputs in pieces");
     for sample in samples() {
         test_example(&sample, &mask, &show)?;
     }
@@ -137,12 +145,7 @@ fn tables(rng: &mut Rng) -> Vec<Vec<u8>> {
 }
 
 /// The same inputs through a pipe that is filled piece by piece.
-fn in_pieces(
-    mask: &Program,
-    forecast: &Program,
-    show: &Program,
-    size: usize,
-) -> Result<(), String> {
+fn in_pieces([mask, forecast, sizes, show]: [&Program; 4], size: usize) -> Result<(), String> {
     let table = if size > 100 { and_chain(2_730) } else { the_and() };
     let input = [&[1], &table[..]].concat();
     for and in And::BOTH {
@@ -150,6 +153,7 @@ fn in_pieces(
         mask.expect_in_pieces(&input, size, &Written::of_mask(&input))?;
     }
     forecast.expect_in_pieces(&input, size, &Written::out(model::forecast_line(&input)))?;
+    sizes.expect_in_pieces(&input, size, &Written::out(model::sizes_line(&input)))?;
     show.expect_in_pieces(&table, size, &Written::out(model::listing(&table)))
 }
 

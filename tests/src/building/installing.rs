@@ -273,7 +273,7 @@ fn proved(command: &Path, caller: &Path, prefix: &Path) -> Result<(), String> {
 /// A replaced program or part of the installed command is not used.
 fn replaced(folder: &Folder, prefix: &Path) -> Result<(), String> {
     let build = prefix.join("libexec/fantzori/current");
-    for name in ["mask", "forecast"] {
+    for name in ["mask", "forecast", "sizes"] {
         let program = build.join(name);
         let before = fs::read(&program).map_err(|error| folder.told(error))?;
         let script = format!("#!/bin/sh\n: >'{}'\n", folder.path("mark").display());

@@ -14,6 +14,15 @@ pub struct Sizes {
     pub bytes: u32,
 }
 
+/// What the sizes program tells of a plain table at an order: its sizes, which may be too large, the
+/// number of its masked outputs, and the largest order that is accepted for it, 0 where none is.
+#[derive(Clone, Copy, Debug, PartialEq, Eq)]
+pub struct Figures {
+    pub sizes: Sizes,
+    pub outputs: u32,
+    pub largest: u8,
+}
+
 /// A plain table and an order to mask it at, both accepted.
 pub(super) struct Plain<'a> {
     pub table: Table<'a>,
@@ -77,6 +86,13 @@ pub(super) trait Gates {
 impl<'a> Plain<'a> {
     /// Refusals 1 to 8.
     pub fn new(table: &'a [u8], order: u8) -> Result<Self, Refusal> {
+        let plain = Plain::of_any_size(table, order)?;
+        Fault::TooLarge.when(plain.wires > MOST || plain.outputs() > MOST)?;
+        Ok(plain)
+    }
+
+    /// Refusals 1 to 7.
+    fn of_any_size(table: &'a [u8], order: u8) -> Result<Self, Refusal> {
         let table = Table::new(table)?;
         let order = Order::new(order)?;
         if let Some(g) = table.kinds.iter().position(|&kind| kind == RANDOM) {
@@ -88,7 +104,6 @@ impl<'a> Plain<'a> {
         let wires = order.n * table.inputs + gates;
         let ands = counts[usize::from(AND)] + counts[usize::from(OR)];
         let tape = 2 * order.t * table.inputs + ands * order.pairs();
-        Fault::TooLarge.when(wires > MOST || order.n * table.outputs().len() > MOST)?;
         Ok(Plain { table, order, wires, tape })
     }
 
@@ -107,6 +122,15 @@ impl<'a> Plain<'a> {
 
     fn bytes(&self) -> usize {
         6 + 5 * self.gates() + 2 * self.outputs()
+    }
+
+    fn sizes(&self) -> Sizes {
+        Sizes {
+            shares: self.order.n as u32,
+            wires: self.wires as u32,
+            tape: self.tape as u32,
+            bytes: self.bytes() as u32,
+        }
     }
 
     /// Where the shares of the plain inputs stand, with room for those of the gates.
@@ -246,13 +270,15 @@ impl Gates for Writer<'_> {
 
 /// Answers the sizes of the masked table without writing it.
 pub fn forecast(table: &[u8], order: u8) -> Result<Sizes, Refusal> {
-    let plain = Plain::new(table, order)?;
-    Ok(Sizes {
-        shares: plain.order.n as u32,
-        wires: plain.wires as u32,
-        tape: plain.tape as u32,
-        bytes: plain.bytes() as u32,
-    })
+    Ok(Plain::new(table, order)?.sizes())
+}
+
+/// Answers what the sizes program tells, also of a table that is too large at the order.
+pub fn figures(table: &[u8], order: u8) -> Result<Figures, Refusal> {
+    let plain = Plain::of_any_size(table, order)?;
+    let largest = (1..=15).rev().find(|&order| Plain::new(table, order).is_ok());
+    let (sizes, outputs) = (plain.sizes(), plain.outputs() as u32);
+    Ok(Figures { sizes, outputs, largest: largest.unwrap_or(0) })
 }
 
 /// Writes the masked table and answers its number of bytes.

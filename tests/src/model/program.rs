@@ -3,7 +3,7 @@
 use std::iter;
 
 use super::table::Table;
-use super::{AND, And, CONSTANT, NOT, OR, Refusal, XOR, forecast, mask};
+use super::{AND, And, CONSTANT, Figures, NOT, OR, Refusal, Sizes, XOR, figures, forecast, mask};
 
 /// The longest input, the order byte included, that the forecast program takes.
 const MOST_FORECAST: usize = 65_536;
@@ -33,6 +33,17 @@ pub fn forecast_line(input: &[u8]) -> String {
     match forecast(table, order) {
         Ok(sizes) => {
             format!("{} {} {} {}\n", sizes.shares, sizes.wires, sizes.tape, sizes.bytes)
+        }
+        Err(refusal) => refusal.into(),
+    }
+}
+
+/// The line, with its line feed, that the sizes program prints for an input.
+pub fn sizes_line(input: &[u8]) -> String {
+    let (order, table) = order_and_table(input);
+    match figures(table, order) {
+        Ok(Figures { sizes: Sizes { shares, wires, tape, bytes }, outputs, largest }) => {
+            format!("{shares} {wires} {tape} {bytes} {outputs} {largest}\n")
         }
         Err(refusal) => refusal.into(),
     }

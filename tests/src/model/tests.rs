@@ -7,7 +7,7 @@ use super::*;
 use crate::case::{Call, Case, Lent, MapCase};
 use crate::circuit::{Circuit, and, constant, not, or, random, xor};
 use crate::compare::Tally;
-use crate::examples::{dom_masked_and, examples, masked_and, the_and};
+use crate::examples::{and_chain, dom_masked_and, examples, masked_and, the_and};
 use crate::exhaustive::{check_maps, check_patterns, circuits, circuits_for_order_2};
 use crate::generate::generate;
 use crate::kinds;
@@ -36,6 +36,21 @@ fn the_forecast_line_is_the_papers() {
     assert_eq!(forecast_line(&[&[0][..], &the_and()].concat()), "refused 6 0\n");
     assert_eq!(forecast_line(&[0; 65_536]), "refused 2 0\n");
     assert_eq!(forecast_line(&[0; 65_537]), "refused 9 0\n");
+}
+
+#[test]
+fn the_sizes_line_is_told_of_too_large_tables_too() {
+    let line = |order: u8, table: &[u8]| sizes_line(&[&[order][..], table].concat());
+    assert_eq!(line(1, &the_and()), "3 30 7 132 3 15\n");
+    assert_eq!(line(15, &the_and()), "31 3348 525 16498 31 15\n");
+    assert_eq!(line(1, &and_chain(2_731)), "3 65550 8197 327732 3 0\n");
+    assert_eq!(line(2, &and_chain(2_730)), "5 204760 27308 1023766 5 1\n");
+    assert_eq!(line(2, &Circuit::new(1, &[], &[0; 13_108]).bytes()), "5 5 4 131086 65540 1\n");
+    assert_eq!(line(0, &the_and()), "refused 6 0\n");
+    assert_eq!(line(16, &the_and()), "refused 6 0\n");
+    assert_eq!(line(1, &Circuit::new(2, &[and(0, 1), random()], &[2]).bytes()), "refused 7 1\n");
+    assert_eq!(sizes_line(&[]), "refused 1 0\n");
+    assert_eq!(sizes_line(&[0; 65_537]), "refused 2 0\n");
 }
 
 #[test]
@@ -264,8 +279,10 @@ fn generated_cases_hold_together() {
                     assert_eq!(check(masked), Ok(sizes.wires));
                     check_masked_kinds(table, *order, masked);
                 }
-                (Case::Forecast { table, order }, 0 | 8, _) => {
+                (Case::Forecast { table, order }, number @ (0 | 8), _) => {
                     assert_eq!(check_counts(&Model, table, *order, outcome), Ok(()), "{case}");
+                    let fits = figures(table, *order).unwrap().largest >= *order;
+                    assert_eq!(fits, number == 0, "{case}");
                 }
                 (Case::Marks { and, table, order, wire }, 0, _) => {
                     check_reads(*and, table, *order, &[*wire]);
