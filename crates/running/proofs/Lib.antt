@@ -1,5 +1,3 @@
--- Laws that the proofs of running cite, and the invariant of a run.
-pub mod Gate
-pub mod Running
+-- Laws that the proofs of running cite.
 pub mod RunFault
 pub mod RunTable

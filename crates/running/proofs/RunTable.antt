@@ -13,7 +13,8 @@ use Rattle.tables.specs.declared.Refusal as DRefusal
 use Rattle.tables.specs.Refusals.{Fault}
 use Rattle.tables.specs.Says.{over, RunDone}
 use Rattle.tables.specs.Inside.{Refused, putAt}
-use Rattle.running.specs.Running.{RunReady, OutputsReady, ranPacked}
+use Rattle.run_gates.specs.RunGates.{RunReady}
+use Rattle.running.specs.Running.{OutputsReady, ranPacked}
 use Rattle.tables.proofs.Put.{put-zero, over-length, over-over, Writing, writing-front, writing-long, writing-inside}
 use Rattle.tables.proofs.Put.{writing-byte, writing-end}
 use Rattle.tables.proofs.Lists.{All, all-getD}

@@ -1,74 +1,13 @@
 // Running a gate table on its inputs and random bits.
 ghost use mathlib.Core.Path.{_≡_};
 ghost use mathlib.Core.Bool.{true};
-ghost use lib.ListN.{length, take};
+ghost use lib.ListN.{length};
 ghost use Rattle.tables.specs.Refusals.{passed};
 ghost use Rattle.tables.specs.Tables.{wires, tableOf, tableFault};
-ghost use Rattle.tables.specs.Runs.{runFrom, outputsOf};
-ghost use Rattle.tables.specs.Packing.{unpacked};
+ghost use Rattle.tables.specs.Runs.{outputsOf};
 ghost use Rattle.tables.specs.Says.{over, suppliedFault, lentFault, runFault, RunSays};
 ghost use Rattle.tables.specs.Inside.{Refused};
-ghost use Rattle.running.specs.Running.{GateReady, GateSays, RunReady, OutputsReady, ranPacked};
-
-// A gate's value and the number of the next random bit.
-struct Drawn {
-    value: u8,
-    next: usize,
-}
-
-// The truth tables of NOT, XOR, AND and OR: bit 4·kind + 2·a + b is what a gate of this kind makes of a and b.
-const TRUTH: u32 = 0xE00863;
-
-// What a gate drives, from its left operand and its operands' values.
-fn gate_value(kind: u8, left: usize, a: u8, b: u8, random: &[u8], at: usize) -> Drawn
-    requires { ⌜ GateReady kind a b (unpacked (now random)) at ⌝ }
-    ensures { λ r. ⌜ GateSays kind left a b (unpacked (now (random .entry))) at r ⌝ }
-{
-    if kind == 3 {
-        return Drawn {
-            value: bits::tape_bit(random, at),
-            next: at + 1,
-        };
-    }
-    if kind == 4 {
-        let bit = (left % 2) as u8;
-        return Drawn {
-            value: bit,
-            next: at,
-        };
-    }
-    let row = 4 * kind + 2 * a + b;
-    Drawn {
-        value: ((TRUTH >> row) % 2) as u8,
-        next: at,
-    }
-}
-
-// Runs the gates over values that begin with the inputs: gate w - inputs drives wire w.
-fn run_gates(table: &[u8], inputs: usize, gates: usize, random: &[u8], values: &mut [u8])
-    requires { ⌜ RunReady (now table) (unpacked (now random)) (now values) inputs gates ⌝ }
-    ensures { λ _.
-        ⌜
-        now (values .exit)
-        ≡ over
-        (runFrom (tableOf (now (table .entry)) .gates) (unpacked (now (random .entry)))
-        (take inputs (now (values .entry))))
-        (now (values .entry))
-        ⌝ }
-{
-    let end = inputs + gates;
-    let mut next: usize = 0;
-    let mut w = inputs;
-    while w < end {
-        let x = tables::gate_at(table, gates, w - inputs);
-        let left = x.left;
-        let right = x.right;
-        let turn = gate_value(x.kind, left, values[left], values[right], random, next);
-        values[w] = turn.value;
-        next = turn.next;
-        w += 1;
-    }
-}
+ghost use Rattle.running.specs.Running.{OutputsReady, ranPacked};
 
 // Writes the values of the output wires.
 fn read_outputs(table: &[u8], gates: usize, outputs: usize, values: &[u8], out: &mut [u8])
@@ -150,7 +89,7 @@ fn write_run(
 {
     let gates = tables::field(table, 2);
     tables::put_bytes(values, 0, inputs);
-    run_gates(table, inputs.len(), gates, random, values);
+    run_gates::run_gates(table, inputs.len(), gates, random, values);
     read_outputs(table, gates, tables::field(table, 4), values, outputs);
     (inputs.len() + gates) as u32
 }

@@ -8,14 +8,14 @@ use native.Mathlib.Nat.{add-zero, add-suc}
 use native.Mathlib.Omega.{arith}
 use lib.ListN.{length, getD, take, drop, set, length-append, length-drop, take-append-drop, drop-of-length-le, List·getD-append}
 use lib.Seq.{length-take-le, getD-take, take-take, take-length, take-append-seam, drop-cons}
-use Rattle.running.specs.declared.Drawn as DDrawn
+use Rattle.run_gates.specs.declared.Drawn as DDrawn
 use Rattle.tables.specs.declared.GateFields as DGateFields
 use Rattle.tables.specs.Tables.{Kind, NOT, XOR, AND, RANDOM, CONSTANT, OR, UNKNOWN, kindOf, Gate, noGate, Table}
 use Rattle.tables.specs.Tables.{gateOf, tableOf, known, operandsOf, total}
 use Rattle.tables.specs.Runs.{driven, drawn, runFrom, randoms}
 use Rattle.tables.specs.Says.{over}
 use Rattle.tables.specs.Inside.{Bits, putAt, HasGates, GateIs}
-use Rattle.running.specs.Running.{GateReady, GateSays, RunReady}
+use Rattle.run_gates.specs.RunGates.{GateReady, GateSays, RunReady}
 use Rattle.tables.proofs.Put.{Writing, writing-kept, writing-byte, writing-end, over-length}
 use Rattle.tables.proofs.Run.{Solves, Reads, Earlier, driven-local, run-length, run-bits, run-solves}
 use Rattle.tables.proofs.Accept.{inputs-of, gates-of-length, gates-are, accepted, accepted-few, has-gates}

@@ -6,10 +6,10 @@ use Prim.Native.Nat.{ℕ, zero, suc, _+_, _-_, _*_, _/_, _%_, _^_, _≤_}
 use native.Mathlib.Nat.{add-zero}
 use native.Mathlib.Omega.{arith}
 use lib.ListN.{getD}
-use Rattle.running.specs.declared.Drawn as DDrawn
+use Rattle.run_gates.specs.declared.Drawn as DDrawn
 use Rattle.tables.specs.Tables.{kindOf}
 use Rattle.tables.specs.Runs.{driven, drawn}
-use Rattle.running.specs.Running.{GateReady, GateSays}
+use Rattle.run_gates.specs.RunGates.{GateReady, GateSays}
 
 -- what holds of the four pairs of bits holds of two bits
 both-bits :

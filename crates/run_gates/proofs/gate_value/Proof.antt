@@ -1,12 +1,12 @@
--- `running::gate_value` meets its contract: the next random bit, the constant, or the kind's row of the truth tables.
+-- `run_gates::gate_value` meets its contract: the next random bit, the constant, or the kind's row of the truth tables.
 -- Assumes nothing.
 use mathlib.Core.Path.{refl}
 use Prim.Native.Nat.{_≤_}
 use native.Mathlib.Omega.{arith}
-use Rattle.running.proofs.Gate.{says-random, says-constant, says-truth}
+use Rattle.run_gates.proofs.Gate.{says-random, says-constant, says-truth}
 use borrow.Author.Needs.{needs}
-use Rattle.running.proofs.gate_value.Statement.{statement}
-use Rattle.running.proofs.gate_value.Tie as tie
+use Rattle.run_gates.proofs.gate_value.Statement.{statement}
+use Rattle.run_gates.proofs.gate_value.Tie as tie
 
 tape-bit-requires : tie.Need-tape-bit-requires
 tape-bit-requires c κs = c .before .before .pre .random (c .if1 .taken)

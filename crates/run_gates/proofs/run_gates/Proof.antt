@@ -1,4 +1,4 @@
--- `running::run_gates` meets its contract. The invariant: the values so far are those of the whole run.
+-- `run_gates::run_gates` meets its contract. The invariant: the values so far are those of the whole run.
 -- Assumes nothing.
 use mathlib.Core.Path.{_∙_}
 use Prim.Native.Nat.{_-_, _≤_}
@@ -9,10 +9,10 @@ use Rattle.tables.specs.Tables.{tableOf}
 use Rattle.tables.specs.Packing.{unpacked}
 use Rattle.tables.proofs.Accept.{accepted-few, gates-are}
 use Rattle.tables.proofs.Put.{writing-long}
-use Rattle.running.proofs.Running.{Running, ready-gates, ready-more, running-long, running-start, wire-there}
-use Rattle.running.proofs.Running.{left-there, right-there, gate-ready, gate-turn, wire-turn, running-end}
-use Rattle.running.proofs.run_gates.Statement.{statement}
-use Rattle.running.proofs.run_gates.Tie as tie
+use Rattle.run_gates.proofs.Running.{Running, ready-gates, ready-more, running-long, running-start, wire-there}
+use Rattle.run_gates.proofs.Running.{left-there, right-there, gate-ready, gate-turn, wire-turn, running-end}
+use Rattle.run_gates.proofs.run_gates.Statement.{statement}
+use Rattle.run_gates.proofs.run_gates.Tie as tie
 
 abbrev Inv-loop : tie.InvT-loop
 Inv-loop table inputs gates random values₀ end next₀ w₀ values next w =

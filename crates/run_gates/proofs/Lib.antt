@@ -1,0 +1,3 @@
+-- Laws of a gate's value, and the invariant of the gate loop.
+pub mod Gate
+pub mod Running

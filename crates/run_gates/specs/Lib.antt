@@ -1,0 +1,2 @@
+-- What running gates needs and promises.
+pub mod RunGates
