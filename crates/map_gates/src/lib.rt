@@ -46,7 +46,7 @@ fn map_and(
 {
     let v = w + 5 * construction::pair_count(n);
     map_all_pairs::map_pairs(and, k, n, w, a, b, tape, at, mapped, one, other);
-    map_values::run_rows(and, one, other, v, w, n, a, b);
+    map_rows::run_rows(and, one, other, v, w, n, a, b);
 }
 
 // The two NOTs that an OR begins with, in both runs, on wires w and w + 1; an AND begins with none.

@@ -3,7 +3,7 @@
 use mathlib.Core.Path.{_≡_, refl, sym, ap, _∙_, subst}
 use mathlib.Core.Bool.{Bool, true, false, cond}
 use mathlib.Core.List.{List, [], _∷_, _++_}
-use Prim.Native.Nat.{ℕ, zero, suc, _+_, _-_, _*_, _%_, _≤_, _<_}
+use Prim.Native.Nat.{ℕ, suc, _+_, _-_, _*_, _%_, _≤_, _<_}
 use native.Mathlib.Nat.{mul-le-mul-left}
 use native.Mathlib.Numerals.{add-one}
 use native.Mathlib.Omega.{arith}
@@ -11,10 +11,9 @@ use lib.Dec.{eqb}
 use lib.ListN.{length, set}
 use borrow.Author.Tests.{ne-eqb}
 use Rattle.tables.specs.Tables.{XOR, CONSTANT, Gate, gate, total}
-use Rattle.tables.specs.Runs.{drawn, randoms}
+use Rattle.tables.specs.Runs.{randoms}
 use Rattle.tables.specs.Inside.{ranOn, RunsTo}
 use Rattle.tables.proofs.Lists.{bits-nil}
-use Rattle.tables.proofs.Run.{total-append}
 use Rattle.tables.proofs.Ran.{Ran, ran-one, ran-start, ran-more, runs-less}
 use Rattle.layout.specs.Layout.{piecesFrom, constantGates}
 use Rattle.layout.proofs.Bytes.{pieces-snoc}
@@ -88,9 +87,3 @@ constant-ran l s w b {bit} h k e =
 -- the shares after the first are 0
 pub constant-next : (l s : ℕ) → 0 ≡ cond (eqb (s + 1) 0) l 0
 constant-next l s = rw (ne-eqb (s + 1) 0 (λ e. omega (arith, e)))
-
--- gates that draw nothing, piece by piece
-pub pieces-none-drawn : (c s : ℕ) (f : ℕ → List Gate) → ((i : ℕ) → randoms (f i) ≡ 0) → randoms (piecesFrom c s f) ≡ 0
-unfolding piecesFrom total
-pieces-none-drawn zero s f h = refl
-pieces-none-drawn (suc c) s f h = total-append drawn (f s) (piecesFrom c (suc s) f) ∙ omega (arith, h s, pieces-none-drawn c (suc s) f h)

@@ -1,5 +1,3 @@
--- Gates that run on in pieces, sums, rows, and shares that stand before the next wire.
-mod InPieces
-mod InSums
-mod Rows
+-- Gates that run on in pieces, and shares that stand before the next wire.
+pub mod InPieces
 pub mod Before

@@ -1,13 +1,13 @@
--- `map_values::run_low_sums` meets its contract. The invariant, of each run: c sums have run on.
+-- `map_rows::run_low_sums` meets its contract. The invariant, of each run: c sums have run on.
 -- Assumes nothing.
 use mathlib.Core.Path.{refl}
 use Prim.Native.Nat.{_+_, _-_, _*_, _<_, _≤_}
 use native.Mathlib.Omega.{arith}
 use lib.ListN.{length}
-use Rattle.map_values.proofs.InSums.{InSums, sums-start, sums-room, sums-turn, sums-long, sums-end}
+use Rattle.map_rows.proofs.InSums.{InSums, sums-start, sums-room, sums-turn, sums-long, sums-end}
 use borrow.Author.Needs.{needs}
-use Rattle.map_values.proofs.run_low_sums.Statement.{statement}
-use Rattle.map_values.proofs.run_low_sums.Tie as tie
+use Rattle.map_rows.proofs.run_low_sums.Statement.{statement}
+use Rattle.map_rows.proofs.run_low_sums.Tie as tie
 
 abbrev Inv-loop : tie.InvT-loop
 Inv-loop one₀ other₀ last z m form x₀ y₀ c₀ one other x y c =

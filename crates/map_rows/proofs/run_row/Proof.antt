@@ -1,15 +1,15 @@
--- `map_values::run_row` meets its contract: in each run the own product, the first sums, the last sums.
+-- `map_rows::run_row` meets its contract: in each run the own product, the first sums, the last sums.
 -- Assumes nothing.
 use native.Mathlib.Omega.{arith}
 use Rattle.tables.proofs.Ran.{runs-less}
 use Rattle.construction.specs.Gadgets.{gadgetOf}
 use Rattle.layout.specs.Layout.{shareWires}
 use Rattle.layout.proofs.Pieces.{low-within}
 use Rattle.map_values.proofs.Before.{left-low, right-low, left-before, right-before}
-use Rattle.map_values.proofs.Rows.{high-ready, low-ready, row-ran}
+use Rattle.map_rows.proofs.Rows.{high-ready, low-ready, row-ran}
 use borrow.Author.Needs.{needs}
-use Rattle.map_values.proofs.run_row.Statement.{statement}
-use Rattle.map_values.proofs.run_row.Tie as tie
+use Rattle.map_rows.proofs.run_row.Statement.{statement}
+use Rattle.map_rows.proofs.run_row.Tie as tie
 
 share-wire-requires : tie.Need-share-wire-requires
 share-wire-requires c κs = left-low (c .before .before .pre .2) (c .before .before .pre .3)

@@ -1,4 +1,4 @@
--- `map_values::run_sum` meets its contract: values so far are bits.
+-- `map_rows::run_sum` meets its contract: values so far are bits.
 -- Assumes nothing.
 use mathlib.Core.Path.{sym, ap, _∙_}
 use mathlib.Core.List.{[]}
@@ -11,8 +11,8 @@ use Rattle.tables.specs.Tables.{XOR}
 use Rattle.tables.proofs.Run.{bit-xor}
 use Rattle.tables.proofs.Ran.{ran-one, runs-bit}
 use borrow.Author.Needs.{needs}
-use Rattle.map_values.proofs.run_sum.Statement.{statement}
-use Rattle.map_values.proofs.run_sum.Tie as tie
+use Rattle.map_rows.proofs.run_sum.Statement.{statement}
+use Rattle.map_rows.proofs.run_sum.Tie as tie
 
 slice-read-value : tie.Need-slice-read-value
 slice-read-value c = search needs

@@ -1,4 +1,4 @@
--- `map_values::run_high_sums` meets its contract. The invariant: in each run j sums have run on, and `Upright`.
+-- `map_rows::run_high_sums` meets its contract. The invariant: in each run j sums have run on, and `Upright`.
 -- Assumes nothing.
 use mathlib.Core.Path.{_≡_, refl}
 use Prim.Native.Nat.{_+_, _-_, _*_, _≤_, _<_}
@@ -6,10 +6,10 @@ use native.Mathlib.Omega.{arith}
 use Rattle.construction.specs.Shares.{pairAt}
 use Rattle.construction.proofs.Forms.{form-below}
 use Rattle.layout.proofs.Pieces.{Upright, upright-start, upright-turn, upright-high, upright-within, upright-low}
-use Rattle.map_values.proofs.InSums.{InSums, sums-start, sums-room, sums-turn, sums-long, sums-end}
+use Rattle.map_rows.proofs.InSums.{InSums, sums-start, sums-room, sums-turn, sums-long, sums-end}
 use borrow.Author.Needs.{needs}
-use Rattle.map_values.proofs.run_high_sums.Statement.{statement}
-use Rattle.map_values.proofs.run_high_sums.Tie as tie
+use Rattle.map_rows.proofs.run_high_sums.Statement.{statement}
+use Rattle.map_rows.proofs.run_high_sums.Tie as tie
 
 abbrev Inv-loop : tie.InvT-loop
 Inv-loop one₀ other₀ last w n i form x₀ y₀ z₀ j₀ one other x y z j =

@@ -1,4 +1,4 @@
--- `map_values::run_rows` meets its contract. The invariant, of each run: i rows have run on.
+-- `map_rows::run_rows` meets its contract. The invariant, of each run: i rows have run on.
 -- Assumes nothing.
 use mathlib.Core.Path.{refl}
 use Prim.Native.Nat.{_-_}
@@ -6,10 +6,10 @@ use native.Mathlib.Nat.{mul-le-mul-left}
 use native.Mathlib.Omega.{arith}
 use Rattle.construction.specs.Gadgets.{gadgetOf}
 use Rattle.layout.specs.Layout.{shareWires}
 use Rattle.map_values.proofs.InPieces.{pieces-start, pieces-room, pieces-end}
-use Rattle.map_values.proofs.Rows.{InRows, rows-turn}
-use Rattle.map_values.proofs.run_rows.Statement.{statement}
-use Rattle.map_values.proofs.run_rows.Tie as tie
+use Rattle.map_rows.proofs.Rows.{InRows, rows-turn}
+use Rattle.map_rows.proofs.run_rows.Statement.{statement}
+use Rattle.map_rows.proofs.run_rows.Tie as tie
 
 abbrev Inv-loop : tie.InvT-loop
 Inv-loop and one₀ other₀ v w n a b from₀ i₀ one other from i =

@@ -1,8 +1,8 @@
 -- A row in one run: its own product, the sums of the pairs before it, those of the pairs after it; and rows in turn.
 -- Assumes nothing.
-use mathlib.Core.Path.{_≡_, refl, sym, ap}
+use mathlib.Core.Path.{_≡_, refl, sym, ap, _∙_}
 use mathlib.Core.List.{List, [], _∷_, _++_}
-use Prim.Native.Nat.{ℕ, suc, _+_, _-_, _*_, _<_}
+use Prim.Native.Nat.{ℕ, zero, suc, _+_, _-_, _*_, _<_}
 use native.Mathlib.Omega.{arith}
 use lib.ListN.{length}
 use Rattle.tables.specs.Tables.{AND, Gate, gate, total}
@@ -17,7 +17,13 @@ use Rattle.construction.specs.Wires.{share, pairWire}
 use Rattle.layout.specs.Layout.{piecesFrom, sumGates, highGates, lowGates, rowGates}
 use Rattle.layout.proofs.Bytes.{pieces-long}
 use Rattle.layout.proofs.Pieces.{high-long, low-same, row-long}
-use Rattle.map_values.proofs.InPieces.{InPieces, pieces-turn, xor-none, pieces-none-drawn}
+use Rattle.map_values.proofs.InPieces.{InPieces, pieces-turn, xor-none}
+
+-- gates that draw nothing, piece by piece
+pieces-none-drawn : (c s : ℕ) (f : ℕ → List Gate) → ((i : ℕ) → randoms (f i) ≡ 0) → randoms (piecesFrom c s f) ≡ 0
+unfolding piecesFrom total
+pieces-none-drawn zero s f h = refl
+pieces-none-drawn (suc c) s f h = total-append drawn (f s) (piecesFrom c (suc s) f) ∙ omega (arith, h s, pieces-none-drawn c (suc s) f h)
 
 sums-none : (last c s : ℕ) (z : ℕ → ℕ) → randoms (piecesFrom c s (sumGates last z)) ≡ 0
 sums-none last c s z = pieces-none-drawn c s (sumGates last z) (λ i. xor-none _ _)

@@ -1,0 +1,3 @@
+-- Sums and rows that run on.
+mod InSums
+mod Rows
