@@ -1,4 +1,3 @@
--- Pairs by their numbers; the bytes of an OR.
-mod PairNumbers
+-- The bytes of an OR, and what was written of a plain gate.
 mod OrBytes
 mod Written

@@ -10,8 +10,8 @@ use Rattle.construction.specs.Wires.{share}
 use Rattle.construction.proofs.Rows.{pair-at, tri-closed, pair-closed}
 use Rattle.layout.specs.Layout.{pairGates}
 use Rattle.layout.proofs.Pieces.{pairNumber}
-use Rattle.mask_operands.specs.declared.Pair as DPair
-use Rattle.mask_operands.specs.OperandRoom.{PairNo}
+use Rattle.mask_pairs.specs.declared.Pair as DPair
+use Rattle.mask_pairs.specs.PairRoom.{PairNo}
 
 -- a pair's gates from the wires that are its operands
 pub pair-piece :

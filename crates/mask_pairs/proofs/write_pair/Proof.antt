@@ -1,8 +1,8 @@
--- `mask_operands::write_pair` meets its contract: whichever AND it is, its own call has written.
+-- `mask_pairs::write_pair` meets its contract: whichever AND it is, its own call has written.
 -- Assumes nothing.
 use borrow.Author.Needs.{needs}
-use Rattle.mask_operands.proofs.write_pair.Statement.{statement}
-use Rattle.mask_operands.proofs.write_pair.Tie as tie
+use Rattle.mask_pairs.proofs.write_pair.Statement.{statement}
+use Rattle.mask_pairs.proofs.write_pair.Tie as tie
 
 enum-told : tie.Need-enum-told
 enum-told c = search needs

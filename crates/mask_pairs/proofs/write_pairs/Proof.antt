@@ -1,4 +1,4 @@
--- `mask_operands::write_pairs` meets its contract. The invariant: c pairs are written, and p is the pair that is number c.
+-- `mask_pairs::write_pairs` meets its contract. The invariant: c pairs are written, and p is the pair that is number c.
 -- Assumes nothing.
 use mathlib.Core.Path.{refl, ap}
 use mathlib.Core.List.{List}
@@ -10,13 +10,13 @@ use Rattle.tables.specs.Tables.{Gate, pairBytes}
 use Rattle.construction.specs.Shares.{tri}
 use Rattle.construction.specs.Gadgets.{gadgetOf}
 use Rattle.layout.specs.Layout.{shareWires, pairGates}
-use Rattle.mask_operands.specs.OperandRoom.{PairNo}
+use Rattle.mask_pairs.specs.PairRoom.{PairNo}
 use Rattle.layout.proofs.ShareWires.{share-low}
 use Rattle.layout.proofs.Bytes.{pairs-pieces, PutPieces, put-pieces-start, put-pieces-turn, put-pieces-end}
 use Rattle.layout.proofs.Pieces.{pairNumber, pairs-in-turn}
-use Rattle.mask_operands.proofs.PairNumbers.{pair-piece, pair-first}
-use Rattle.mask_operands.proofs.write_pairs.Statement.{statement}
-use Rattle.mask_operands.proofs.write_pairs.Tie as tie
+use Rattle.mask_pairs.proofs.PairNumbers.{pair-piece, pair-first}
+use Rattle.mask_pairs.proofs.write_pairs.Statement.{statement}
+use Rattle.mask_pairs.proofs.write_pairs.Tie as tie
 
 abbrev Inv-loop : tie.InvT-loop
 Inv-loop and ops₀ at w n a b m p₀ c₀ ops p c =

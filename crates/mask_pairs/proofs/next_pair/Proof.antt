@@ -1,9 +1,9 @@
--- `mask_operands::next_pair` meets its contract: the next upper share, or the first pair of the next lower share.
+-- `mask_pairs::next_pair` meets its contract: the next upper share, or the first pair of the next lower share.
 -- Assumes nothing.
 use borrow.Author.Needs.{needs}
-use Rattle.mask_operands.proofs.PairNumbers.{pair-next, pair-turn}
-use Rattle.mask_operands.proofs.next_pair.Statement.{statement}
-use Rattle.mask_operands.proofs.next_pair.Tie as tie
+use Rattle.mask_pairs.proofs.PairNumbers.{pair-next, pair-turn}
+use Rattle.mask_pairs.proofs.next_pair.Statement.{statement}
+use Rattle.mask_pairs.proofs.next_pair.Tie as tie
 
 add-if1 : tie.Need-add-if1
 add-if1 c = search needs

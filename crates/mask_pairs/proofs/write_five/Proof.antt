@@ -1,4 +1,4 @@
--- `mask_operands::write_five` meets its contract: five gates, one after the other, by the form of the AND's pairs.
+-- `mask_pairs::write_five` meets its contract: five gates, one after the other, by the form of the AND's pairs.
 -- Assumes nothing.
 use mathlib.Core.Path.{refl, ap, _∙_}
 use mathlib.Core.List.{List, _++_}
@@ -8,8 +8,8 @@ use borrow.Author.Needs.{needs}
 use Rattle.tables.specs.Tables.{Gate, two, pairBytes}
 use Rattle.tables.specs.Inside.{putAt}
 use Rattle.tables.proofs.Put.{put-then}
-use Rattle.mask_operands.proofs.write_five.Statement.{statement}
-use Rattle.mask_operands.proofs.write_five.Tie as tie
+use Rattle.mask_pairs.proofs.write_five.Statement.{statement}
+use Rattle.mask_pairs.proofs.write_five.Tie as tie
 
 pair-form-requires : tie.Need-pair-form-requires
 pair-form-requires c κs = tt

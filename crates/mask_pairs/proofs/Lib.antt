@@ -1,0 +1,2 @@
+-- Pairs by their numbers.
+mod PairNumbers

@@ -1,0 +1,2 @@
+-- What writing the operands of an AND's pairs takes.
+pub mod PairRoom
