@@ -1,4 +1,4 @@
 -- Laws that the proofs of listing cite.
-pub mod Lines
 pub mod Loops
+pub mod TableText
 pub mod Examples

@@ -3,8 +3,8 @@
 use Prim.Native.Nat.{_-_}
 use native.Mathlib.Omega.{arith}
 use Rattle.tables.specs.Tables.{tableOf}
-use Rattle.listing.specs.Listing.{tableLines}
-use Rattle.listing.proofs.Lines.{lines-short}
+use Rattle.list_lines.specs.Lines.{tableLines}
+use Rattle.listing.proofs.TableText.{lines-short}
 use Rattle.listing.proofs.Loops.{Left, left-start, left-most, left-turn, left-end}
 use borrow.Author.Needs.{needs}
 use Rattle.listing.proofs.lines_long.Statement.{statement}

@@ -2,7 +2,7 @@
 -- Assumes nothing.
 use native.Mathlib.Omega.{arith}
 use Rattle.text.proofs.Writing.{all-short, all-put}
-use Rattle.listing.proofs.Loops.{list-refused, list-six, list-sizes, list-lines}
+use Rattle.listing.proofs.TableText.{list-refused, list-six, list-sizes, list-lines}
 use borrow.Author.Needs.{needs}
 use Rattle.listing.proofs.list_table.Statement.{statement}
 use Rattle.listing.proofs.list_table.Tie as tie

@@ -3,7 +3,7 @@
 use Prim.Native.Nat.{_-_}
 use native.Mathlib.Omega.{arith}
 use Rattle.tables.specs.Tables.{tableOf}
-use Rattle.listing.specs.Listing.{tableLines}
+use Rattle.list_lines.specs.Lines.{tableLines}
 use Rattle.listing.proofs.Loops.{Putting, left-most, putting-start, putting-long, putting-turn, putting-end}
 use borrow.Author.Needs.{needs}
 use Rattle.listing.proofs.put_lines.Statement.{statement}

@@ -1,4 +1,4 @@
--- `listing::put_gate` meets its contract: the wire, then the rest of the line.
+-- `list_lines::put_gate` meets its contract: the wire, then the rest of the line.
 -- Assumes nothing.
 use mathlib.Core.List.{_∷_}
 use native.Mathlib.Omega.{arith}
@@ -6,10 +6,10 @@ use lib.ListN.{length-append}
 use Rattle.tables.specs.Tables.{kindOf}
 use Rattle.text.specs.Text.{decimal, lineOf}
 use Rattle.text.proofs.Writing.{next-room, puts-then}
-use Rattle.listing.specs.Listing.{equalsWord, kindWords}
+use Rattle.list_lines.specs.Lines.{equalsWord, kindWords}
 use borrow.Author.Needs.{needs}
-use Rattle.listing.proofs.put_gate.Statement.{statement}
-use Rattle.listing.proofs.put_gate.Tie as tie
+use Rattle.list_lines.proofs.put_gate.Statement.{statement}
+use Rattle.list_lines.proofs.put_gate.Tie as tie
 
 slice-aggregate-put-number : tie.Need-slice-aggregate-put-number
 slice-aggregate-put-number c = search needs

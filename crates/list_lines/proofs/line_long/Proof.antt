@@ -1,12 +1,12 @@
--- `listing::line_long` meets its contract: 32 bytes hold the line.
+-- `list_lines::line_long` meets its contract: 32 bytes hold the line.
 -- Assumes nothing.
 use mathlib.Core.Path.{_∙_}
 use native.Mathlib.Nat.{zero-add}
 use native.Mathlib.Omega.{arith}
-use Rattle.listing.proofs.Lines.{line-short}
+use Rattle.list_lines.proofs.Lines.{line-short}
 use borrow.Author.Needs.{needs}
-use Rattle.listing.proofs.line_long.Statement.{statement}
-use Rattle.listing.proofs.line_long.Tie as tie
+use Rattle.list_lines.proofs.line_long.Statement.{statement}
+use Rattle.list_lines.proofs.line_long.Tie as tie
 
 slice-aggregate-put-line : tie.Need-slice-aggregate-put-line
 slice-aggregate-put-line c = search needs

@@ -1,10 +1,10 @@
--- `listing::put_output` meets its contract: the position, then the wire.
+-- `list_lines::put_output` meets its contract: the position, then the wire.
 -- Assumes nothing.
 use native.Mathlib.Omega.{arith}
 use Rattle.text.specs.Text.{lineOf}
 use borrow.Author.Needs.{needs}
-use Rattle.listing.proofs.put_output.Statement.{statement}
-use Rattle.listing.proofs.put_output.Tie as tie
+use Rattle.list_lines.proofs.put_output.Statement.{statement}
+use Rattle.list_lines.proofs.put_output.Tie as tie
 
 slice-aggregate-put-two : tie.Need-slice-aggregate-put-two
 slice-aggregate-put-two c = search needs

@@ -1,14 +1,14 @@
--- `listing::put_part` meets its contract: the line is a gate's or an output's, by its number.
+-- `list_lines::put_part` meets its contract: the line is a gate's or an output's, by its number.
 -- Assumes nothing.
 use mathlib.Core.Path.{ap}
 use native.Mathlib.Omega.{arith}
 use lib.ListN.{length}
 use Rattle.tables.proofs.Accept.{accepted-long, has-gates, has-outputs}
 use Rattle.text.proofs.Writing.{puts-as}
-use Rattle.listing.proofs.Loops.{line-known, gate-line, line-output, output-line}
+use Rattle.list_lines.proofs.Numbered.{line-known, gate-line, line-output, output-line}
 use borrow.Author.Needs.{needs}
-use Rattle.listing.proofs.put_part.Statement.{statement}
-use Rattle.listing.proofs.put_part.Tie as tie
+use Rattle.list_lines.proofs.put_part.Statement.{statement}
+use Rattle.list_lines.proofs.put_part.Tie as tie
 
 field-requires : tie.Need-field-requires
 field-requires c κs =

@@ -1,4 +1,4 @@
--- `listing::put_line` meets its contract: the first line, or the line by its number after the first.
+-- `list_lines::put_line` meets its contract: the first line, or the line by its number after the first.
 -- Assumes nothing.
 use mathlib.Core.Path.{ap}
 use native.Mathlib.Omega.{arith}
@@ -6,10 +6,10 @@ use lib.ListN.{length}
 use Rattle.tables.proofs.Accept.{accepted-long}
 use Rattle.text.specs.Text.{lineOf}
 use Rattle.text.proofs.Writing.{puts-as}
-use Rattle.listing.proofs.Loops.{first-line, later-line}
+use Rattle.list_lines.proofs.Numbered.{first-line, later-line}
 use borrow.Author.Needs.{needs}
-use Rattle.listing.proofs.put_line.Statement.{statement}
-use Rattle.listing.proofs.put_line.Tie as tie
+use Rattle.list_lines.proofs.put_line.Statement.{statement}
+use Rattle.list_lines.proofs.put_line.Tie as tie
 
 field-requires : tie.Need-field-requires
 field-requires c κs =

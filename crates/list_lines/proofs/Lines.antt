@@ -2,8 +2,8 @@
 -- Assumes nothing.
 use mathlib.Core.Path.{_≡_, refl, ap}
 use mathlib.Core.Bool.{true}
-use mathlib.Core.List.{List, [], _∷_, _++_, flatten}
-use Prim.Native.Nat.{ℕ, zero, suc, _+_, _*_, _≤_, _<_}
+use mathlib.Core.List.{List, [], _∷_, _++_}
+use Prim.Native.Nat.{ℕ, zero, suc, _+_, _≤_, _<_}
 use native.Mathlib.Omega.{arith}
 use lib.ListN.{length, length-append}
 use Rattle.tables.specs.Tables.{Kind, NOT, XOR, AND, RANDOM, CONSTANT, OR, UNKNOWN, kindOf, Gate, wires, word}
@@ -14,8 +14,8 @@ use Rattle.tables.proofs.Accept.{Accepted, accepted, gates-of-length, outputs-o
 use Rattle.tables.proofs.Format.{passed-sound-gates, sound-earlier}
 use Rattle.text.specs.Text.{decimal, lineOf}
 use Rattle.text.proofs.Writing.{digits-few}
-use Rattle.listing.specs.Listing.{equalsWord, kindWords, inputsLine, gateLines, outputLines, tableLines}
-use Rattle.listing.specs.Listing.{listRoom, Listed, lineAt}
+use Rattle.list_lines.specs.Lines.{equalsWord, kindWords, inputsLine, gateLines, outputLines, tableLines}
+use Rattle.list_lines.specs.Listed.{Listed, lineAt}
 
 -- what stands after a gate's wire, by its kind's byte
 module _ (k l r : ℕ) where
@@ -106,21 +106,10 @@ unfolding gateLines
 gate-lines-length w [] = refl
 gate-lines-length w (g ∷ gs) = ap suc (gate-lines-length (suc w) gs)
 
-output-lines-length : (o : ℕ) (ws : List ℕ) → length (outputLines o ws) ≡ length ws
+pub output-lines-length : (o : ℕ) (ws : List ℕ) → length (outputLines o ws) ≡ length ws
 unfolding outputLines
 output-lines-length o [] = refl
 output-lines-length o (w ∷ ws) = ap suc (output-lines-length (suc o) ws)
-
-flatten-long : (k : ℕ) (ls : List (List ℕ)) → All (λ l. length l ≤ k) ls → length (flatten ls) ≤ k * length ls
-unfolding All flatten
-flatten-long k [] a = omega arith
-flatten-long k (l ∷ ls) a = omega (arith, length-append l (flatten ls), a .0, flatten-long k ls (a .1))
-
-flatten-append : (ls ms : List (List ℕ)) → length (flatten (ls ++ ms)) ≡ length (flatten ls) + length (flatten ms)
-unfolding flatten
-flatten-append [] ms = omega arith
-flatten-append (l ∷ ls) ms =
-    omega (arith, length-append l (flatten (ls ++ ms)), length-append l (flatten ls), flatten-append ls ms)
 
 -- the lines of a table that passed
 module _ (s : List ℕ) (H : Listed s) where
@@ -139,14 +128,14 @@ module _ (s : List ℕ) (H : Listed s) where
         outputs-of-length s,
       )
 
-  inputs-fit : length (inputsLine (tableOf s .inputs)) ≤ 13
+  pub inputs-fit : length (inputsLine (tableOf s .inputs)) ≤ 13
   inputs-fit = inputs-short (tableOf s .inputs) (omega (arith, ok .few-wires))
 
-  gates-fit : All (λ l. length l ≤ 27) (gateLines (tableOf s .inputs) (tableOf s .gates))
+  pub gates-fit : All (λ l. length l ≤ 27) (gateLines (tableOf s .inputs) (tableOf s .gates))
   gates-fit =
       gates-short _ _ (sound-earlier _ _ (passed-sound-gates s (H .0))) (omega (arith, ok .few-wires))
 
-  outputs-fit : All (λ l. length l ≤ 18) (outputLines 0 (tableOf s .outputs))
+  pub outputs-fit : All (λ l. length l ≤ 18) (outputLines 0 (tableOf s .outputs))
   outputs-fit =
       let wires-few = ok .few-wires in
       outputs-short 0 (tableOf s .outputs)
@@ -160,28 +149,8 @@ module _ (s : List ℕ) (H : Listed s) where
       (all-map (λ l. length l ≤ 27) (λ l. length l ≤ 32) (λ l h. omega (arith, h)) _ gates-fit)
       (all-map (λ l. length l ≤ 18) (λ l. length l ≤ 32) (λ l h. omega (arith, h)) _ outputs-fit)
 
-  -- 32 bytes hold every line, and `listRoom` all of them
+  -- 32 bytes hold every line
   pub line-short : (j : ℕ) → j < length (tableLines (tableOf s)) → length (lineAt s j) ≤ 32
   unfolding All
   line-short j h =
       all-getD (λ l. length l ≤ 32) (tableLines (tableOf s)) j [] (omega (arith, inputs-fit), later-fit) h
-
-  pub lines-short : length (flatten (tableLines (tableOf s))) ≤ listRoom
-  unfolding flatten
-  lines-short =
-      let t = tableOf s in
-      let gates = gateLines (t .inputs) (t .gates) in
-      let outputs = outputLines 0 (t .outputs) in
-      omega (
-        arith,
-        length-append (inputsLine (t .inputs)) (flatten (gates ++ outputs)),
-        inputs-fit,
-        flatten-append gates outputs,
-        flatten-long 27 gates gates-fit,
-        flatten-long 18 outputs outputs-fit,
-        gate-lines-length (t .inputs) (t .gates),
-        output-lines-length 0 (t .outputs),
-        ok .few-wires,
-        outputs-of-length s,
-        H .1,
-      )

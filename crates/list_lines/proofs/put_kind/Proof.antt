@@ -1,4 +1,4 @@
--- `listing::put_kind` meets its contract, a case for each kind; a table that passed has no other.
+-- `list_lines::put_kind` meets its contract, a case for each kind; a table that passed has no other.
 -- Assumes nothing.
 use mathlib.Core.Path.{_≡_, ap}
 use mathlib.Core.List.{List, _∷_}
@@ -8,11 +8,11 @@ use lib.ListN.{length}
 use Rattle.tables.specs.Tables.{kindOf}
 use Rattle.text.specs.Text.{lineOf}
 use Rattle.text.proofs.Writing.{puts-as}
-use Rattle.listing.specs.Listing.{equalsWord, kindWords}
-use Rattle.listing.proofs.Lines.{not-line, xor-line, and-line, random-line, constant-line, or-line}
+use Rattle.list_lines.specs.Lines.{equalsWord, kindWords}
+use Rattle.list_lines.proofs.Lines.{not-line, xor-line, and-line, random-line, constant-line, or-line}
 use borrow.Author.Needs.{needs}
-use Rattle.listing.proofs.put_kind.Statement.{statement}
-use Rattle.listing.proofs.put_kind.Tie as tie
+use Rattle.list_lines.proofs.put_kind.Statement.{statement}
+use Rattle.list_lines.proofs.put_kind.Tie as tie
 
 -- there is room for the line, as the case of a kind puts it
 room :

@@ -1,0 +1,4 @@
+-- Laws of the lines of a table.
+pub mod Lines
+pub mod Numbered
+pub mod Examples
