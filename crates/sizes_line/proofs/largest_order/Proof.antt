@@ -1,7 +1,6 @@
 -- `sizes_line::largest_order` meets its contract: the loop tries the orders from 15 down.
 -- Assumes nothing.
 use mathlib.Core.Path.{sym, _∙_}
-use native.Mathlib.Omega.{arith}
 use borrow.Author.Needs.{needs}
 use borrow.Author.Tests.{not-true, not-false}
 use Rattle.sizes_line.proofs.Largest.{Trying, countable-at, trying-start, trying-found, trying-next, trying-end}
@@ -24,12 +23,10 @@ too-large-requires : tie.Need-too-large-requires Inv-loop μ-loop
 too-large-requires c κs = search needs
 
 returns : tie.Need-returns Inv-loop μ-loop
-returns c t T =
-    let found = trying-found (c .before .before .before .before .loop .inv) (c .before .before .masked-sizes .ensures) (c .before .before .before .loop-test .taken)
+returns c =
+    let tried = c .before .before in
+    trying-found (tried .before .before .loop .inv) (tried .masked-sizes .ensures) (tried .before .loop-test .taken)
     (sym (c .before .too-large .ensures) ∙ not-true _ (c .if1 .taken))
-    t
-    T in
-    omega (arith, found)
 
 sub-order : tie.Need-sub-order Inv-loop μ-loop
 sub-order c = search needs
@@ -38,7 +35,9 @@ loop-less : tie.Need-loop-less Inv-loop μ-loop
 loop-less c = search needs
 
 loop-again : tie.Need-loop-again Inv-loop μ-loop
-loop-again c = trying-next (c .before .before .before .before .loop .inv) (c .before .before .masked-sizes .ensures) (c .before .before .before .loop-test .taken)
+loop-again c =
+    let tried = c .before .before in
+    trying-next (tried .before .before .loop .inv) (tried .masked-sizes .ensures) (tried .before .loop-test .taken)
     (sym (c .before .too-large .ensures) ∙ not-false _ (c .if1 .left))
 
 returns-2 : tie.Need-returns-2 Inv-loop μ-loop

@@ -39,8 +39,9 @@ same-length c = search needs
 
 returns : tie.Need-returns
 returns c =
-    let start = c .before .before .before .before .before .before .before .before .before .before .before .before in
-    puts-then (after-bytes (start .args .six)) (omega (arith, start .pre)) (c .before .before .before .before .before .before .before .before .put-number .ensures) (c .before .before .put-two .ensures)
+    let bytes = c .before .before .before .before .before .before .before .before in
+    let start = bytes .before .before .before .before in
+    puts-then (after-bytes (start .args .six)) (omega (arith, start .pre)) (bytes .put-number .ensures) (c .before .before .put-two .ensures)
 
 pub put-later-spec : {M : Type 1} → statement M
 put-later-spec =

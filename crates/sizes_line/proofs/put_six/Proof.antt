@@ -45,19 +45,23 @@ slice-aggregate-put-number-3 c = search needs
 put-number-requires-3 : tie.Need-put-number-requires-3
 unfolding lineOf
 put-number-requires-3 c κs =
-    let start = c .before .before .before .before .before .before .before .before .before .before .before .before .before in
+    let wires = c .before .before .before .before in
+    let shares = wires .before .before .before .before .before in
+    let start = shares .before .before .before .before in
     let z = start .args .six in
-    let second = next-room (after-shares z) (omega (arith, start .pre)) (c .before .before .before .before .before .before .before .before .before .put-number .ensures) in
-    let third = next-room (after-wires z) second (c .before .before .before .before .put-number2 .ensures) in
+    let second = next-room (after-shares z) (omega (arith, start .pre)) (shares .put-number .ensures) in
+    let third = next-room (after-wires z) second (wires .put-number2 .ensures) in
     omega (arith, third, length-append (decimal (z .tape)) (laterText z))
 
 put-later-requires : tie.Need-put-later-requires
 unfolding lineOf
 put-later-requires c κs =
-    let start = c .before .before .before .before .before .before .before .before .before .before .before .before .before .before .before .before .before in
+    let wires = c .before .before .before .before .before .before .before .before in
+    let shares = wires .before .before .before .before .before in
+    let start = shares .before .before .before .before in
     let z = start .args .six in
-    let second = next-room (after-shares z) (omega (arith, start .pre)) (c .before .before .before .before .before .before .before .before .before .before .before .before .before .put-number .ensures) in
-    let third = next-room (after-wires z) second (c .before .before .before .before .before .before .before .before .put-number2 .ensures) in
+    let second = next-room (after-shares z) (omega (arith, start .pre)) (shares .put-number .ensures) in
+    let third = next-room (after-wires z) second (wires .put-number2 .ensures) in
     next-room (laterText z) third (c .before .before .before .put-number3 .ensures)
 
 same-length : tie.Need-same-length
@@ -66,15 +70,16 @@ same-length c = search needs
 returns : tie.Need-returns
 unfolding lineOf
 returns c =
-    let start = c .before .before .before .before .before .before .before .before .before .before .before .before .before .before .before .before .before .before .before .before in
+    let tape = c .before .before .before .before .before .before in
+    let wires = tape .before .before .before .before .before in
+    let shares = wires .before .before .before .before .before in
+    let start = shares .before .before .before .before in
     let z = start .args .six in
-    let one = c .before .before .before .before .before .before .before .before .before .before .before .before .before .before .before .before .put-number .ensures in
-    let two = c .before .before .before .before .before .before .before .before .before .before .before .put-number2 .ensures in
-    let second = next-room (after-shares z) (omega (arith, start .pre)) one in
-    let third = next-room (after-wires z) second two in
-    puts-then (after-shares z) (omega (arith, start .pre)) one
-    (puts-then (after-wires z) second two
-    (puts-then (laterText z) third (c .before .before .before .before .before .before .put-number3 .ensures) (c .before .before .put-later .ensures)))
+    let second = next-room (after-shares z) (omega (arith, start .pre)) (shares .put-number .ensures) in
+    let third = next-room (after-wires z) second (wires .put-number2 .ensures) in
+    puts-then (after-shares z) (omega (arith, start .pre)) (shares .put-number .ensures)
+    (puts-then (after-wires z) second (wires .put-number2 .ensures)
+    (puts-then (laterText z) third (tape .put-number3 .ensures) (c .before .before .put-later .ensures)))
 
 pub put-six-spec : {M : Type 1} → statement M
 put-six-spec =

@@ -1,7 +1,9 @@
 -- `sizes_line::six_figures` meets its contract: the masked sizes of the tally are those of every table that has it, and fit 32 bits.
 -- Assumes nothing.
+use mathlib.Core.Path.{_∙_}
 use native.Mathlib.Omega.{arith}
 use borrow.Author.Needs.{needs}
+use Rattle.tables.specs.Tables.{tableLong}
 use Rattle.construction.specs.declared.And.the-variants.{Isw}
 use Rattle.planning.proofs.Planning.{MaskedFits, masked-fits, tally-outputs, wires-masked, gates-masked, tape-masked}
 use Rattle.sizes_line.proofs.Largest.{countable-at}
@@ -32,11 +34,14 @@ cast-t9 c = record { fits = omega (arith, small (c .before .before .before .befo
 
 cast-t10 : tie.Need-cast-t10
 cast-t10 c =
-    let m = small (c .before .before .before .before .before) in
-    record { fits = omega (arith, c .before .before .before .before .table-bytes .ensures, m .gates, m .outputs, c .before .before .before .before .before .before .before .pre .outputs) }
+    let bytes = c .before .before .before .before in
+    let m = small (bytes .before) in
+    record { fits = omega (arith, bytes .table-bytes .ensures, m .gates, m .outputs, bytes .before .before .before .pre .outputs) }
 
 cast-t11 : tie.Need-cast-t11
-cast-t11 c = record { fits = omega (arith, small (c .before .before .before .before .before .before) .outputs, c .before .before .before .before .before .before .before .before .pre .outputs) }
+cast-t11 c =
+    let masked = c .before .before .before .before .before .before in
+    record { fits = omega (arith, small masked .outputs, masked .before .before .pre .outputs) }
 
 cast-t12 : tie.Need-cast-t12
 cast-t12 c = search needs
@@ -45,12 +50,13 @@ returns : tie.Need-returns
 returns c t T =
     let M = c .before .before .before .before .before .before .masked-sizes .ensures in
     record {
-      shares = omega (arith, M .shares);
-      wires = omega (arith, wires-masked T M Isw);
-      tape = omega (arith, tape-masked T M Isw);
-      bytes = omega (arith, c .before .before .before .before .before .table-bytes .ensures, gates-masked T M Isw, tally-outputs T M);
-      outputs = omega (arith, tally-outputs T M);
-      largest = omega (arith, c .before .before .before .before .largest-order .ensures t T);
+      shares = M .shares;
+      wires = wires-masked T M Isw;
+      tape = tape-masked T M Isw;
+      bytes = c .before .before .before .before .before .table-bytes .ensures
+          ∙ (λ j. tableLong (gates-masked T M Isw j) (tally-outputs T M j));
+      outputs = tally-outputs T M;
+      largest = c .before .before .before .before .largest-order .ensures t T;
     }
 
 pub six-figures-spec : {M : Type 1} → statement M
