@@ -155,10 +155,12 @@ module _ {G : Gadget} (L : Lawful G) {s : List ℕ} {p : DPlan.Plan} {k : ℕ} {
         both = rw (is .kind) (gates-ready L here);
       }
 
+  -- the gate has run with the share j, which is the free one
   pub step-turn :
-      {c d : ℕ} {m′ x′ y′ : List ℕ} → GateRan G (r .kind) (r .left) n k g w a b ts at m m′ x x′ y y′ → c ≡ cost (kindOf (r .kind)) n
-      → d ≡ draws (kindOf (r .kind)) n → Stepping G t n k ts M A B (g + 1) (w + c) (at + d) m′ x′ y′
-  step-turn {c} {d} {m′} {x′} {y′} ran size bits =
+      {c d j : ℕ} {m′ x′ y′ : List ℕ} → GateRan G (r .kind) (r .left) n j g w a b ts at m m′ x x′ y y′ → j ≡ k
+      → c ≡ cost (kindOf (r .kind)) n → d ≡ draws (kindOf (r .kind)) n → Stepping G t n k ts M A B (g + 1) (w + c) (at + d) m′ x′ y′
+  step-turn {c} {d} {j} {m′} {x′} {y′} ran free size bits =
+      let ran-free = subst (λ (i : ℕ). GateRan G (r .kind) (r .left) n i g w a b ts at m m′ x x′ y y′) free ran in
       let kind = this .kind in
       let l = getD S (this .left) [] in
       let e = getD S (this .right) [] in
@@ -173,7 +175,7 @@ module _ {G : Gadget} (L : Lawful G) {s : List ℕ} {p : DPlan.Plan} {k : ℕ} {
       let flips : gateFlips G (kindOf (r .kind)) n k (shareWires n a) (shareWires n b) v u ≡ gateFlips G kind n k l e v u =
       gate-flips-read G (kindOf (r .kind)) n k _ l _ e v u read read′ ∙ rw (is .kind) in
       let of-shares : BothFlip (map driverOf (newWires G kind (this .left) n g w l e)) (gateFlips G kind n k l e v u) ts at w m m′ x x′ y y′ =
-      subst₂ (λ (gs : List Gate) (fs : List ℕ). BothFlip gs fs ts at w m m′ x x′ y y′) gates flips ran in
+      subst₂ (λ (gs : List Gate) (fs : List ℕ). BothFlip gs fs ts at w m m′ x x′ y y′) gates flips ran-free in
       let next : S ++ (newShares kind n w (getD S (this .left) []) ∷ []) ≡ sharesTo n t (suc g) =
       rw (P .wire) (sym (shares-to-next n t g inside)) in
       rw (add-one, size, bits, is .kind)
