@@ -10,7 +10,9 @@ add-if1 : tie.Need-add-if1
 add-if1 c = omega (arith, plan-sized (c .before .before .before .before .before .before .before .before .pre .plan) .plain)
 
 map-small-requires : tie.Need-map-small-requires
-map-small-requires c κs = (c .before .before .before .before .before .before .before .before .before .before .before .before .pre, c .before .before .before .if1 .taken)
+map-small-requires c κs =
+    let test = c .before .before .before in
+    (test .before .before .before .before .before .before .before .before .before .pre, test .if1 .taken)
 
 same-length : tie.Need-same-length
 same-length c = search needs
@@ -28,7 +30,9 @@ add-if2 : tie.Need-add-if2
 add-if2 c = omega (arith, plan-sized (c .before .before .before .before .before .before .before .before .before .before .pre .plan) .plain)
 
 map-middle-requires : tie.Need-map-middle-requires
-map-middle-requires c κs = (c .before .before .before .before .before .before .before .before .before .before .before .before .before .before .pre, c .before .before .before .if2 .taken)
+map-middle-requires c κs =
+    let test = c .before .before .before in
+    (test .before .before .before .before .before .before .before .before .before .before .before .pre, test .if2 .taken)
 
 same-length-4 : tie.Need-same-length-4
 same-length-4 c = search needs

@@ -10,7 +10,9 @@ add-if1 : tie.Need-add-if1
 add-if1 c = omega (arith, plan-sized (c .before .before .before .before .before .before .before .before .pre .plan) .plain)
 
 map-tiny-requires : tie.Need-map-tiny-requires
-map-tiny-requires c κs = (c .before .before .before .before .before .before .before .before .before .before .before .before .pre, c .before .before .before .if1 .taken)
+map-tiny-requires c κs =
+    let test = c .before .before .before in
+    (test .before .before .before .before .before .before .before .before .before .pre, test .if1 .taken)
 
 same-length : tie.Need-same-length
 same-length c = search needs
