@@ -1,16 +1,18 @@
--- The sizes of the masked table, the refusals and the forecast of a plain table, by how many gates it has of each kind.
+-- Totals of figures, the sizes of the masked table, the refusals and the forecast of a plain table, by how many gates there are of each
+-- kind.
 -- Assumes nothing.
 use mathlib.Core.Path.{_≡_, refl, ap, subst, _∙_}
 use mathlib.Core.Bool.{Bool, true, false, _||_, cond}
-use mathlib.Core.List.{List}
+use mathlib.Core.List.{List, [], _∷_}
 use Prim.Native.Nat.{ℕ, _+_, _*_}
 use native.Mathlib.Omega.{arith}
 use lib.Dec.{ltb}
 use lib.ListN.{length}
 use Rattle.tables.specs.declared.Counts as DCounts
 use Rattle.tables.specs.Refusals.{Fault, fault, none, passed, orElse, refusedIf}
+use Rattle.tables.specs.Tables.{Kind, NOT, XOR, AND, RANDOM, CONSTANT, OR, UNKNOWN, Gate, total}
 use Rattle.tables.specs.Tables.{Table, wires, tableOf, tableBytes, tableFault, randomFault}
-use Rattle.tables.specs.Counted.{countsOf}
+use Rattle.tables.specs.Counted.{ofKind, countsOf}
 use Rattle.tables.proofs.Format.{table-long}
 use Rattle.tables.proofs.Accept.{Plain, accepted-plain}
 use Rattle.construction.specs.declared.Sizes as DSizes
@@ -18,11 +20,30 @@ use Rattle.construction.specs.Shares.{sharesOf, tri}
 use Rattle.construction.specs.Gadgets.{Gadget}
 use Rattle.construction.specs.Wires.{cost, maskedTable, tapeLong}
 use Rattle.construction.specs.Says.{orderOk, orderFault, tooMany, plainFault, Forecast, ForecastSays}
-use Rattle.construction.specs.Counts.{draws, refused8, figuresBy, tooManyBy, forecastBy}
+use Rattle.construction.specs.Counts.{draws, counted, refused8, figuresBy, tooManyBy, forecastBy}
 use Rattle.construction.proofs.Lawful.{Lawful}
 use Rattle.construction.proofs.Placed.{masked-outputs}
 use Rattle.construction.proofs.Costs.{masked-wires, masked-tape}
-use Rattle.construction.proofs.Figures.{total-counted}
+
+-- a figure that only known kinds have, of one gate and in total: so many gates of each kind, times the figure
+module _ (f : Kind → ℕ) (unknown : (k : ℕ) → f (UNKNOWN k) ≡ 0) where
+  pub by-kind :
+      (k : Kind)
+      → f k
+      ≡ ofKind 0 k * f NOT + ofKind 1 k * f XOR + ofKind 2 k * f AND + ofKind 3 k * f RANDOM + ofKind 4 k * f CONSTANT
+      + ofKind 5 k * f OR
+  by-kind NOT = omega arith
+  by-kind XOR = omega arith
+  by-kind AND = omega arith
+  by-kind RANDOM = omega arith
+  by-kind CONSTANT = omega arith
+  by-kind OR = omega arith
+  by-kind (UNKNOWN k) = omega (arith, unknown k)
+
+  pub total-counted : (gs : List Gate) → total f gs ≡ counted f (countsOf gs)
+  unfolding total
+  total-counted [] = omega arith
+  total-counted (g ∷ gs) = omega (arith, by-kind (g .kind), total-counted gs)
 
 -- so many ANDs and no other gate
 abbrev andsAlone : ℕ → DCounts.Counts

@@ -17,8 +17,8 @@ use Rattle.construction.specs.declared.And as DAnd
 use Rattle.construction.specs.declared.And.the-variants.{Isw, Dom}
 use Rattle.construction.specs.Gadgets.{Five, first, second, third, fourth, fifth, allFive, indexOf, Gadget, isw, dom, gadgetOf}
 use Rattle.tables.specs.Tables.{XOR, AND, RANDOM, Gate, gate, total, kindBytes, pins}
-use Rattle.construction.specs.Forms.{pairCarried, withPins}
-use Rattle.construction.proofs.Forms.{iswForm, domForm, isw-marks, dom-marks, form-few}
+use Rattle.construction.specs.PinMarks.{pairCarried, withPins}
+use Rattle.construction.proofs.PinMarks.{isw-marks, dom-marks, marks-few}
 
 pub both-below : (l r w : ℕ) → l < w → r < w → ltb l w && ltb r w ≡ true
 both-below l r w h k = and-intro (ltb l w) (ltb r w) (lt-ltb l w h) (lt-ltb r w k)
@@ -176,7 +176,7 @@ isw-lawful =
       low-mark = λ i j. refl;
       high-mark = λ i j. refl;
       carries = isw-carries;
-      few-joined = λ i j h f. rw (isw-marks i j h f) (form-few iswForm i j (indexOf f));
+      few-joined = λ i j h f. rw (isw-marks i j h f) (marks-few _ i j (indexOf f));
     }
 
 -- that of source document 002
@@ -193,7 +193,7 @@ dom-lawful =
       low-mark = λ i j. refl;
       high-mark = λ i j. refl;
       carries = dom-carries;
-      few-joined = λ i j h f. rw (dom-marks i j h f) (form-few domForm i j (indexOf f));
+      few-joined = λ i j h f. rw (dom-marks i j h f) (marks-few _ i j (indexOf f));
     }
 
 -- every AND that there is

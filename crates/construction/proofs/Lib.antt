@@ -6,10 +6,9 @@ pub mod Each
 pub mod Joined
 pub mod Lawful
 pub mod Hiding
-pub mod Forms
+pub mod PinMarks
 pub mod Costs
 pub mod Origins
-pub mod Figures
 pub mod Counted
 pub mod Placed
 pub mod Gatewise

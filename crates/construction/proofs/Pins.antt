@@ -16,7 +16,7 @@ use Rattle.tables.proofs.Run.{OfLeft, OfRight}
 use Rattle.tables.proofs.Accept.{Plain, PlainGate, PlainGates}
 use Rattle.construction.specs.Shares.{sharesOf, upFrom, Pair, pairOf, pairs, tri}
 use Rattle.construction.specs.Gadgets.{Five, indexOf, Gadget}
-use Rattle.construction.specs.Forms.{withPins}
+use Rattle.construction.specs.PinMarks.{withPins}
 use Rattle.construction.specs.Wires.{Part, pair, own, sum, inAnd, lastNot, Origin, andPart, xorShare, constantShare}
 use Rattle.construction.specs.Wires.{orPart, partMarks, marks, Wire, wire, driverOf, originOf, share, firstOn, adding, rowWires}
 use Rattle.construction.specs.Wires.{pairWire, andWires, andShares, andCost, newWires, newShares, cost, masked, inputShares, maskedWires}

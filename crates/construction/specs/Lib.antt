@@ -6,4 +6,4 @@ pub mod Wires
 pub mod Codes
 pub mod Says
 pub mod Counts
-pub mod Forms
+pub mod PinMarks

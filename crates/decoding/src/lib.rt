@@ -11,7 +11,7 @@ ghost use Rattle.construction.specs.Says.{decodeFault, DecodeSays};
 fn decode_fault(order: u8, shares: &[u8], room: usize) -> tables::Refusal
     ensures { λ r. ⌜ Refused (decodeFault order (now (shares .entry)) room) r ⌝ }
 {
-    let found = construction::order_fault(order);
+    let found = orders::order_fault(order);
     if found.number != 0 {
         return found;
     }

@@ -14,7 +14,7 @@ ghost use Rattle.construction.specs.Says.{encodeFault, EncodeSays};
 fn encode_fault(order: u8, secrets: &[u8], tape: &[u8], room: usize) -> tables::Refusal
     ensures { λ r. ⌜ Refused (encodeFault order (now (secrets .entry)) (now (tape .entry)) room) r ⌝ }
 {
-    let found = construction::order_fault(order);
+    let found = orders::order_fault(order);
     if found.number != 0 {
         return found;
     }

@@ -19,7 +19,7 @@ use Rattle.layout.proofs.Bytes.{pieces-long, pieces-same}
 use Rattle.construction.proofs.Sum.{up-length, up-plus, up-shift}
 use Rattle.construction.proofs.Rows.{pairs-length, pair-below, pair-closed}
 use Rattle.construction.proofs.Costs.{and-length, or-driven}
-use Rattle.construction.proofs.Forms.{index-below}
+use Rattle.construction.proofs.Placed.{index-small}
 
 -- blocks for a counted list, from block c on: the block c starts at wire w + size·c
 in-turn-from :
@@ -142,7 +142,7 @@ pub low-within :
 low-within G n w i z c e h =
     omega (
       arith,
-      index-below (G .low),
+      index-small (G .low),
       pair-closed n i (suc i) (omega arith) (omega arith),
       pair-closed n i (suc i + c) (omega arith) h,
       pair-below n i (suc i + c) (omega arith) h,

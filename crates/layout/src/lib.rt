@@ -51,7 +51,7 @@ pub fn and_first(n: usize, w: usize) -> usize
     requires { ⌜ (1 ≤ n) × (n ≤ 31) × (w ≤ 65535) ⌝ }
     ensures { λ r. ⌜ (r ≡ share (andShares n w) 0) × (r ≡ w + 5 * tri n + (n - 1)) ⌝ }
 {
-    w + 5 * construction::pair_count(n) + (n - 1)
+    w + 5 * gate_costs::pair_count(n) + (n - 1)
 }
 
 // Writes one gate's operands: two fields.

@@ -44,7 +44,7 @@ fn map_and(
         (unpacked (now (mapped .entry))) (unpacked (now (mapped .exit))) (now (one .entry))
         (now (one .exit)) (now (other .entry)) (now (other .exit)) ⌝ }
 {
-    let v = w + 5 * construction::pair_count(n);
+    let v = w + 5 * gate_costs::pair_count(n);
     map_all_pairs::map_pairs(and, k, n, w, a, b, tape, at, mapped, one, other);
     map_rows::run_rows(and, one, other, v, w, n, a, b);
 }
@@ -70,7 +70,7 @@ fn run_last_not(or: bool, n: usize, w: usize, one: &mut [u8], other: &mut [u8])
 {
     if or {
         let last = layout::and_first(n, w);
-        let end = w + construction::and_cost(n);
+        let end = w + gate_costs::and_cost(n);
         map_values::run_not(one, end, last);
         map_values::run_not(other, end, last);
     }
@@ -184,7 +184,7 @@ pub fn map_gates(
     let n = p.shares;
     let gates = p.gates;
     let mut costs = [0u16; 6];
-    construction::note_costs(n, &mut costs);
+    gate_costs::note_costs(n, &mut costs);
     let mut w = n * p.inputs;
     let mut next = at;
     let mut g = 0;
@@ -207,8 +207,8 @@ pub fn map_gates(
             one,
             other,
         );
-        w += construction::noted_cost(&costs, x.kind);
-        next += construction::gate_draws(x.kind, n);
+        w += gate_costs::noted_cost(&costs, x.kind);
+        next += gate_costs::gate_draws(x.kind, n);
         g += 1;
     }
 }

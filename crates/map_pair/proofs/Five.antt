@@ -11,9 +11,9 @@ use Rattle.tables.specs.Runs.{xor, randoms}
 use Rattle.tables.specs.Inside.{ranOn, RunsTo}
 use Rattle.tables.proofs.Lists.{bits-nil, bits-cons}
 use Rattle.tables.proofs.Ran.{Ran, ran-one, ran-keep, ran-start, ran-more, runs-less, runs-bit}
-use Rattle.construction.specs.declared.PairForm as DPairForm
+use Rattle.ands.specs.declared.PairForm as DPairForm
 use Rattle.construction.specs.Gadgets.{allFive, Gadget}
-use Rattle.construction.specs.Forms.{FormSays}
+use Rattle.ands.specs.Forms.{FormSays}
 use Rattle.map_pair.specs.Crossing.{fifthValue, BitAt, PairBits, PairBefore}
 
 -- a gate more, which draws nothing

@@ -33,7 +33,7 @@ fn run_pair(
     requires { ⌜ RunsTo w 5 (now run) × PairBefore w ai bj aj bi × (bit ≤ 1) ⌝ }
     ensures { λ _. ⌜ now (run .exit) ≡ ranOn (map (gadgetOf and .gates w ai bj aj bi) allFive) (bit ∷ []) w (now (run .entry)) ⌝ }
 {
-    let form = construction::pair_form(and);
+    let form = ands::pair_form(and);
     map_values::run_random(run, w, bit);
     map_values::run_and(run, w + 1, ai, bj);
     map_values::run_xor(run, w + 2, w, w + 1);
@@ -74,12 +74,12 @@ fn flip_pair(
         × (unpacked (now (mapped .exit))
         ≡ set (unpacked (now (mapped .entry))) at (xor (getD (unpacked (now (mapped .entry))) at 0) r)) ⌝ }
 {
-    if (i != k) & (j != construction::upper_flipped(and, k)) {
+    if (i != k) & (j != ands::upper_flipped(and, k)) {
         return 0;
     }
     let p = product_differs(one, other, ai, bj);
     let q = product_differs(one, other, aj, bi);
-    let flip = construction::pair_flip(and, k, i, j, p, q);
+    let flip = ands::pair_flip(and, k, i, j, p, q);
     bits::flip_bit(mapped, at, flip);
     flip
 }

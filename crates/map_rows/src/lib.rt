@@ -36,7 +36,7 @@ fn run_low_sums(
     ensures { λ _. ⌜ (now (one .exit) ≡ ranOn (lowGates (gadgetOf and) z last m) [] (last + 1) (now (one .entry)))
         × (now (other .exit) ≡ ranOn (lowGates (gadgetOf and) z last m) [] (last + 1) (now (other .entry))) ⌝ }
 {
-    let form = construction::pair_form(and);
+    let form = ands::pair_form(and);
     let mut x = one[last];
     let mut y = other[last];
     let mut c = 0;
@@ -65,7 +65,7 @@ fn run_high_sums(
         × (now (one .exit) ≡ ranOn (highGates (gadgetOf and) n w last i) [] (last + 1) (now (one .entry)))
         × (now (other .exit) ≡ ranOn (highGates (gadgetOf and) n w last i) [] (last + 1) (now (other .entry))) ⌝ }
 {
-    let form = construction::pair_form(and);
+    let form = ands::pair_form(and);
     let mut x = one[last];
     let mut y = other[last];
     let mut z = w + 5 * i;

@@ -63,7 +63,7 @@ fn write_and_kinds(kinds: &mut [u8], at: usize, n: usize)
     requires { ⌜ (n ≤ 31) × (at + cost AND n ≤ length (now kinds)) × XorsFrom at (now kinds) ⌝ }
     ensures { λ _. ⌜ now (kinds .exit) ≡ putAt at (newKinds AND n) (now (kinds .entry)) ⌝ }
 {
-    let m = construction::pair_count(n);
+    let m = gate_costs::pair_count(n);
     write_pair_kinds(kinds, at, m);
     write_rows_kinds(kinds, at + 5 * m, n);
 }
@@ -76,7 +76,7 @@ fn write_or_kinds(kinds: &mut [u8], at: usize, n: usize)
     kinds[at] = 0;
     kinds[at + 1] = 0;
     write_and_kinds(kinds, at + 2, n);
-    kinds[at + 2 + construction::and_cost(n)] = 0;
+    kinds[at + 2 + gate_costs::and_cost(n)] = 0;
 }
 
 // Writes the kinds of the new wires of a constant or an OR, where the kinds of XOR gates stand already.

@@ -72,7 +72,7 @@ fn write_or(
         ≡ putAt at (pairBytes (orGates (gadgetOf and) n w (shareWires n a) (shareWires n b))) (now (ops .entry)) ⌝ }
 {
     let last = layout::and_first(n, w + 2);
-    let end = at + 8 + 4 * construction::and_cost(n);
+    let end = at + 8 + 4 * gate_costs::and_cost(n);
     let x = layout::first_on(w, a);
     let y = layout::first_on(w + 1, b);
     layout::put_gate(ops, at, a.head, 0);

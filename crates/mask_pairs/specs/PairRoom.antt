@@ -6,7 +6,7 @@ use mathlib.Core.List.{List}
 use Prim.Native.Nat.{ℕ, _+_, _≤_, _<_}
 use lib.ListN.{length}
 use Rattle.construction.specs.Shares.{pairAt}
-use Rattle.mask_pairs.specs.declared.Pair as DPair
+use Rattle.construction.specs.declared.SharePair as DSharePair
 
 -- what writing the operands of a pair's five wires takes
 pub record PairRoom (w ai bj aj bi at : ℕ) (ops : List ℕ) : Type 0 where
@@ -16,7 +16,7 @@ pub record PairRoom (w ai bj aj bi at : ℕ) (ops : List ℕ) : Type 0 where
   pub room : at + 20 ≤ length ops
 
 -- a pair of shares i < j is number c of the pairs of n shares
-pub record PairNo (n c : ℕ) (p : DPair.Pair) : Type 0 where
-  pub rising : p .i < p .j
-  pub inside : p .j < n
-  pub place : c ≡ pairAt n (p .i) (p .j)
+pub record PairNo (n c : ℕ) (p : DSharePair.SharePair) : Type 0 where
+  pub rising : p .lower < p .upper
+  pub inside : p .upper < n
+  pub place : c ≡ pairAt n (p .lower) (p .upper)

@@ -25,7 +25,7 @@ fn write_five(
     ensures { λ _. ⌜ now (ops .exit)
         ≡ putAt at (pairBytes (map (gadgetOf and .gates w ai bj aj bi) allFive)) (now (ops .entry)) ⌝ }
 {
-    let form = construction::pair_form(and);
+    let form = ands::pair_form(and);
     layout::put_gate(ops, at, 0, 0);
     layout::put_gate(ops, at + 4, ai, bj);
     layout::put_gate(ops, at + 8, w + form.third.left, w + form.third.right);
@@ -58,23 +58,20 @@ fn write_pair(
     }
 }
 
-// A pair of shares i < j, counted from 0.
-struct Pair {
-    i: usize,
-    j: usize,
-}
-
 // The pair after a pair of n shares.
-fn next_pair(p: Pair, n: usize) -> Pair
-    requires { ⌜ (p .i < 65536) × (p .j < 65536) ⌝ }
+fn next_pair(p: construction::SharePair, n: usize) -> construction::SharePair
+    requires { ⌜ (p .lower < 65536) × (p .upper < 65536) ⌝ }
     ensures { λ r. ⌜ ((c : ℕ) → PairNo n c p → suc c < tri n → PairNo n (suc c) r) ⌝ }
 {
-    if p.j + 1 < n {
-        return Pair { i: p.i, j: p.j + 1 };
+    if p.upper + 1 < n {
+        return construction::SharePair {
+            lower: p.lower,
+            upper: p.upper + 1,
+        };
     }
-    Pair {
-        i: p.i + 1,
-        j: p.i + 2,
+    construction::SharePair {
+        lower: p.lower + 1,
+        upper: p.lower + 2,
     }
 }
 
@@ -93,14 +90,14 @@ pub fn write_pairs(
         × (now (ops .exit)
         ≡ putAt at (pairBytes (inTurn 5 w (pairs n) (pairGates (gadgetOf and) (shareWires n a) (shareWires n b)))) (now (ops .entry))) ⌝ }
 {
-    let m = construction::pair_count(n);
-    let mut p = Pair { i: 0, j: 1 };
+    let m = gate_costs::pair_count(n);
+    let mut p = construction::SharePair { lower: 0, upper: 1 };
     let mut c = 0;
     while c < m {
-        let ai = layout::share_wire(a, p.i);
-        let bi = layout::share_wire(b, p.i);
-        let aj = layout::later_wire(a, p.j);
-        let bj = layout::later_wire(b, p.j);
+        let ai = layout::share_wire(a, p.lower);
+        let bi = layout::share_wire(b, p.lower);
+        let aj = layout::later_wire(a, p.upper);
+        let bj = layout::later_wire(b, p.upper);
         write_pair(and, ops, at + 20 * c, w + 5 * c, ai, bj, aj, bi);
         p = next_pair(p, n);
         c += 1;

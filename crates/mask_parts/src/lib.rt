@@ -24,14 +24,14 @@ pub fn write_kinds(table: &[u8], p: planning::Plan, from: usize, to: usize, kind
     let gates = p.gates;
     let room = kinds.len();
     let mut costs = [0u16; 6];
-    construction::note_costs(n, &mut costs);
+    gate_costs::note_costs(n, &mut costs);
     mask_kinds::write_same_kinds(1, kinds, 0, room);
     let mut at = 0;
     let mut g = from;
     while g < to {
         let x = tables::gate_at(table, gates, g);
         mask_kinds::write_kinds_of(x.kind, n, kinds, at);
-        at += construction::noted_cost(&costs, x.kind);
+        at += gate_costs::noted_cost(&costs, x.kind);
         g += 1;
     }
 }
@@ -58,7 +58,7 @@ pub fn write_operands(
     let n = p.shares;
     let gates = p.gates;
     let mut costs = [0u16; 6];
-    construction::note_costs(n, &mut costs);
+    gate_costs::note_costs(n, &mut costs);
     let mut next = w;
     let mut at = 0;
     let mut g = from;
@@ -77,7 +77,7 @@ pub fn write_operands(
             ops,
             at,
         );
-        let new = construction::noted_cost(&costs, x.kind);
+        let new = gate_costs::noted_cost(&costs, x.kind);
         next += new;
         at += 4 * new;
         g += 1;

@@ -22,7 +22,7 @@ fn write_low_sums(
     requires { ⌜ (last + m ≤ 65536) × ((c : ℕ) → c < m → pairWire z (gadgetOf and .low) c < 65536) × (at + 4 * m ≤ length (now ops)) ⌝ }
     ensures { λ _. ⌜ now (ops .exit) ≡ putAt at (pairBytes (lowGates (gadgetOf and) z last m)) (now (ops .entry)) ⌝ }
 {
-    let form = construction::pair_form(and);
+    let form = ands::pair_form(and);
     let mut c = 0;
     while c < m {
         layout::put_gate(ops, at + 4 * c, last + c, z + 5 * c + form.low);
@@ -45,7 +45,7 @@ fn write_high_sums(
     ensures { λ r. ⌜ (suc i < n → r ≡ pairWire w first (pairAt n i (suc i)))
         × (now (ops .exit) ≡ putAt at (pairBytes (highGates (gadgetOf and) n w last i)) (now (ops .entry))) ⌝ }
 {
-    let form = construction::pair_form(and);
+    let form = ands::pair_form(and);
     let mut z = w + 5 * i;
     let mut j = 0;
     while j < i {

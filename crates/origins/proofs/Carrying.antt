@@ -20,9 +20,8 @@ use Rattle.origins.specs.declared.AndPart as DAndPart
 use Rattle.origins.specs.declared.AndPart.the-variants.{Pair, Own, Sum}
 use Rattle.construction.specs.Shares.{sharesOf}
 use Rattle.construction.specs.declared.And as DAnd
-use Rattle.construction.specs.declared.PairForm as DPairForm
 use Rattle.construction.specs.Gadgets.{indexOf, Gadget, gadgetOf}
-use Rattle.construction.specs.Forms.{withPins, formMarks, FormSays}
+use Rattle.construction.specs.PinMarks.{withPins, pairMarks}
 use Rattle.construction.specs.Wires.{inAnd, xorShare, andPart, constantShare, orPart, partMarks, marks, share, firstOn, andCost, cost}
 use Rattle.construction.specs.Wires.{maskedTable, origins, originAt, probeMarks}
 use Rattle.construction.specs.Says.{plainFault, marksFault, MarksSay}
@@ -31,6 +30,8 @@ use Rattle.planning.specs.Plans.{PlanReady, PlanSays}
 use Rattle.planning.proofs.Planning.{Planned-Ready, planned-refused}
 use Rattle.tables.proofs.Answers.{refused-fails, first-of}
 use Rattle.origins.specs.Origins.{fiveOf, partOf, Among, PartSays, CarriedSays, PartMarksSay, GateMarksSay, NewWireSays}
+use Rattle.ands.specs.declared.PairForm as DPairForm
+use Rattle.ands.specs.Forms.{FormSays}
 use Rattle.construction.proofs.Lawful.{lawful}
 use Rattle.construction.proofs.Passed.{plain-passed}
 use Rattle.construction.proofs.Pins.{probe-marks}
@@ -67,11 +68,11 @@ pair-among f i j e a = rw e at a
 module _
     {G : Gadget} {r : DPairForm.PairForm} (F : FormSays G r) {p : DAndPart.AndPart} (f i j : ℕ) (e : p ≡ Pair f i j) (A : Among 31 p)
   where
-    marks-are : partMarks (withPins G) (partOf p) ≡ formMarks r (suc i) (suc j) f
+    marks-are : partMarks (withPins G) (partOf p) ≡ pairMarks (r .low) (suc i) (suc j) f
     marks-are =
         let among = pair-among f i j e A in
         rw e
-        (F .marks (suc i) (suc j) (omega arith) (fiveOf f) ∙ ap (formMarks r (suc i) (suc j)) (index-five f (among .0)))
+        (F .marks (suc i) (suc j) (omega arith) (fiveOf f) ∙ ap (pairMarks (r .low) (suc i) (suc j)) (index-five f (among .0)))
 
     -- the first one, where row i adds it
     pub alone-marks : eqb f 0 && eqb f (r .low) ≡ true → PartMarksSay (withPins G) p (one i)

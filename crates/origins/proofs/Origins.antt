@@ -5,7 +5,7 @@ use Prim.Native.Nat.{ℕ, zero, suc, _+_, _-_, _*_, _/_, _%_, _≤_, _<_}
 use native.Mathlib.Nat.{mod-lt, div-add-mod, div-lt-iff-lt-mul}
 use native.Mathlib.Omega.{arith}
 use Rattle.tables.specs.Tables.{AND}
-use Rattle.origins.specs.declared.SharePair as DSharePair
+use Rattle.construction.specs.declared.SharePair as DSharePair
 use Rattle.origins.specs.declared.AndPart.the-variants.{Pair, Own, Sum}
 use Rattle.construction.specs.Shares as Shares
 use Rattle.construction.specs.Shares.{tri}

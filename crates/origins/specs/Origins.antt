@@ -6,7 +6,7 @@ use mathlib.Core.Path.{_≡_}
 use mathlib.Core.List.{List, map}
 use Prim.Native.Nat.{ℕ, zero, suc, _<_}
 use lib.ListN.{getD}
-use Rattle.origins.specs.declared.SharePair as DSharePair
+use Rattle.construction.specs.declared.SharePair as DSharePair
 use Rattle.origins.specs.declared.Carried as DCarried
 use Rattle.origins.specs.declared.NewWire as DNewWire
 use Rattle.tables.specs.Tables.{Kind, kindOf, Table}

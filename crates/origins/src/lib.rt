@@ -4,7 +4,7 @@ ghost use Prim.Native.Nat.{_*_, _≤_, _<_};
 ghost use Rattle.tables.specs.Tables.{kindOf, tableOf, AND, OR};
 ghost use Rattle.construction.specs.Shares.{tri};
 ghost use Rattle.construction.specs.Wires.{cost, probeMarks};
-ghost use Rattle.construction.specs.Forms.{withPins};
+ghost use Rattle.construction.specs.PinMarks.{withPins};
 ghost use Rattle.construction.specs.Says.{MarksSay};
 ghost use Rattle.planning.specs.Plans.{PlanReady};
 ghost use Rattle.construction.specs.Gadgets.{Gadget, gadgetOf};
@@ -14,12 +14,6 @@ ghost use Rattle.origins.specs.Origins.{PairSays, Among, PartSays, Carri
 pub struct Carried {
     pub first: u8,
     pub second: u8,
-}
-
-// A pair of shares, counted from 0.
-pub struct SharePair {
-    pub lower: usize,
-    pub upper: usize,
 }
 
 // A wire of a masked AND: one of the five of a pair, a row's own product, or a row's sum of some terms. Wires of a pair, shares
@@ -38,7 +32,7 @@ pub struct NewWire {
 }
 
 // The pair of shares that stands at place q among the pairs of n shares.
-pub fn pair_of(n: usize, q: usize) -> SharePair
+pub fn pair_of(n: usize, q: usize) -> construction::SharePair
     requires { ⌜ q < tri n ⌝ }
     ensures { λ r. ⌜ PairSays n q r ⌝ }
 {
@@ -50,7 +44,7 @@ pub fn pair_of(n: usize, q: usize) -> SharePair
         after -= 1;
         lower += 1;
     }
-    SharePair {
+    construction::SharePair {
         lower: lower,
         upper: lower + 1 + left,
     }
@@ -61,7 +55,7 @@ pub fn and_part(n: usize, d: usize) -> AndPart
     requires { ⌜ (n ≤ 31) × (d < cost AND n) ⌝ }
     ensures { λ r. ⌜ PartSays n d r ⌝ }
 {
-    let crossed = 5 * construction::pair_count(n);
+    let crossed = 5 * gate_costs::pair_count(n);
     if d < crossed {
         let p = pair_of(n, d / 5);
         return AndPart::Pair {
@@ -89,7 +83,7 @@ pub fn part_marks(and: construction::And, part: AndPart) -> Carried
 {
     match part {
         AndPart::Pair { wire, lower, upper } => {
-            let form = construction::pair_form(and);
+            let form = ands::pair_form(and);
             let at = wire as usize;
             if (at == 0) & (at == form.low) {
                 return Carried {
@@ -118,7 +112,7 @@ fn or_marks(and: construction::And, n: usize, d: usize) -> Carried
     requires { ⌜ (n ≤ 31) × (d < cost OR n) ⌝ }
     ensures { λ r. ⌜ GateMarksSay (withPins (gadgetOf and)) OR n d r ⌝ }
 {
-    if (d < 2) | (d == 2 + construction::and_cost(n)) {
+    if (d < 2) | (d == 2 + gate_costs::and_cost(n)) {
         return Carried {
             first: 1,
             second: 0,
@@ -158,12 +152,12 @@ pub fn find_gate(table: &[u8], p: planning::Plan, wire: usize) -> NewWire
     let n = p.shares;
     let gates = p.gates;
     let mut costs = [0u16; 6];
-    construction::note_costs(n, &mut costs);
+    gate_costs::note_costs(n, &mut costs);
     let mut start = n * p.inputs;
     let mut g = 0;
     loop {
         let x = tables::gate_at(table, gates, g);
-        let next = start + construction::noted_cost(&costs, x.kind);
+        let next = start + gate_costs::noted_cost(&costs, x.kind);
         if wire < next {
             return NewWire {
                 gate: g,

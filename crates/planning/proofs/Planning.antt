@@ -46,8 +46,8 @@ use Rattle.construction.proofs.Orders.{order-range}
 use Rattle.construction.proofs.Lawful.{lawful}
 use Rattle.construction.proofs.Placed.{masked-outputs}
 use Rattle.construction.proofs.Costs.{masked-wires, masked-tape}
-use Rattle.construction.proofs.Figures.{cost-small, draws-small, draws-below, total-counted}
-use Rattle.construction.proofs.Counted.{figuresOf, wires-counted, tape-counted, masked-inputs}
+use Rattle.gate_costs.proofs.Figures.{cost-small, draws-small, draws-below}
+use Rattle.construction.proofs.Counted.{figuresOf, total-counted, wires-counted, tape-counted, masked-inputs}
 
 -- the search for a random gate, at gate i: what is left of the gates
 pub record Searching (t : Table) (i : ℕ) : Type 0 where

@@ -82,7 +82,7 @@ fn kind_wires(count: usize, kind: u8, n: usize) -> usize
     requires { ⌜ (count ≤ 65535) × (kind ≤ 5) × (n ≤ 31) ⌝ }
     ensures { λ r. ⌜ (r ≡ count * cost (kindOf kind) n) × (r ≤ 65535 * 3289) ⌝ }
 {
-    count * construction::gate_cost(kind, n)
+    count * gate_costs::gate_cost(kind, n)
 }
 
 // What so many gates of one kind draw at n shares.
@@ -90,7 +90,7 @@ fn kind_draws(count: usize, kind: u8, n: usize) -> usize
     requires { ⌜ (count ≤ 65535) × (n ≤ 31) ⌝ }
     ensures { λ r. ⌜ (r ≡ count * draws (kindOf kind) n) × (r ≤ 65535 * 465) ⌝ }
 {
-    count * construction::gate_draws(kind, n)
+    count * gate_costs::gate_draws(kind, n)
 }
 
 // What so many gates of each kind cost and draw at n shares.
@@ -163,7 +163,7 @@ pub fn tally_table(table: &[u8], order: u8) -> Tallied
     let outputs = tables::field(table, 4);
     let counts = counts::count_kinds(table, gates);
     let random = random_fault(table, gates, counts.randoms);
-    let first = tables::first_of(construction::order_fault(order), random);
+    let first = tables::first_of(orders::order_fault(order), random);
     if first.number != 0 {
         return Tallied::Refused(first);
     }

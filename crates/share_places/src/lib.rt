@@ -34,7 +34,7 @@ fn further_places(kind: u8, n: usize, w: usize) -> layout::Places
         };
     }
     layout::Places {
-        head: w + 2 + construction::and_cost(n),
+        head: w + 2 + gate_costs::and_cost(n),
         base: layout::and_first(n, w + 2) + n,
         step: n,
     }
@@ -108,7 +108,7 @@ fn place_gates(
     let inputs = p.inputs;
     let gates = p.gates;
     let mut costs = [0u16; 6];
-    construction::note_costs(n, &mut costs);
+    gate_costs::note_costs(n, &mut costs);
     let mut w = n * inputs;
     let mut g = 0;
     while g < gates {
@@ -116,7 +116,7 @@ fn place_gates(
         let a = places_at(head, base, step, x.left);
         let r = new_places(x.kind, n, w, a);
         put_places(head, base, step, inputs + g, r);
-        w += construction::noted_cost(&costs, x.kind);
+        w += gate_costs::noted_cost(&costs, x.kind);
         g += 1;
     }
 }

@@ -5,7 +5,7 @@ use native.Mathlib.Omega.{arith}
 use borrow.Author.Needs.{needs}
 use Rattle.construction.specs.Shares.{tri}
 use Rattle.construction.proofs.Sum.{up-at}
-use Rattle.construction.proofs.Figures.{tri-small}
+use Rattle.gate_costs.proofs.Figures.{tri-small}
 use Rattle.layout.proofs.and_first.Statement.{statement}
 use Rattle.layout.proofs.and_first.Tie as tie
 

@@ -89,7 +89,7 @@ gate c = c .before .before .before .before .before .before .before .before .befo
 costs :
     (c : tie.After-noted-cost Inv-loop μ-loop)
     → c .noted-cost .result ≡ cost (kindOf (gate c .gate-at .result .kind)) (start (gate c) .args .p .shares)
-costs c = c .noted-cost .ensures (start (gate c) .args .p .shares) (noted (gate c) .note-costs .ensures .1)
+costs c = c .noted-cost .ensures ∙ noted (gate c) .note-costs .ensures .1 _ (ready (gate c) .plain .0)
 
 add-w : tie.Need-add-w Inv-loop μ-loop
 add-w c = omega (arith, ready (gate c) .wires, costs c)

@@ -27,7 +27,7 @@ returns c =
     let test = and-true _ _ (c .if1 .taken) in
     let us = unpacked (a .mapped .now) in
     let kept : xor (getD us (a .at) 0) 0 ≡ getD us (a .at) 0 = omega (arith, unpacked-bits (a .mapped .now) (a .at)) in (
-      c .before .upper-flipped .ensures (a .i) (a .j) cross back (omega arith)
+      c .before .upper-flipped .ensures .1 (a .i) (a .j) cross back (omega arith)
           (eqb-false (a .i) (a .k) (not-true _ (test .0)))
           (eqb-false (a .j) _ (not-true _ (test .1))),
       omega arith,

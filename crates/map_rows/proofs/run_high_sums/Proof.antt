@@ -4,7 +4,7 @@ use mathlib.Core.Path.{_≡_, refl}
 use Prim.Native.Nat.{_+_, _-_, _*_, _≤_, _<_}
 use native.Mathlib.Omega.{arith}
 use Rattle.construction.specs.Shares.{pairAt}
-use Rattle.construction.proofs.Forms.{form-below}
+use Rattle.ands.proofs.Forms.{form-below}
 use Rattle.layout.proofs.Pieces.{Upright, upright-start, upright-turn, upright-high, upright-within, upright-low}
 use Rattle.map_rows.proofs.InSums.{InSums, sums-start, sums-room, sums-turn, sums-long, sums-end}
 use borrow.Author.Needs.{needs}

@@ -44,7 +44,7 @@ module _ (c : tie.In-loop Inv-loop μ-loop) where
   here : PairNo (c .before .before .before .before .args .n) (c .before .loop .c) (c .before .loop .p)
   here = c .before .loop .inv .1 more
 
-  lower : c .before .loop .p .i < c .before .before .before .before .args .n
+  lower : c .before .loop .p .lower < c .before .before .before .before .args .n
   lower = omega (arith, here .rising, here .inside)
 
   fits :

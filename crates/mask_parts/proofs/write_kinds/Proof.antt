@@ -1,6 +1,6 @@
 -- `mask_parts::write_kinds` meets its contract: the kinds from gate g on are left to write, over those of XOR gates.
 -- Assumes nothing.
-use mathlib.Core.Path.{_≡_, refl}
+use mathlib.Core.Path.{_≡_, refl, _∙_}
 use Prim.Native.Nat.{_+_, _-_, _≤_}
 use native.Mathlib.Omega.{arith}
 use borrow.Author.Needs.{needs}
@@ -87,7 +87,7 @@ gate c = c .before .before .before .before .before .before
 costs :
     (c : tie.After-noted-cost Inv-loop μ-loop)
     → c .noted-cost .result ≡ cost (kindOf (gate c .gate-at .result .kind)) (start (gate c) .args .p .shares)
-costs c = c .noted-cost .ensures (start (gate c) .args .p .shares) (noted (gate c) .note-costs .ensures .1)
+costs c = c .noted-cost .ensures ∙ noted (gate c) .note-costs .ensures .1 _ (plain (gate c) .0)
 
 add-at : tie.Need-add-at Inv-loop μ-loop
 add-at c = omega (arith, room (gate c), costs c, gate c .before .before .loop .inv .long, start (gate c) .good)

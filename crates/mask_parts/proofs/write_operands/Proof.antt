@@ -1,6 +1,6 @@
 -- `mask_parts::write_operands` meets its contract: the operands from gate g on are left to write.
 -- Assumes nothing.
-use mathlib.Core.Path.{_≡_, refl}
+use mathlib.Core.Path.{_≡_, refl, _∙_}
 use Prim.Native.Nat.{_+_, _-_, _*_, _≤_}
 use native.Mathlib.Omega.{arith}
 use borrow.Author.Needs.{needs}
@@ -112,7 +112,7 @@ gate c = c .before .before .before .before .before .before
 costs :
     (c : tie.After-noted-cost Inv-loop μ-loop)
     → c .noted-cost .result ≡ cost (kindOf (gate c .gate-at .result .kind)) (start (gate c) .args .p .shares)
-costs c = c .noted-cost .ensures (start (gate c) .args .p .shares) (noted (gate c) .note-costs .ensures .1)
+costs c = c .noted-cost .ensures ∙ noted (gate c) .note-costs .ensures .1 _ (facts (gate c) .kind .0)
 
 add-next : tie.Need-add-next Inv-loop μ-loop
 add-next c = omega (arith, facts (gate c) .fits, costs c)

@@ -7,7 +7,7 @@ use mathlib.Core.List.{List, _++_}
 use Rattle.tables.specs.Tables.{two, pairBytes}
 use Rattle.tables.specs.Inside.{putAt}
 use Rattle.construction.specs.Shares.{pairAt}
-use Rattle.construction.proofs.Forms.{form-below}
+use Rattle.ands.proofs.Forms.{form-below}
 use Rattle.layout.specs.Layout.{piecesFrom, sumGates}
 use Rattle.layout.proofs.Bytes.{pairs-pieces, PutPieces, put-pieces-start, put-pieces-turn, put-pieces-end}
 use Rattle.layout.proofs.Pieces.{Upright, upright-start, upright-turn, upright-high, upright-within}

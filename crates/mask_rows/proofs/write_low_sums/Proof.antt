@@ -8,7 +8,7 @@ use Rattle.tables.specs.Tables.{pairBytes}
 use Rattle.tables.specs.Inside.{putAt}
 use Rattle.construction.specs.Gadgets.{gadgetOf}
 use Rattle.construction.specs.Wires.{pairWire}
-use Rattle.construction.proofs.Forms.{form-below}
+use Rattle.ands.proofs.Forms.{form-below}
 use Rattle.layout.specs.Layout.{piecesFrom, sumGates}
 use Rattle.layout.proofs.Bytes.{pairs-pieces, PutPieces, put-pieces-start, put-pieces-turn, put-pieces-end}
 use Rattle.mask_rows.proofs.write_low_sums.Statement.{statement}

@@ -2,7 +2,7 @@
 -- Assumes nothing.
 use native.Mathlib.Omega.{arith}
 use borrow.Author.Needs.{needs}
-use Rattle.construction.proofs.Figures.{tri-small}
+use Rattle.gate_costs.proofs.Figures.{tri-small}
 use Rattle.origins.proofs.Origins.{pair-says, row-some, row-below, terms-below, own-says, sum-says}
 use Rattle.origins.proofs.and_part.Statement.{statement}
 use Rattle.origins.proofs.and_part.Tie as tie

@@ -9,7 +9,7 @@ use Rattle.tables.specs.Tables.{kindOf, tableOf}
 use Rattle.tables.proofs.Accept.{gates-of-length, has-gates}
 use Rattle.tables.proofs.Format.{passed-sound-gates, sound-at, known-byte}
 use Rattle.construction.specs.Wires.{cost}
-use Rattle.construction.proofs.Figures.{cost-small}
+use Rattle.gate_costs.proofs.Figures.{cost-small}
 use Rattle.planning.proofs.Planning.{plan-passed, plan-fits}
 use Rattle.origins.proofs.Finding.{Seeking, seek-start, seek-some, seek-turn, seek-end}
 use Rattle.origins.proofs.find_gate.Statement.{statement}
@@ -65,7 +65,7 @@ costs :
     c .noted-cost .result ≡ cost (kindOf (read .gate-at .result .kind)) (start read .args .p .shares)
 costs c =
     let read = c .before .before in
-    c .noted-cost .ensures (start read .args .p .shares) (noted read .note-costs .ensures .1)
+    c .noted-cost .ensures ∙ noted read .note-costs .ensures .1 _ (known read)
 
 add-next : tie.Need-add-next Inv-loop μ-loop
 add-next c =

@@ -4,7 +4,7 @@ use mathlib.Core.Path.{_≡_}
 use Prim.Native.Nat.{_+_}
 use native.Mathlib.Omega.{arith}
 use Rattle.construction.specs.Wires.{andCost}
-use Rattle.construction.proofs.Figures.{square-small, tri-small}
+use Rattle.gate_costs.proofs.Figures.{square-small, tri-small}
 use Rattle.origins.proofs.Carrying.{or-not-marks, inner, or-and-marks, among-more}
 use Rattle.origins.proofs.or_marks.Statement.{statement}
 use Rattle.origins.proofs.or_marks.Tie as tie

@@ -4,7 +4,7 @@ use mathlib.Core.Path.{ap}
 use Prim.Native.Nat.{ℕ, _≤_, _*_}
 use native.Mathlib.Omega.{arith}
 use Rattle.tables.specs.Tables.{kindOf}
-use Rattle.construction.proofs.Figures.{draws-small}
+use Rattle.gate_costs.proofs.Figures.{draws-small}
 use Rattle.planning.proofs.Planning.{few-times}
 use Rattle.planning.proofs.kind_draws.Statement.{statement}
 use Rattle.planning.proofs.kind_draws.Tie as tie

@@ -5,7 +5,7 @@ use Prim.Native.Nat.{_+_, _≤_}
 use native.Mathlib.Omega.{arith}
 use Rattle.tables.specs.Tables.{OR}
 use Rattle.construction.specs.Wires.{cost}
-use Rattle.construction.proofs.Figures.{tri-small}
+use Rattle.gate_costs.proofs.Figures.{tri-small}
 use Rattle.share_places.proofs.Located.{shares-run, or-places-are}
 use Rattle.share_places.proofs.further_places.Statement.{statement}
 use Rattle.share_places.proofs.further_places.Tie as tie

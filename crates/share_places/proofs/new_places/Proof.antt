@@ -1,7 +1,7 @@
 -- `share_places::new_places` meets its contract: the places as the tests of the kind choose them.
 -- Assumes nothing.
 use native.Mathlib.Omega.{arith}
-use Rattle.construction.proofs.Figures.{tri-small}
+use Rattle.gate_costs.proofs.Figures.{tri-small}
 use Rattle.layout.specs.Layout.{shareWires}
 use Rattle.share_places.proofs.Located.{new-places-are}
 use Rattle.share_places.proofs.new_places.Statement.{statement}

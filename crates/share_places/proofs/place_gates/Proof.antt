@@ -1,6 +1,6 @@
 -- `share_places::place_gates` meets its contract: the gates before number g are noted, and gate g begins at wire w.
 -- Assumes nothing.
-use mathlib.Core.Path.{_≡_, refl}
+use mathlib.Core.Path.{_≡_, refl, _∙_}
 use Prim.Native.Nat.{_+_, _-_}
 use native.Mathlib.Omega.{arith}
 use borrow.Author.Needs.{needs}
@@ -97,8 +97,7 @@ costs :
     (c : tie.After-noted-cost Inv-loop μ-loop)
     → c .noted-cost .result ≡ cost (kindOf (gate c .gate-at .result .kind)) (start (gate c .before) .args .p .shares)
 costs c =
-    let turns = gate c .before in
-    c .noted-cost .ensures (start turns .args .p .shares) (noted turns .note-costs .ensures .1)
+    c .noted-cost .ensures ∙ noted (gate c .before) .note-costs .ensures .1 _ (facts (gate c) .kind .0)
 
 add-w : tie.Need-add-w Inv-loop μ-loop
 add-w c = omega (arith, facts (gate c) .fits, costs c)

@@ -1,9 +1,8 @@
--- Figures of a gate by its kind's byte, their bounds at 31 shares at most, and their totals by how many gates there are of each
--- kind.
+-- Figures of a gate by its kind's byte, and their bounds at 31 shares at most.
 -- Assumes nothing.
 use mathlib.Core.Path.{_≡_, refl, _∙_}
 use mathlib.Core.Bool.{Bool, true, false, cond, _||_}
-use mathlib.Core.List.{List, [], _∷_}
+use mathlib.Core.List.{List}
 use Prim.Native.Nat.{ℕ, zero, suc, _+_, _*_, _≤_, _<_}
 use native.Mathlib.Nat.{mul-le-mul, mul-le-mul-right}
 use native.Mathlib.Omega.{arith}
@@ -11,12 +10,11 @@ use lib.Dec.{eqb}
 use lib.ListN.{length, getD, set, length-set}
 use lib.Seq.{getD-set-same, getD-set-other}
 use borrow.Author.Tests.{eqb-true, eqb-false, ne-eqb}
-use Rattle.tables.specs.Tables.{Kind, NOT, XOR, AND, RANDOM, CONSTANT, OR, UNKNOWN, kindOf, Gate, total}
-use Rattle.tables.specs.Counted.{ofKind, countsOf}
+use Rattle.tables.specs.Tables.{Kind, NOT, XOR, AND, RANDOM, CONSTANT, OR, UNKNOWN, kindOf}
 use Rattle.construction.specs.Shares.{tri}
 use Rattle.construction.specs.Wires.{cost}
-use Rattle.construction.specs.Counts.{draws, counted}
+use Rattle.construction.specs.Counts.{draws}
 use Rattle.construction.proofs.Rows.{tri-closed}
 
 pub square-small : (n : ℕ) → n ≤ 31 → n * n ≤ 961
 square-small n h = mul-le-mul {n₂ = 31} {m₂ = 31} h h
@@ -63,26 +61,6 @@ draws-are (suc (suc (suc (suc (suc zero))))) n = refl
 draws-are (suc (suc (suc (suc (suc (suc k)))))) n =
     let c = suc (suc (suc (suc (suc (suc k))))) in
     rw (ne-eqb c 2 (λ e. omega (arith, e)), ne-eqb c 5 (λ e. omega (arith, e)))
-
--- a figure that only known kinds have, of one gate and in total: so many gates of each kind, times the figure
-module _ (f : Kind → ℕ) (unknown : (k : ℕ) → f (UNKNOWN k) ≡ 0) where
-  pub by-kind :
-      (k : Kind)
-      → f k
-      ≡ ofKind 0 k * f NOT + ofKind 1 k * f XOR + ofKind 2 k * f AND + ofKind 3 k * f RANDOM + ofKind 4 k * f CONSTANT
-      + ofKind 5 k * f OR
-  by-kind NOT = omega arith
-  by-kind XOR = omega arith
-  by-kind AND = omega arith
-  by-kind RANDOM = omega arith
-  by-kind CONSTANT = omega arith
-  by-kind OR = omega arith
-  by-kind (UNKNOWN k) = omega (arith, unknown k)
-
-  pub total-counted : (gs : List Gate) → total f gs ≡ counted f (countsOf gs)
-  unfolding total
-  total-counted [] = omega arith
-  total-counted (g ∷ gs) = omega (arith, by-kind (g .kind), total-counted gs)
 
 -- what is no NOT, no AND, no random gate and no OR costs a wire a share
 pub share-costs :

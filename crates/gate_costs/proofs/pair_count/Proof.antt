@@ -1,10 +1,10 @@
--- `construction::pair_count` meets its contract: n·n is n more than twice the number of pairs.
+-- `gate_costs::pair_count` meets its contract: n·n is n more than twice the number of pairs.
 -- Assumes nothing.
 use native.Mathlib.Omega.{arith}
 use Rattle.construction.proofs.Rows.{tri-closed}
-use Rattle.construction.proofs.Figures.{square-small}
-use Rattle.construction.proofs.pair_count.Statement.{statement}
-use Rattle.construction.proofs.pair_count.Tie as tie
+use Rattle.gate_costs.proofs.Figures.{square-small}
+use Rattle.gate_costs.proofs.pair_count.Statement.{statement}
+use Rattle.gate_costs.proofs.pair_count.Tie as tie
 
 mul-result : tie.Need-mul-result
 mul-result c = record { fits = omega (arith, square-small (c .args .n) (c .pre)) }

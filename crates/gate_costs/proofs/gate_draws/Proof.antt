@@ -1,10 +1,10 @@
--- `construction::gate_draws` meets its contract: only an AND and an OR draw, a bit for each pair.
+-- `gate_costs::gate_draws` meets its contract: only an AND and an OR draw, a bit for each pair.
 -- Assumes nothing.
 use mathlib.Core.Path.{sym, _∙_}
 use borrow.Author.Needs.{needs}
-use Rattle.construction.proofs.Figures.{draws-are}
-use Rattle.construction.proofs.gate_draws.Statement.{statement}
-use Rattle.construction.proofs.gate_draws.Tie as tie
+use Rattle.gate_costs.proofs.Figures.{draws-are}
+use Rattle.gate_costs.proofs.gate_draws.Statement.{statement}
+use Rattle.gate_costs.proofs.gate_draws.Tie as tie
 
 pair-count-requires : tie.Need-pair-count-requires
 pair-count-requires c κs = search needs

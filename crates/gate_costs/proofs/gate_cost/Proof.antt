@@ -1,11 +1,11 @@
--- `construction::gate_cost` meets its contract, kind by kind.
+-- `gate_costs::gate_cost` meets its contract, kind by kind.
 -- Assumes nothing.
 use mathlib.Core.Path.{sym}
 use native.Mathlib.Omega.{arith}
 use borrow.Author.Needs.{needs}
-use Rattle.construction.proofs.Figures.{square-small, tri-small, share-costs}
-use Rattle.construction.proofs.gate_cost.Statement.{statement}
-use Rattle.construction.proofs.gate_cost.Tie as tie
+use Rattle.gate_costs.proofs.Figures.{square-small, tri-small, share-costs}
+use Rattle.gate_costs.proofs.gate_cost.Statement.{statement}
+use Rattle.gate_costs.proofs.gate_cost.Tie as tie
 
 returns : tie.Need-returns
 returns c = search needs

@@ -1,12 +1,12 @@
--- `construction::and_cost` meets its contract: the pairs' wires and the rows'.
+-- `gate_costs::and_cost` meets its contract: the pairs' wires and the rows'.
 -- Assumes nothing.
 use mathlib.Core.Path.{ap}
 use Prim.Native.Nat.{ℕ, _+_, _*_}
 use native.Mathlib.Omega.{arith}
 use borrow.Author.Needs.{needs}
-use Rattle.construction.proofs.Figures.{square-small, tri-small}
-use Rattle.construction.proofs.and_cost.Statement.{statement}
-use Rattle.construction.proofs.and_cost.Tie as tie
+use Rattle.gate_costs.proofs.Figures.{square-small, tri-small}
+use Rattle.gate_costs.proofs.and_cost.Statement.{statement}
+use Rattle.gate_costs.proofs.and_cost.Tie as tie
 
 pair-count-requires : tie.Need-pair-count-requires
 pair-count-requires c κs = search needs

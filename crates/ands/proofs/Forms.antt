@@ -1,80 +1,28 @@
 -- The form of each AND's pairs is that of its gadget.
 -- Assumes nothing.
 use mathlib.Core.Path.{_≡_, refl, sym, ap, _∙_}
-use mathlib.Core.Bool.{Bool, true, false, _&&_, cond}
-use mathlib.Core.List.{[], _∷_}
+use mathlib.Core.Bool.{Bool, true, false, cond}
 use Prim.Native.Nat.{ℕ, _+_, _-_, _*_, _≤_, _<_}
 use native.Mathlib.Omega.{arith}
-use lib.Dec.{eqb, ltb}
-use lib.ListN.{length}
-use borrow.Author.Tests.{eqb-true, eq-eqb, ne-eqb, lt-ltb, le-ltb}
-use Rattle.tables.specs.Runs.{xor, ofEach}
-use Rattle.construction.specs.declared.PairForm as DPairForm
+use lib.Dec.{eqb}
+use borrow.Author.Tests.{eqb-true, eq-eqb, ne-eqb}
+use Rattle.tables.specs.Runs.{xor}
 use Rattle.construction.specs.declared.And as DAnd
 use Rattle.construction.specs.declared.And.the-variants.{Isw, Dom}
-use Rattle.construction.specs.Gadgets.{Five, first, second, third, fourth, fifth, indexOf, Gadget, isw, dom, gadgetOf}
-use Rattle.construction.specs.Forms.{withPins, formMarks, formFlip, FormSays}
-use Rattle.construction.specs.Wires.{joined, insert}
-
-pub index-below : (f : Five) → indexOf f < 5
-index-below first = omega arith
-index-below second = omega arith
-index-below third = omega arith
-index-below fourth = omega arith
-index-below fifth = omega arith
+use Rattle.construction.specs.Gadgets.{Gadget, isw, dom, gadgetOf}
+use Rattle.construction.proofs.PinMarks.{isw-marks, dom-marks}
+use Rattle.construction.proofs.Placed.{index-small}
+use Rattle.ands.specs.declared.PairForm as DPairForm
+use Rattle.ands.specs.Forms.{formFlip, upperFlipped, FormSays}
 
 at-0 : (w : ℕ) → w + 0 ≡ w
 at-0 w = omega arith
 
-abbrev pub iswForm : DPairForm.PairForm
+abbrev iswForm : DPairForm.PairForm
 iswForm = record { third = record { left = 0; right = 1 }; fifth = record { left = 2; right = 3 }; low = 0; high = 4; both = 1 }
 
-abbrev pub domForm : DPairForm.PairForm
+abbrev domForm : DPairForm.PairForm
 domForm = record { third = record { left = 1; right = 0 }; fifth = record { left = 3; right = 0 }; low = 2; high = 4; both = 0 }
-
--- the marks of a probe on a wire of a pair i < j: what the wire and its pins carry, joined
-module _ (i j : ℕ) (h : i < j) where
-  same-i : eqb i i ≡ true
-  same-i = eq-eqb i i refl
-
-  same-j : eqb j j ≡ true
-  same-j = eq-eqb j j refl
-
-  other-i : eqb i j ≡ false
-  other-i = ne-eqb i j (λ e. omega arith)
-
-  other-j : eqb j i ≡ false
-  other-j = ne-eqb j i (λ e. omega arith)
-
-  lower : ltb i j ≡ true
-  lower = lt-ltb i j h
-
-  upper : ltb j i ≡ false
-  upper = le-ltb j i (omega arith)
-
-  pub isw-marks : (f : Five) → withPins isw .marks i j f ≡ formMarks iswForm i j (indexOf f)
-  unfolding ofEach joined insert
-  isw-marks first = refl
-  isw-marks second = simp (same-i, same-j, other-i, other-j, lower, upper)
-  isw-marks third = simp (same-i, same-j, other-i, other-j, lower, upper)
-  isw-marks fourth = simp (same-i, same-j, other-i, other-j, lower, upper)
-  isw-marks fifth = simp (same-i, same-j, other-i, other-j, lower, upper)
-
-  pub dom-marks : (f : Five) → withPins dom .marks i j f ≡ formMarks domForm i j (indexOf f)
-  unfolding ofEach joined insert
-  dom-marks first = simp (same-i, same-j, other-i, other-j, lower, upper)
-  dom-marks second = simp (same-i, same-j, other-i, other-j, lower, upper)
-  dom-marks third = simp (same-i, same-j, other-i, other-j, lower, upper)
-  dom-marks fourth = simp (same-i, same-j, other-i, other-j, lower, upper)
-  dom-marks fifth = simp (same-i, same-j, other-i, other-j, lower, upper)
-
--- one share number, or two
-pub form-few : (r : DPairForm.PairForm) (i j f : ℕ) → length (formMarks r i j f) ≤ 2
-form-few r i j f = go (eqb f 0 && eqb f (r .low))
-  where
-    go : (t : Bool) → length (cond t (i ∷ []) (i ∷ j ∷ [])) ≤ 2
-    go true = omega arith
-    go false = omega arith
 
 -- the values of the third and the fifth wire
 isw-third : (w : ℕ) (v : ℕ → ℕ) → xor (v (w + 0)) (v (w + 1)) ≡ xor (v w) (v (w + 1))
@@ -151,7 +99,7 @@ dom-form e =
 
 -- the wires that rows add are two of the five
 pub form-below : {G : Gadget} {r : DPairForm.PairForm} → FormSays G r → (r .low < 5) × (r .high < 5)
-form-below {G} F = (omega (arith, F .low, index-below (G .low)), omega (arith, F .high, index-below (G .high)))
+form-below {G} F = (omega (arith, F .low, index-small (G .low)), omega (arith, F .high, index-small (G .high)))
 
 -- what a pair flips, by the tests of the code
 module _ {G : Gadget} {r : DPairForm.PairForm} (F : FormSays G r) (k i j p q : ℕ) (hq : q ≤ 1) where
@@ -170,3 +118,22 @@ module _ {G : Gadget} {r : DPairForm.PairForm} (F : FormSays G r) (k i j p q : �
           let one : r .both ≡ 1 = omega (arith, alone, F .both) in
           rw one (omega arith)
       go false t = refl
+
+-- the upper share that may decide, by whether the fifth wire adds both products
+module _ (a : DAnd.And) {r : DPairForm.PairForm} (F : FormSays (gadgetOf a) r) (k : ℕ) where
+  pub upper-none : r .both ≡ 1 → upperFlipped a k ≡ 0
+  upper-none b = go a F
+    where
+      go : (a : DAnd.And) → FormSays (gadgetOf a) r → upperFlipped a k ≡ 0
+      go Isw F = refl
+      go Dom F = let one : _≡_ {A = ℕ} 1 ((1 - r .both) * 1) = F .flip 0 1 0 1 0 (omega arith) in absurd (omega (arith, one, b))
+
+  pub upper-free : (r .both ≡ 1 → ⊥) → upperFlipped a k ≡ k
+  upper-free n = go a F
+    where
+      go : (a : DAnd.And) → FormSays (gadgetOf a) r → upperFlipped a k ≡ k
+      go Isw F =
+          let none : _≡_ {A = ℕ} 0 ((1 - r .both) * 1) = F .flip 0 1 0 1 0 (omega arith) in
+          let zero : r .both ≡ 0 = omega (arith, n, F .both) in
+          absurd (omega (arith, none, zero))
+      go Dom F = refl

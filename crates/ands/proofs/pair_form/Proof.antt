@@ -1,9 +1,9 @@
--- `construction::pair_form` meets its contract: by each AND's own law.
+-- `ands::pair_form` meets its contract: by each AND's own law.
 -- Assumes nothing.
 use borrow.Author.Needs.{needs}
-use Rattle.construction.proofs.Forms.{isw-form, dom-form}
-use Rattle.construction.proofs.pair_form.Statement.{statement}
-use Rattle.construction.proofs.pair_form.Tie as tie
+use Rattle.ands.proofs.Forms.{isw-form, dom-form}
+use Rattle.ands.proofs.pair_form.Statement.{statement}
+use Rattle.ands.proofs.pair_form.Tie as tie
 
 enum-told : tie.Need-enum-told
 enum-told c = search needs

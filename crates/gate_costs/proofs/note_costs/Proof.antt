@@ -1,11 +1,11 @@
--- `construction::note_costs` meets its contract. The invariant: the costs of the kinds so far are noted.
+-- `gate_costs::note_costs` meets its contract. The invariant: the costs of the kinds so far are noted.
 -- Assumes nothing.
 use Prim.Native.Nat.{_-_, _≤_}
 use native.Mathlib.Omega.{arith}
 use Rattle.tables.specs.Tables.{kindOf}
-use Rattle.construction.proofs.Figures.{cost-small, CostsTo, costs-next}
-use Rattle.construction.proofs.note_costs.Statement.{statement}
-use Rattle.construction.proofs.note_costs.Tie as tie
+use Rattle.gate_costs.proofs.Figures.{cost-small, CostsTo, costs-next}
+use Rattle.gate_costs.proofs.note_costs.Statement.{statement}
+use Rattle.gate_costs.proofs.note_costs.Tie as tie
 
 abbrev Inv-loop : tie.InvT-loop
 Inv-loop n costs₀ kind₀ costs kind = (kind ≤ 6) × CostsTo n kind costs

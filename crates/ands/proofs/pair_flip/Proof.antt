@@ -1,4 +1,4 @@
--- `construction::pair_flip` meets its contract: by its tests and the form of the AND's pairs.
+-- `ands::pair_flip` meets its contract: by its tests and the form of the AND's pairs.
 -- Assumes nothing.
 use mathlib.Core.Path.{_≡_, ap, _∙_}
 use mathlib.Core.Bool.{true, false}
@@ -8,9 +8,9 @@ use lib.Bits.{bitXor}
 use borrow.Author.Tests.{eqb-true, eq-eqb}
 use Rattle.tables.proofs.Tests.{and-true}
 use Rattle.tables.proofs.Run.{bit-mul, bit-xor, bit-and}
-use Rattle.construction.proofs.Forms.{flip-lower, flip-upper, flip-none}
-use Rattle.construction.proofs.pair_flip.Statement.{statement}
-use Rattle.construction.proofs.pair_flip.Tie as tie
+use Rattle.ands.proofs.Forms.{flip-lower, flip-upper, flip-none}
+use Rattle.ands.proofs.pair_flip.Statement.{statement}
+use Rattle.ands.proofs.pair_flip.Tie as tie
 
 pair-form-requires : tie.Need-pair-form-requires
 pair-form-requires c κs = tt

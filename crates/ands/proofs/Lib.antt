@@ -1,0 +1,2 @@
+-- Laws of the form of an AND's pairs.
+pub mod Forms

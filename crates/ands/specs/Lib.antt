@@ -1,0 +1,2 @@
+-- What the functions that tell the ANDs apart meet.
+pub mod Forms

@@ -1,0 +1,2 @@
+-- Laws of what a gate costs and draws.
+pub mod Figures
