@@ -211,27 +211,9 @@ seven-refused {s} {o} {r} R a =
 pub tallied-as : (s : List ℕ) (o : ℕ) {r q : DTallied.Tallied} → TalliedSays s o r → r ≡ q → TalliedSays s o q
 tallied-as s o T e = subst (λ (x : DTallied.Tallied). TalliedSays s o x) e T
 
--- the masked sizes by the formula, from what the code has computed: n shares, and the gates' totals
-module _ (o i q : ℕ) {n : ℕ} {c : DCounts.Counts} {r : DTotals.Totals} (en : n ≡ sharesOf o) (T : TotalsSay c n r) where
-  all : TotalsSay c (sharesOf o) r
-  all = subst (λ (m : ℕ). TotalsSay c m r) en T
-
-  pub masked-by :
-      MaskedBy o i q c
-      (record {
-        shares = n;
-        gates = r .wires;
-        wires = n * i + r .wires;
-        outputs = n * q;
-        tape = 2 * o * i + r .draws;
-      })
-  masked-by = record {
-    shares = en;
-    gates = all .wires;
-    wires = λ j. en j * i + all .wires j;
-    outputs = λ j. en j * q;
-    tape = λ j. 2 * o * i + all .draws j;
-  }
+-- the gates' totals at n shares that the code has computed
+pub totals-at : {n m : ℕ} {c : DCounts.Counts} {r : DTotals.Totals} → n ≡ m → TotalsSay c n r → TotalsSay c m r
+totals-at {c = c} {r = r} e T = subst (λ (m : ℕ). TotalsSay c m r) e T
 
 -- masked sizes are small
 pub record MaskedFits (m : DMasked.Masked) : Type 0 where

@@ -1,6 +1,5 @@
 // The masked sizes of a plain table at an order, also where 8 refuses them, and the sizes program's line.
 ghost use mathlib.Core.Path.{_≡_};
-ghost use mathlib.Core.List.{_∷_, _++_};
 ghost use Prim.Native.Nat.{_+_, _≤_};
 ghost use lib.ListN.{length};
 ghost use Rattle.tables.specs.Tables.{Table};

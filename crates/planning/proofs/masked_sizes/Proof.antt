@@ -1,8 +1,11 @@
 -- `planning::masked_sizes` meets its contract: the code computes the formula's figures.
 -- Assumes nothing.
+use mathlib.Core.Path.{_≡_}
+use Prim.Native.Nat.{_+_, _*_}
 use native.Mathlib.Omega.{arith}
 use borrow.Author.Needs.{needs}
-use Rattle.planning.proofs.Planning.{few-times, few-total-wires, few-total-draws, masked-by}
+use Rattle.construction.specs.Shares.{sharesOf}
+use Rattle.planning.proofs.Planning.{few-times, few-total-wires, few-total-draws, totals-at}
 use Rattle.planning.proofs.masked_sizes.Statement.{statement}
 use Rattle.planning.proofs.masked_sizes.Tie as tie
 
@@ -46,7 +49,17 @@ add-t13 c =
     record { fits = omega (arith, few, p .pre .inputs, few-times _ _ 31 (p .pre .inputs) (p .pre .order)) }
 
 returns : tie.Need-returns
-returns c = masked-by _ _ _ (omega arith) (c .before .before .gate-totals .ensures)
+returns c =
+    let args = c .before .before .before .args in
+    let n : 2 * args .order + 1 ≡ sharesOf (args .order) = omega arith in
+    let all = totals-at n (c .before .before .gate-totals .ensures) in
+    record {
+      shares = n;
+      gates = all .wires;
+      wires = λ j. n j * args .inputs + all .wires j;
+      outputs = λ j. n j * args .outputs;
+      tape = λ j. 2 * args .order * args .inputs + all .draws j;
+    }
 
 pub masked-sizes-spec : {M : Type 1} → statement M
 masked-sizes-spec =

@@ -1,0 +1,11 @@
+-- `planning::too_large` meets its contract: its tests are those of 8.
+-- Assumes nothing.
+use mathlib.Core.Path.{refl}
+use Rattle.planning.proofs.too_large.Statement.{statement}
+use Rattle.planning.proofs.too_large.Tie as tie
+
+returns : tie.Need-returns
+returns c = refl
+
+pub too-large-spec : {M : Type 1} → statement M
+too-large-spec = tie.close (tie.spec returns)
