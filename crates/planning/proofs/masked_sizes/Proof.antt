@@ -52,9 +52,9 @@ returns : tie.Need-returns
 returns c =
     let args = c .before .before .before .args in
     let n : 2 * args .order + 1 ≡ sharesOf (args .order) = omega arith in
-    let all = totals-at n (c .before .before .gate-totals .ensures) in
+    let all = totals-at {m = sharesOf (args .order)} (omega arith) (c .before .before .gate-totals .ensures) in
     record {
-      shares = n;
+      shares = omega arith;
       gates = all .wires;
       wires = λ j. n j * args .inputs + all .wires j;
       outputs = λ j. n j * args .outputs;
