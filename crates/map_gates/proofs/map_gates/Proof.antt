@@ -115,7 +115,7 @@ loop-again c =
     let s = start g in
     step-turn (lawful (s .args .and)) (s .pre .0) (head .loop .inv) (g .before .loop-test .taken) (g .gate-at .ensures) (s .pre .1)
     (c .before .before .before .before .before .before .before .before .before .map-gate .ensures (head .loop .g))
-    refl
+    (omega arith)
     (costs (c .before))
     (c .gate-draws .ensures)
 
