@@ -1,10 +1,12 @@
 // What sets the ANDs apart: the five wires of a pair of shares, which of them the rows add, and what the map flips.
+#![tactic(auto)]
+
 ghost use Rattle.std.specs.Prelude.{◌≡◌, ◌≤◌, ℕ};
 ghost use Rattle.construction.specs.Gadgets.{gadget_of};
 ghost use Rattle.ands.specs.Forms.{upper_flipped, FormSays};
 
 // The operands of a gate that reads two wires of its own pair, by their place among the five, from 0.
-#[derive(Drop)]
+#[derive(Clone, Copy)]
 pub struct PairOperands {
     pub left: usize,
     pub right: usize,
@@ -12,7 +14,7 @@ pub struct PairOperands {
 
 // What sets the pairs of one AND apart from those of another: what the third and the fifth wire read, which wires row i and row j of
 // a pair (i, j) add, and 1 where the fifth wire adds both products, 0 where it adds a_j·b_i alone.
-#[derive(Drop)]
+#[derive(Clone, Copy)]
 pub struct PairForm {
     pub third: PairOperands,
     pub fifth: PairOperands,

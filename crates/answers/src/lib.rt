@@ -1,4 +1,6 @@
 // Refusals and answers: a check that refuses, the first of two that does, and what a call then answers.
+#![tactic(auto)]
+
 ghost use Rattle.std.specs.Prelude.{◌≡◌, ◌<◌};
 ghost use Rattle.tables.specs.Refusals.{Fault, fault, or_else, refused_if};
 ghost use Rattle.tables.specs.Inside.{Refused};

@@ -1,4 +1,6 @@
 // Bits: those of secrets, a byte each, and the first byte that is none; those of tapes, eight to a byte.
+#![tactic(auto)]
+
 ghost use Rattle.std.specs.Prelude.{◌≡◌, true, ◌+◌, ◌≤◌, ◌<◌, length, get_or, set};
 ghost use Rattle.tables.specs.Refusals.{bad_bit};
 ghost use Rattle.tables.specs.Runs.{xor};

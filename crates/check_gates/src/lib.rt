@@ -1,4 +1,6 @@
 // Checking the gates of a table: refusals 3 and 4.
+#![tactic(auto)]
+
 ghost use Rattle.std.specs.Prelude.{◌≡◌, true, cond, ℕ, ◌+◌, ◌≤◌, ◌<◌, eqb};
 ghost use Rattle.tables.specs.Refusals.{fault, none};
 ghost use Rattle.tables.specs.Tables.{kind_of, gate, table_of, operands_of, operands_ok, gate_fault, gates_fault};

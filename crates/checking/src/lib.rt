@@ -1,4 +1,6 @@
 // Checking a gate table: refusals 1 to 5 in document 01's order.
+#![tactic(auto)]
+
 ghost use Rattle.std.specs.Prelude.{◌≤◌};
 ghost use Rattle.tables.specs.Tables.{table_of, outputs_fault, table_fault};
 ghost use Rattle.tables.specs.Says.{CheckSays};

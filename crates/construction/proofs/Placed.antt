@@ -300,7 +300,7 @@ pub shares_after_length :
 unfolding shares_after
 shares_after_length n w S [] = omega arith
 shares_after_length n w S (g ∷ gs) =
-    shares_after_length n _ (S ++ (new_shares g.kind n w (get_or S g.left []) ∷ [])) gs
+    shares_after_length n (w + cost g.kind n) (S ++ (new_shares g.kind n w (get_or S g.left []) ∷ [])) gs
     ∙ omega (arith, length-append S (new_shares g.kind n w (get_or S g.left []) ∷ []))
 
 -- the masked outputs: n wires for each output

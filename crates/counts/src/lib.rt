@@ -1,4 +1,6 @@
 // How many gates of a table are of each kind: three kinds in one pass, and the other three in another where there are any.
+#![tactic(auto)]
+
 ghost use Rattle.std.specs.Prelude.{◌≡◌, ◌+◌, ◌≤◌, ◌<◌, take};
 ghost use Rattle.tables.specs.Tables.{kind_of, table_of};
 ghost use Rattle.tables.specs.Counted.{of_kind, counts_of};
@@ -6,7 +8,7 @@ ghost use Rattle.tables.specs.Inside.{HasGates};
 ghost use Rattle.counts.specs.Three.{three_of};
 
 // How many gates are of a kind, and of each of the two kinds after it.
-#[derive(Drop)]
+#[derive(Clone, Copy)]
 pub struct ThreeKinds {
     pub first: usize,
     pub second: usize,

@@ -1,4 +1,6 @@
 // Decoding shares.
+#![tactic(auto)]
+
 ghost use Rattle.std.specs.Prelude.{◌≡◌, ◌+◌, ◌*◌, ◌≤◌, length, take, drop};
 ghost use Rattle.tables.specs.Inside.{Refused, Bits};
 ghost use Rattle.tables.specs.Says.{over};

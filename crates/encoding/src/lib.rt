@@ -1,4 +1,6 @@
 // Encoding secrets into shares.
+#![tactic(auto)]
+
 ghost use Rattle.std.specs.Prelude.{◌≡◌, [], ◌∷◌, ◌+◌, ◌*◌, ◌≤◌, ◌<◌, length, drop};
 ghost use Rattle.tables.specs.Packing.{unpacked, tape_of};
 ghost use Rattle.tables.specs.Says.{over};

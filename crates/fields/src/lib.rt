@@ -1,4 +1,6 @@
 // Reading and writing the bytes of a table: two-byte fields, gates, outputs, and bytes at a place.
+#![tactic(auto)]
+
 ghost use Rattle.std.specs.Prelude.{◌≡◌, ◌+◌, ◌≤◌, ◌<◌, length, get_or};
 ghost use Rattle.tables.specs.Tables.{gate_of, word, two, table_of};
 ghost use Rattle.tables.specs.Inside.{put_at, HasGates, HasOutputs, GateIs};

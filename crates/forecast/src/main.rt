@@ -1,4 +1,6 @@
 // Reads an order byte and then a table from standard input, and prints the line of its forecast.
+#![tactic(auto)]
+
 use libc::{STDIN_FILENO, STDOUT_FILENO};
 
 fn main() {

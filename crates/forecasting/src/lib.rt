@@ -1,4 +1,6 @@
 // The forecast of a masked table's sizes, and the forecast program's line.
+#![tactic(auto)]
+
 ghost use Rattle.std.specs.Prelude.{◌≡◌, ◌≤◌, length};
 ghost use Rattle.text.specs.Text.{Puts};
 ghost use Rattle.construction.specs.Gadgets.{isw};

@@ -1,4 +1,6 @@
 // What a gate costs once it is masked, in wires and in random bits.
+#![tactic(auto)]
+
 ghost use Rattle.std.specs.Prelude.{◌≡◌, ◌≤◌, ℕ, length, get_or};
 ghost use Rattle.tables.specs.Tables.{kind_of};
 ghost use Rattle.construction.specs.Shares.{tri};

@@ -172,7 +172,7 @@ row_gates_lem G n part w v a b i =
     ap {A = List Gate} {B = List Gate} (λ y. gate AND (share a i) (share b i) ∷ y)
     (rw (
       adding_append o 1 v (up_from i 0 high) (up_from (n - suc i) (suc i) low),
-      map-append,
+      map-append driver_of,
       long,
       moved,
       adding_pieces o 1 v i high,

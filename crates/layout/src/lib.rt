@@ -1,4 +1,6 @@
 // Where the shares of a plain wire are kept, and the operands of one gate.
+#![tactic(auto)]
+
 ghost use Rattle.std.specs.Prelude.{◌≡◌, cond, ◌+◌, ◌-◌, ◌*◌, ◌≤◌, ◌<◌, ℕ, suc, ◌++◌, length};
 ghost use Rattle.construction.specs.Shares.{tri};
 ghost use Rattle.construction.specs.Wires.{share, first_on, and_shares};
@@ -7,7 +9,7 @@ ghost use Rattle.tables.specs.Inside.{put_at};
 ghost use Rattle.tables.specs.Tables.{two};
 
 // Where the shares of a plain wire are: share 1 on wire head, share s on wire base + (s − 2)·step.
-#[derive(Drop)]
+#[derive(Clone, Copy)]
 pub struct Places {
     pub head: usize,
     pub base: usize,

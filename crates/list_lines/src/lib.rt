@@ -1,4 +1,6 @@
 // The lines of a table in words, each by its number.
+#![tactic(auto)]
+
 ghost use Rattle.std.specs.Prelude.{◌≡◌, true, ◌∷◌, suc, ◌+◌, ◌≤◌, ◌<◌, length};
 ghost use Rattle.tables.specs.Tables.{kind_of, gate, known, table_of};
 ghost use Rattle.text.specs.Text.{line_of, Puts};

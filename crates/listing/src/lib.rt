@@ -1,4 +1,6 @@
 // A table in words: the number of inputs, a line for each gate, then a line for each output.
+#![tactic(auto)]
+
 ghost use Rattle.std.specs.Prelude.{◌≡◌, ◌≤◌, length};
 ghost use Rattle.tables.specs.Tables.{table_of};
 ghost use Rattle.text.specs.Text.{refusal_line, Puts, PutsAll};

@@ -1,4 +1,6 @@
 // All pairs of shares in both runs of the map.
+#![tactic(auto)]
+
 ghost use Rattle.std.specs.Prelude.{◌+◌, ◌-◌, ◌*◌, ◌≤◌, ◌<◌, suc};
 ghost use Rattle.tables.specs.Packing.{unpacked};
 ghost use Rattle.construction.specs.Shares.{pairs, tri};

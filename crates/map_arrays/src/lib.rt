@@ -1,4 +1,6 @@
 // The mapped tape and both runs, with arrays of the size that a table needs, in which it is noted where shares are.
+#![tactic(auto)]
+
 ghost use Rattle.std.specs.Prelude.{◌+◌, ◌≤◌};
 ghost use Rattle.construction.specs.Gadgets.{gadget_of};
 ghost use Rattle.map_runs.specs.Working.{WorkReady, WorkSays};

@@ -1,4 +1,6 @@
 // The steps of the map: a plain gate in both runs, and all gates in table order.
+#![tactic(auto)]
+
 ghost use Rattle.std.specs.Prelude.{◌≡◌, true, cond, [], map, ◌+◌, ◌*◌, ◌≤◌, ◌<◌, ℕ, get_or};
 ghost use Rattle.tables.specs.Tables.{AND, table_of, total};
 ghost use Rattle.tables.specs.Inside.{ran_on, RunsTo};

@@ -1,4 +1,6 @@
 // A pair of shares in both runs of the map: its five wires, and the random bit that the second run takes.
+#![tactic(auto)]
+
 ghost use Rattle.std.specs.Prelude.{◌≡◌, [], ◌∷◌, map, ◌+◌, ◌≤◌, ◌<◌, length, get_or, set};
 ghost use Rattle.tables.specs.Runs.{xor};
 ghost use Rattle.tables.specs.Packing.{unpacked};

@@ -1,4 +1,6 @@
 // The refusals of a mapping call.
+#![tactic(auto)]
+
 ghost use Rattle.std.specs.Prelude.{◌≤◌};
 ghost use Rattle.tables.specs.Inside.{Refused};
 ghost use Rattle.construction.specs.declared.And as DAnd;

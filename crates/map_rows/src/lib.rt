@@ -1,4 +1,6 @@
 // The rows of an AND, run on in both runs of the map.
+#![tactic(auto)]
+
 ghost use Rattle.std.specs.Prelude.{◌≡◌, [], ◌∷◌, ◌+◌, ◌*◌, ◌≤◌, ◌<◌, ℕ, suc, get_or};
 ghost use Rattle.tables.specs.Tables.{XOR, gate};
 ghost use Rattle.tables.specs.Inside.{ran_on, RunsTo};

@@ -1,4 +1,6 @@
 // The mapped tape and both runs, where mapping is not refused and the free share is known.
+#![tactic(auto)]
+
 ghost use Rattle.std.specs.Prelude.{◌+◌};
 ghost use Rattle.construction.specs.Gadgets.{gadget_of};
 ghost use Rattle.share_places.specs.Located.{Room};

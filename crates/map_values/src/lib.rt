@@ -1,4 +1,6 @@
 // What gates of a masked table drive in one run, each value after those so far.
+#![tactic(auto)]
+
 ghost use Rattle.std.specs.Prelude.{◌≡◌, [], ◌∷◌, ◌≤◌, ◌<◌};
 ghost use Rattle.tables.specs.Tables.{NOT, XOR, AND, RANDOM, gate};
 ghost use Rattle.tables.specs.Inside.{ran_on, RunsTo};

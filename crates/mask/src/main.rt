@@ -4,6 +4,8 @@
 // table have is read: a longer input and its first 458,749 bytes have the same refusal, 2 by the sizes or else 1 by the length
 // (`cut_masked` of the crate masking). On the stack are about 1.3 MB: 458,749 bytes of input, 458,746 of output, 393,216 of masking's
 // own arrays. A masked table has at most 65,535 wires and 65,535 outputs, which the longest table's bytes hold.
+#![tactic(auto)]
+
 use libc::{STDERR_FILENO, STDIN_FILENO, STDOUT_FILENO};
 
 // Writes the line of a refusal on standard error.

@@ -1,4 +1,6 @@
 // Masking with arrays of the size that a table needs, in which it is noted where shares are.
+#![tactic(auto)]
+
 ghost use Rattle.std.specs.Prelude.{◌≡◌, ◌+◌, ◌≤◌, length};
 ghost use Rattle.tables.specs.Tables.{table_of, table_bytes};
 ghost use Rattle.tables.specs.Says.{over};

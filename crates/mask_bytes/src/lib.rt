@@ -1,4 +1,6 @@
 // The masked table of a plan, in bytes.
+#![tactic(auto)]
+
 ghost use Rattle.std.specs.Prelude.{◌≡◌, ◌+◌, ◌≤◌, length};
 ghost use Rattle.tables.specs.Tables.{table_of, table_bytes};
 ghost use Rattle.tables.specs.Says.{over};

@@ -1,4 +1,6 @@
 // Writing the kinds of the new wires of one masked gate.
+#![tactic(auto)]
+
 ghost use Rattle.std.specs.Prelude.{◌≡◌, ◌+◌, ◌*◌, ◌≤◌, ◌<◌, length, replicate};
 ghost use Rattle.tables.specs.Inside.{put_at, PlainByte};
 ghost use Rattle.tables.specs.Tables.{kind_of, AND, OR};

@@ -1,4 +1,6 @@
 // Writing the operands of the new wires of one masked gate.
+#![tactic(auto)]
+
 ghost use Rattle.std.specs.Prelude.{◌≡◌, ◌+◌, ◌*◌, ◌≤◌, ◌<◌, ℕ, length};
 ghost use Rattle.tables.specs.Inside.{put_at};
 ghost use Rattle.tables.specs.Tables.{kind_of, pair_bytes, AND, OR};

@@ -1,4 +1,6 @@
 // Writing the operands of the wires of an AND's pairs of shares.
+#![tactic(auto)]
+
 ghost use Rattle.std.specs.Prelude.{◌≡◌, map, ◌+◌, ◌*◌, ◌≤◌, ◌<◌, ℕ, suc, length};
 ghost use Rattle.tables.specs.Inside.{put_at};
 ghost use Rattle.tables.specs.Tables.{pair_bytes};

@@ -1,4 +1,6 @@
 // The parts of a masked table, in bytes: sizes, kinds, operands, outputs.
+#![tactic(auto)]
+
 ghost use Rattle.std.specs.Prelude.{◌≡◌, ◌++◌, ◌+◌, ◌*◌, ◌≤◌, ◌<◌, length};
 ghost use Rattle.tables.specs.Tables.{two, table_of, total, word_bytes};
 ghost use Rattle.tables.specs.Says.{over};

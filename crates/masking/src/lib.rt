@@ -1,4 +1,6 @@
 // Masking a plain table: its refusals, or the masked table's bytes.
+#![tactic(auto)]
+
 ghost use Rattle.std.specs.Prelude.{◌≡◌};
 ghost use Rattle.construction.specs.Gadgets.{gadget_of};
 ghost use Rattle.construction.specs.Says.{MaskSays};

@@ -1,4 +1,6 @@
 // The calls for C and Rust programs, under the names of include/masks.h. Each is the proved call with the same promise; and the version.
+#![tactic(auto)]
+
 ghost use Rattle.std.specs.Prelude.{◌≡◌};
 ghost use Rattle.tables.specs.Says.{CheckSays, RunSays};
 ghost use Rattle.construction.specs.Gadgets.{isw, dom};

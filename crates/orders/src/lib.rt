@@ -1,4 +1,6 @@
 // The orders that there are.
+#![tactic(auto)]
+
 ghost use Rattle.tables.specs.Inside.{Refused};
 ghost use Rattle.construction.specs.Says.{order_fault};
 

@@ -1,5 +1,7 @@
 // The marks of a probe on a wire: which plain gate the wire belongs to, which part of an AND it is, and the shares that it carries
 // together with the pins of its gate.
+#![tactic(auto)]
+
 ghost use Rattle.std.specs.Prelude.{◌*◌, ◌≤◌, ◌<◌};
 ghost use Rattle.tables.specs.Tables.{kind_of, table_of, AND, OR};
 ghost use Rattle.construction.specs.Shares.{tri};
@@ -11,7 +13,7 @@ ghost use Rattle.construction.specs.Gadgets.{Gadget, gadget_of};
 ghost use Rattle.origins.specs.Origins.{PairSays, Among, PartSays, CarriedSays, PartMarksSay, GateMarksSay, NewWireSays};
 
 // The share numbers that a probe carries, ascending, 0 for none.
-#[derive(Drop)]
+#[derive(Clone, Copy)]
 pub struct Carried {
     pub first: u8,
     pub second: u8,
@@ -19,7 +21,7 @@ pub struct Carried {
 
 // A wire of a masked AND: one of the five of a pair, a row's own product, or a row's sum of some terms. Wires of a pair, shares
 // and rows are counted from 0.
-#[derive(Drop)]
+#[derive(Clone, Copy)]
 pub enum AndPart {
     Pair { wire: u8, lower: u8, upper: u8 },
     Own { row: u8 },
@@ -27,7 +29,7 @@ pub enum AndPart {
 }
 
 // A new wire of a plain gate: the gate's number and kind, and which of its new wires, counted from 0.
-#[derive(Drop)]
+#[derive(Clone, Copy)]
 pub struct NewWire {
     pub gate: usize,
     pub kind: u8,

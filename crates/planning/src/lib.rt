@@ -1,4 +1,6 @@
 // What a plain table and an order come to: refusals 1 to 8, or the sizes of the masked table.
+#![tactic(auto)]
+
 ghost use Rattle.std.specs.Prelude.{◌≡◌, ◌*◌, ◌≤◌};
 ghost use Rattle.tables.specs.Tables.{kind_of, table_of, table_long, random_fault, total};
 ghost use Rattle.tables.specs.Counted.{of_kind};
@@ -12,7 +14,7 @@ ghost use Rattle.planning.specs.Plans.{FewGates, TotalsSay, Countable, TalliedSa
 ghost use Rattle.planning.specs.Plans.{PlannedBy, PlanSays, PlanFits, plan_bytes};
 
 // The order and the sizes of a plain table that 1 to 8 accept at it, and its masked table's wires and tape bits.
-#[derive(Drop)]
+#[derive(Clone, Copy)]
 pub struct Plan {
     pub order: usize,
     pub inputs: usize,
@@ -24,14 +26,14 @@ pub struct Plan {
 }
 
 // Whether a plain table can be masked at an order: the refusal, or the sizes.
-#[derive(Drop)]
+#[derive(Clone, Copy)]
 pub enum Planned {
     Refused(tables::Refusal),
     Ready(Plan),
 }
 
 // The sizes of a plain table, and how many of its gates are of each kind.
-#[derive(Drop)]
+#[derive(Clone, Copy)]
 pub struct Tally {
     pub inputs: usize,
     pub gates: usize,
@@ -40,14 +42,14 @@ pub struct Tally {
 }
 
 // Whether 1 to 7 accept a plain table at an order: the refusal, or what its masked sizes follow from.
-#[derive(Drop)]
+#[derive(Clone, Copy)]
 pub enum Tallied {
     Refused(tables::Refusal),
     Ready(Tally),
 }
 
 // The sizes of a masked table, also of one that 8 refuses.
-#[derive(Drop)]
+#[derive(Clone, Copy)]
 pub struct Masked {
     pub shares: usize,
     pub gates: usize,
@@ -57,7 +59,7 @@ pub struct Masked {
 }
 
 // The masked wires and the random bits of a plain table's gates, in all.
-#[derive(Drop)]
+#[derive(Clone, Copy)]
 struct Totals {
     wires: usize,
     draws: usize,

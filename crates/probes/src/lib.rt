@@ -1,4 +1,6 @@
 // The free share of the probes of a mapping call.
+#![tactic(auto)]
+
 ghost use Rattle.std.specs.Prelude.{◌≡◌, ℕ, ◌≤◌, true, List};
 ghost use Rattle.tables.specs.Tables.{table_of};
 ghost use Rattle.construction.specs.Gadgets.{gadget_of};

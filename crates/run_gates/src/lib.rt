@@ -1,4 +1,6 @@
 // Running the gates of a table over values that begin with its inputs.
+#![tactic(auto)]
+
 ghost use Rattle.std.specs.Prelude.{◌≡◌, take};
 ghost use Rattle.tables.specs.Tables.{table_of};
 ghost use Rattle.tables.specs.Runs.{run_from};
@@ -7,7 +9,7 @@ ghost use Rattle.tables.specs.Says.{over};
 ghost use Rattle.run_gates.specs.RunGates.{GateReady, GateSays, RunReady};
 
 // A gate's value and the number of the next random bit.
-#[derive(Drop)]
+#[derive(Clone, Copy)]
 struct Drawn {
     value: u8,
     next: usize,

@@ -1,4 +1,6 @@
 // Running a gate table on its inputs and random bits.
+#![tactic(auto)]
+
 ghost use Rattle.std.specs.Prelude.{◌≡◌, true, length};
 ghost use Rattle.tables.specs.Refusals.{passed};
 ghost use Rattle.tables.specs.Tables.{wires, table_of, table_fault};

@@ -45,7 +45,7 @@ unfolding gates_flips total
 gates_flips_length G n k w S [] v u = refl
 gates_flips_length G n k w S (x ∷ xs) v u =
     length-append (gate_flips G x.kind n k (get_or S x.left []) (get_or S x.right []) v u) _
-    ∙ ap₂ (λ (p q : ℕ). p + q) (gate_flips_length G x.kind n k _ _ v u) (gates_flips_length G n k _ _ xs v u)
+    ∙ ap₂ (λ (p q : ℕ). p + q) (gate_flips_length G x.kind n k _ _ v u) (gates_flips_length G n k (w + cost x.kind n) _ xs v u)
 
 map_same : {A : Type 0} (f g : A → ℕ) (xs : List A) → All (λ x. f x ≡ g x) xs → map f xs ≡ map g xs
 unfolding All
@@ -174,7 +174,7 @@ pub gates_flips_sym :
 unfolding gates_flips
 gates_flips_sym G n k w S [] v u = refl
 gates_flips_sym G n k w S (x ∷ xs) v u =
-    ap₂ (λ (p q : List ℕ). p ++ q) (gate_flips_sym G x.kind n k _ _ v u) (gates_flips_sym G n k _ _ xs v u)
+    ap₂ (λ (p q : List ℕ). p ++ q) (gate_flips_sym G x.kind n k _ _ v u) (gates_flips_sym G n k (w + cost x.kind n) _ xs v u)
 
 map_none : {A : Type 0} (f : A → ℕ) (xs : List A) → ((x : A) → f x ≡ 0) → (i : ℕ) → get_or (map f xs) i 0 ≡ 0
 map_none f [] h i = refl
@@ -216,7 +216,7 @@ gates_flips_none G none n k w S [] v i = refl
 gates_flips_none G none n k w S (x ∷ xs) v i =
     zero_append (gate_flips G x.kind n k (get_or S x.left []) (get_or S x.right []) v v) _
     (gate_flips_none G none x.kind n k _ _ v)
-    (gates_flips_none G none n k _ _ xs v)
+    (gates_flips_none G none n k (w + cost x.kind n) _ xs v)
     i
 
 -- flips in two parts, of which the first has d bits

@@ -1,4 +1,6 @@
 // Where the shares of every plain wire are in the masked table.
+#![tactic(auto)]
+
 ghost use Rattle.std.specs.Prelude.{◌≡◌, List, ◌+◌, ◌*◌, ◌≤◌, ◌<◌, ℕ};
 ghost use Rattle.tables.specs.Tables.{kind_of, table_of};
 ghost use Rattle.tables.specs.Inside.{PlainByte};

@@ -2,6 +2,8 @@
 // for each output; or the line `refused`, number, place. One byte more than the longest table has is read: a longer input and its
 // first 458,747 bytes have the same text, 2 by the sizes or else 1 by the length (`cut_listed` of the crate listing). ROOM bytes hold
 // every text (`text_short`). On the stack are about 3.4 MB: 458,747 bytes of input and 2,949,120 of text.
+#![tactic(auto)]
+
 use libc::{STDIN_FILENO, STDOUT_FILENO};
 
 fn main() {

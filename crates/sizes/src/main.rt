@@ -2,6 +2,8 @@
 // outputs that the masked table has, also where 8 refuses it as too large, and the largest order at which 8 does not; or the line
 // `refused`, number, place by 1 to 7. One byte more than an order byte and the longest table have is read: a longer input and its first
 // 458,748 bytes have the same line, 2 by the sizes or else 1 by the length (`cut_printed` of the crate sizes_line).
+#![tactic(auto)]
+
 use libc::{STDIN_FILENO, STDOUT_FILENO};
 
 fn main() {

@@ -1,4 +1,6 @@
 // The masked sizes of a plain table at an order, also where 8 refuses them, and the sizes program's line.
+#![tactic(auto)]
+
 ghost use Rattle.std.specs.Prelude.{◌≡◌, ◌+◌, ◌≤◌, length};
 ghost use Rattle.tables.specs.Tables.{Table};
 ghost use Rattle.text.specs.Text.{Puts};
@@ -7,7 +9,7 @@ ghost use Rattle.sizes_line.specs.Lines.{largest_order, table_line, printed, Siz
 ghost use Rattle.sizes_line.specs.Inside.{SixOf, later_text, six_text, told_line};
 
 // The six figures of a plain table at an order: those of its masked table, and the largest order at which 8 does not refuse it.
-#[derive(Drop)]
+#[derive(Clone, Copy)]
 struct Six {
     shares: u32,
     wires: u32,
@@ -18,7 +20,7 @@ struct Six {
 }
 
 // What is told of a plain table at an order: a refusal, or the six figures.
-#[derive(Drop)]
+#[derive(Clone, Copy)]
 enum Told {
     Refused(tables::Refusal),
     Figures(Six),

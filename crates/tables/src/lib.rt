@@ -1,10 +1,11 @@
 // The gate-table format: what the calls answer, a gate as a table states it, and counts of gates.
+#![tactic(auto)]
 
 // The bytes of the longest table: 65,534 gates and 65,535 outputs.
 pub const LONGEST: usize = 458746;
 
 // A refusal's number and place; number 0 is no refusal.
-#[derive(Drop)]
+#[derive(Clone, Copy)]
 pub struct Refusal {
     pub number: u8,
     pub place: u32,
@@ -12,7 +13,7 @@ pub struct Refusal {
 
 // What a call answers: a refusal's number and place, or 0, 0 and the call's value. Value: wires, bytes, bits or the free share.
 #[repr(C)]
-#[derive(Drop)]
+#[derive(Clone, Copy)]
 pub struct Answer {
     pub number: u8,
     pub place: u32,
@@ -20,7 +21,7 @@ pub struct Answer {
 }
 
 // A gate as a table states it: its kind's byte and its operands.
-#[derive(Drop)]
+#[derive(Clone, Copy)]
 pub struct GateFields {
     pub kind: u8,
     pub left: usize,
@@ -28,7 +29,7 @@ pub struct GateFields {
 }
 
 // How many gates there are of each kind.
-#[derive(Drop)]
+#[derive(Clone, Copy)]
 pub struct Counts {
     pub nots: usize,
     pub xors: usize,

@@ -1,4 +1,6 @@
 // Text in a lent buffer: bytes, numbers in decimal, and the line of a refusal.
+#![tactic(auto)]
+
 ghost use Rattle.std.specs.Prelude.{◌≡◌, [], ◌∷◌, ◌++◌, ◌+◌, ◌≤◌, length};
 ghost use Rattle.text.specs.Text.{decimal, refusal_line, Spelled, Puts, PutsAll};
 

@@ -1,0 +1,11 @@
+-- `ands::pair_form` meets its contract: by each AND's own law.
+-- Assumes nothing.
+use borrow.Author.Rules.{rules}
+use Rattle.ands.proofs.Forms.{isw_form_lem, dom_form_lem}
+use Rattle.ands.proofs.pair_form.Goals as goal
+
+pub returns-in-Isw : goal.returns-in-Isw
+returns-in-Isw c = isw_form_lem c.in-Isw.is
+
+pub returns-in-Dom : goal.returns-in-Dom
+returns-in-Dom c = dom_form_lem c.in-Dom.is

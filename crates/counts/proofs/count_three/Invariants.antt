@@ -1,0 +1,18 @@
+-- `counts::count_three` meets its contract. The loop's invariant: the counts are those of the gates before the next block.
+-- Assumes nothing.
+use mathlib.Core.Path.{◌≡◌}
+use Prim.Native.Nat.{◌-◌, ◌≤◌}
+use native.Mathlib.Omega.{arith}
+use borrow.Author.Rules.{rules}
+use lib.ListN.{take}
+use Rattle.tables.specs.Tables.{table_of}
+use Rattle.tables.proofs.Accept.{gates_are}
+use Rattle.counts.specs.Three.{three_of}
+use Rattle.counts.proofs.Counting.{none_counted, all_counted}
+use Rattle.counts.proofs.count_three.Given as goal
+
+abbrev pub invariant-loop-g : goal.invariant-loop-g
+invariant-loop-g l = (l.g ≤ l.gates) × (l.counts ≡ three_of l.kind (take l.g (table_of l.table).gates))
+
+abbrev pub decreases-loop-g : goal.decreases-loop-g
+decreases-loop-g l = l.gates - l.g

@@ -1,0 +1,28 @@
+-- `fields::field` meets its contract: each byte read is below 256.
+-- Assumes nothing.
+use Prim.Native.Nat.{◌+◌}
+use native.Mathlib.Numerals.{add-one}
+use native.Mathlib.Omega.{arith}
+use borrow.Author.Rules.{rules}
+use Rattle.fields.proofs.field.Goals as goal
+
+pub overflow_cast-low : goal.overflow_cast-low
+overflow_cast-low c = omega (arith, c.shared_slice_known-1.given c.args.at)
+
+pub overflow_cast-high : goal.overflow_cast-high
+overflow_cast-high c = omega (arith, c.shared_slice_known-2-1.given (c.args.at + 1))
+
+pub overflow_mul-result : goal.overflow_mul-result
+overflow_mul-result c =
+    let at = c.args.at in
+    omega (arith, c.shared_slice_known-2-1.given at, c.shared_slice_known-2-1.given (at + 1))
+
+pub overflow_add-result : goal.overflow_add-result
+overflow_add-result c =
+    let at = c.args.at in
+    omega (arith, c.shared_slice_known-2-1.given at, c.shared_slice_known-2-1.given (at + 1))
+
+pub returns : goal.returns
+returns c =
+    let at = c.args.at in
+    (rw add-one, omega (arith, c.shared_slice_known-2-1.given at, c.shared_slice_known-2-1.given (at + 1)))

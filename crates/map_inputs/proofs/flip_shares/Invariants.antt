@@ -1,0 +1,14 @@
+-- `map_inputs::flip_shares` meets its contract. The loop's invariant: the shares of the inputs from i on are left to flip.
+-- Assumes nothing.
+use mathlib.Core.Path.{refl}
+use Prim.Native.Nat.{◌+◌, ◌-◌, ◌*◌, ◌<◌}
+use native.Mathlib.Omega.{arith}
+use lib.ListN.{length}
+use Rattle.map_inputs.proofs.Flipping.{FlippingEach, each_start, each_fits, each_bit, each_turn, each_end}
+use Rattle.map_inputs.proofs.flip_shares.Given as goal
+
+abbrev pub invariant-loop-i : goal.invariant-loop-i
+invariant-loop-i l = FlippingEach l.shares l.k l.first l.second l.initial.run l.at l.i l.run
+
+abbrev pub decreases-loop-i : goal.decreases-loop-i
+decreases-loop-i l = length l.first - l.i

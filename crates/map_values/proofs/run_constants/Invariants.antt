@@ -1,0 +1,20 @@
+-- `map_values::run_constants` meets its contract. The invariant: s shares have run on, and `bit` is the next one.
+-- Assumes nothing.
+use mathlib.Core.Path.{◌≡◌, refl}
+use mathlib.Core.Bool.{cond}
+use Prim.Native.Nat.{◌+◌, ◌-◌, ◌<◌}
+use native.Mathlib.Omega.{arith}
+use lib.Dec.{eqb}
+use lib.ListN.{length}
+use Rattle.tables.proofs.Ran.{runs_less}
+use Rattle.layout.specs.Layout.{constant_gates}
+use Rattle.map_values.proofs.InPieces.{InPieces, pieces_start, pieces_room, pieces_turn, pieces_end}
+use Rattle.map_values.proofs.InPieces.{constant_none, constant_ran, constant_next}
+use Rattle.map_values.proofs.run_constants.Given as goal
+
+abbrev pub invariant-loop-s : goal.invariant-loop-s
+invariant-loop-s l =
+    InPieces 1 l.w l.n (constant_gates l.value) l.initial.run (l.w + l.s) l.s l.run × (l.bit ≡ cond (eqb l.s 0) l.value 0)
+
+abbrev pub decreases-loop-s : goal.decreases-loop-s
+decreases-loop-s l = l.n - l.s

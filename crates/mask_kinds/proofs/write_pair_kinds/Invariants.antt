@@ -1,0 +1,14 @@
+-- `mask_kinds::write_pair_kinds` meets its contract. The invariant: the kinds of c pairs are written, the others follow them.
+-- Assumes nothing.
+use mathlib.Core.Path.{refl}
+use Prim.Native.Nat.{◌+◌, ◌-◌, ◌*◌}
+use native.Mathlib.Omega.{arith}
+use Rattle.mask_kinds.specs.Kinds.{pair_kinds}
+use Rattle.layout.proofs.Bytes.{PutPieces, put_pieces_start, put_pieces_turn, put_pieces_end}
+use Rattle.mask_kinds.proofs.write_pair_kinds.Given as goal
+
+abbrev pub invariant-loop-c : goal.invariant-loop-c
+invariant-loop-c l = PutPieces 5 l.at l.m (λ _. pair_kinds) l.initial.kinds (l.at + 5 * l.c) l.c l.kinds
+
+abbrev pub decreases-loop-c : goal.decreases-loop-c
+decreases-loop-c l = l.m - l.c

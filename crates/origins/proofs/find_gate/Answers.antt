@@ -1,0 +1,89 @@
+-- `origins::find_gate` meets its contract. The invariant, `Seeking`, says that the wire is among the new wires of the gates left.
+-- Assumes nothing.
+use mathlib.Core.Path.{◌≡◌, refl, ◌∙◌}
+use Prim.Native.Nat.{◌-◌, ◌≤◌}
+use native.Mathlib.Omega.{arith}
+use lib.ListN.{length}
+use borrow.Author.Rules.{rules}
+use Rattle.tables.specs.Tables.{kind_of, table_of}
+use Rattle.tables.proofs.Accept.{gates_of_length, has_gates}
+use Rattle.tables.proofs.Format.{passed_sound_gates, sound_at, known_byte}
+use Rattle.construction.specs.Wires.{cost}
+use Rattle.gate_costs.proofs.Figures.{cost_small}
+use Rattle.planning.proofs.Planning.{plan_passed, plan_fits}
+use Rattle.origins.proofs.Finding.{Seeking, seek_start, seek_some, seek_turn, seek_end}
+use Rattle.origins.proofs.find_gate.Goals as goal
+
+-- before the loop, and what the function was given
+abbrev noted : tie.After-gate-at invariant-loop decreases-loop → tie.After-note-costs invariant-loop decreases-loop
+noted c = c.before.before.before.before
+
+abbrev start : tie.After-gate-at invariant-loop decreases-loop → tie.Start invariant-loop decreases-loop
+start c = (noted c).before.before.before
+
+pub note_costs-requires : goal.note_costs-requires
+note_costs-requires c = ((plan_fits c.requires.0).shares, refl)
+
+pub overflow_mul-start : goal.overflow_mul-start
+overflow_mul-start c = let F = plan_fits c.requires.0 in record { fits = omega (arith, F.inputs, F.wires) }
+
+pub loop-costs-init : goal.loop-costs-init
+loop-costs-init c = let p = c.requires in seek_start p.0 p.1 p.2
+
+pub gate_at-x-requires : goal.gate_at-x-requires
+gate_at-x-requires c =
+    let R = c.requires.0 in
+    (has_gates _ (plan_passed R).table (R.gates ∙ gates_of_length _), omega (arith, seek_some c.loop-costs.invariant, R.gates))
+
+pub noted_cost-requires : goal.noted_cost-requires
+noted_cost-requires c =
+    let known : c.gate_at-x.result.kind ≤ 5 = (let R = c.requires.0 in
+    let sound = sound_at _ _ _ (passed_sound_gates _ (plan_passed R).table) (seek_some c.loop-costs.invariant) in
+    known_byte _ (rw c.gate_at-x.ensures.kind sound.0)) in
+    (known, c.note_costs.ensures.0)
+
+pub overflow_add-next : goal.overflow_add-next
+overflow_add-next c =
+    let known : c.gate_at-x.result.kind ≤ 5 = (let R = c.requires.0 in
+    let sound = sound_at _ _ _ (passed_sound_gates _ (plan_passed R).table) (seek_some c.loop-costs.invariant) in
+    known_byte _ (rw c.gate_at-x.ensures.kind sound.0)) in
+    let costs : c.noted_cost.result ≡ cost (kind_of c.gate_at-x.result.kind) (start c).args.p.shares = c.noted_cost.ensures ∙ (noted c).note-costs.ensures.1 _ known in
+    let p = start c in
+    let F = plan_fits p.pre.0 in
+    let few = cost_small (kind_of c.gate_at-x.result.kind) p.args.p.shares F.shares in
+    record { fits = omega (arith, costs, few, c.loop-costs.invariant.past, p.pre.2, F.wires) }
+
+pub overflow_sub-result : goal.overflow_sub-result
+overflow_sub-result c = c.loop-costs.invariant.past
+
+pub returns-then-wire-next : goal.returns-then-wire-next
+returns-then-wire-next c =
+    let known : c.gate_at-x.result.kind ≤ 5 = (let R = c.requires.0 in
+    let sound = sound_at _ _ _ (passed_sound_gates _ (plan_passed R).table) (seek_some c.loop-costs.invariant) in
+    known_byte _ (rw c.gate_at-x.ensures.kind sound.0)) in
+    let costs : c.noted_cost.result ≡ cost (kind_of c.gate_at-x.result.kind) (start c).args.p.shares = c.noted_cost.ensures ∙ (noted c).note-costs.ensures.1 _ known in
+    seek_end c.loop-costs.invariant (start c).requires.0.shares c.gate_at-x.ensures.kind costs c.if-wire-next.true
+
+pub overflow_add-g : goal.overflow_add-g
+overflow_add-g c =
+    let p = start c in
+    record {
+      fits = omega (
+        arith,
+        seek_some c.loop-costs.invariant,
+        p.pre.0.gates,
+        gates_of_length p.args.table.now,
+        (plan_fits p.pre.0).wires,
+      );
+    }
+
+pub loop-costs-smaller : goal.loop-costs-smaller
+loop-costs-smaller c = omega (arith, seek_some c.loop-costs.invariant)
+
+pub loop-costs-preserved : goal.loop-costs-preserved
+loop-costs-preserved c =
+    let known : c.gate_at-x.result.kind ≤ 5 = (let R = c.requires.0 in
+    let sound = sound_at _ _ _ (passed_sound_gates _ (plan_passed R).table) (seek_some c.loop-costs.invariant) in
+    known_byte _ (rw c.gate_at-x.ensures.kind sound.0)) in
+    let costs : c.noted_cost.result ≡ cost (kind_of c.gate_at-x.result.kind) (start c).args.p.shares = c.noted_cost.ensures ∙ (noted c).note-costs.ensures.1 _ known in
+    seek_turn c.loop-costs.invariant c.gate_at-x.result.kind c.gate_at-x.ensures.kind costs c.if-wire-next.false

@@ -1,0 +1,13 @@
+-- `share_places::place_inputs` meets its contract: the inputs before number i are noted, and the next one begins at wire n·i.
+-- Assumes nothing.
+use Prim.Native.Nat.{◌+◌, ◌-◌, ◌≤◌}
+use native.Mathlib.Omega.{arith}
+use Rattle.share_places.specs.Located.{Room}
+use Rattle.share_places.proofs.Placing.{Inputs, inputs_start, inputs_fit, inputs_turn, inputs_end, noted_room}
+use Rattle.share_places.proofs.place_inputs.Given as goal
+
+abbrev pub invariant-loop-i : goal.invariant-loop-i
+invariant-loop-i l = Inputs l.n l.inputs l.initial.head l.initial.base l.initial.step l.head l.base l.step l.i l.w
+
+abbrev pub decreases-loop-i : goal.decreases-loop-i
+decreases-loop-i l = l.inputs - l.i
