@@ -42,7 +42,7 @@ pub shape_of-run : goal.shape_of-run
 shape_of-run c =
     let five : (let s = c.args in
     Ran (map ((gadget_of s.and).gates s.w s.ai s.bj s.aj s.bi) all_five) (s.bit ∷ []) s.w s.run.now
-    (s.w + 5) 0 c.run_fifth.new.0) = (five_ran c.pair_form-form.ensures c.requires.0 c.requires.1 c.requires.2 c.run_random.ensures c.run_and.ensures
+    (s.w + 5) 0 c.run_fifth.new.run) = (five_ran c.pair_form-form.ensures c.requires.0 c.requires.1 c.requires.2 c.run_random.ensures c.run_and.ensures
     c.run_xor.ensures c.run_and-2.ensures c.run_fifth.ensures) in
     five.long
 
@@ -50,6 +50,6 @@ pub returns : goal.returns
 returns c =
     let five : (let s = c.args in
     Ran (map ((gadget_of s.and).gates s.w s.ai s.bj s.aj s.bi) all_five) (s.bit ∷ []) s.w s.run.now
-    (s.w + 5) 0 c.run_fifth.new.0) = (five_ran c.pair_form-form.ensures c.requires.0 c.requires.1 c.requires.2 c.run_random.ensures c.run_and.ensures
+    (s.w + 5) 0 c.run_fifth.new.run) = (five_ran c.pair_form-form.ensures c.requires.0 c.requires.1 c.requires.2 c.run_random.ensures c.run_and.ensures
     c.run_xor.ensures c.run_and-2.ensures c.run_fifth.ensures) in
     five.is

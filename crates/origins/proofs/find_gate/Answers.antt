@@ -14,13 +14,6 @@ use Rattle.planning.proofs.Planning.{plan_passed, plan_fits}
 use Rattle.origins.proofs.Finding.{Seeking, seek_start, seek_some, seek_turn, seek_end}
 use Rattle.origins.proofs.find_gate.Goals as goal
 
--- before the loop, and what the function was given
-abbrev noted : tie.After-gate-at invariant-loop decreases-loop → tie.After-note-costs invariant-loop decreases-loop
-noted c = c.before.before.before.before
-
-abbrev start : tie.After-gate-at invariant-loop decreases-loop → tie.Start invariant-loop decreases-loop
-start c = (noted c).before.before.before
-
 pub note_costs-requires : goal.note_costs-requires
 note_costs-requires c = ((plan_fits c.requires.0).shares, refl)
 
@@ -47,11 +40,10 @@ overflow_add-next c =
     let known : c.gate_at-x.result.kind ≤ 5 = (let R = c.requires.0 in
     let sound = sound_at _ _ _ (passed_sound_gates _ (plan_passed R).table) (seek_some c.loop-costs.invariant) in
     known_byte _ (rw c.gate_at-x.ensures.kind sound.0)) in
-    let costs : c.noted_cost.result ≡ cost (kind_of c.gate_at-x.result.kind) (start c).args.p.shares = c.noted_cost.ensures ∙ (noted c).note-costs.ensures.1 _ known in
-    let p = start c in
-    let F = plan_fits p.pre.0 in
-    let few = cost_small (kind_of c.gate_at-x.result.kind) p.args.p.shares F.shares in
-    record { fits = omega (arith, costs, few, c.loop-costs.invariant.past, p.pre.2, F.wires) }
+    let costs : c.noted_cost.result ≡ cost (kind_of c.gate_at-x.result.kind) c.args.p.shares = c.noted_cost.ensures ∙ c.note_costs.ensures.1 _ known in
+    let F = plan_fits c.requires.0 in
+    let few = cost_small (kind_of c.gate_at-x.result.kind) c.args.p.shares F.shares in
+    record { fits = omega (arith, costs, few, c.loop-costs.invariant.past, c.requires.2, F.wires) }
 
 pub overflow_sub-result : goal.overflow_sub-result
 overflow_sub-result c = c.loop-costs.invariant.past
@@ -61,19 +53,18 @@ returns-then-wire-next c =
     let known : c.gate_at-x.result.kind ≤ 5 = (let R = c.requires.0 in
     let sound = sound_at _ _ _ (passed_sound_gates _ (plan_passed R).table) (seek_some c.loop-costs.invariant) in
     known_byte _ (rw c.gate_at-x.ensures.kind sound.0)) in
-    let costs : c.noted_cost.result ≡ cost (kind_of c.gate_at-x.result.kind) (start c).args.p.shares = c.noted_cost.ensures ∙ (noted c).note-costs.ensures.1 _ known in
-    seek_end c.loop-costs.invariant (start c).requires.0.shares c.gate_at-x.ensures.kind costs c.if-wire-next.true
+    let costs : c.noted_cost.result ≡ cost (kind_of c.gate_at-x.result.kind) c.args.p.shares = c.noted_cost.ensures ∙ c.note_costs.ensures.1 _ known in
+    seek_end c.loop-costs.invariant c.requires.0.shares c.gate_at-x.ensures.kind costs c.if-wire-next.true
 
 pub overflow_add-g : goal.overflow_add-g
 overflow_add-g c =
-    let p = start c in
     record {
       fits = omega (
         arith,
         seek_some c.loop-costs.invariant,
-        p.pre.0.gates,
-        gates_of_length p.args.table.now,
-        (plan_fits p.pre.0).wires,
+        c.requires.0.gates,
+        gates_of_length c.args.table.now,
+        (plan_fits c.requires.0).wires,
       );
     }
 
@@ -85,5 +76,5 @@ loop-costs-preserved c =
     let known : c.gate_at-x.result.kind ≤ 5 = (let R = c.requires.0 in
     let sound = sound_at _ _ _ (passed_sound_gates _ (plan_passed R).table) (seek_some c.loop-costs.invariant) in
     known_byte _ (rw c.gate_at-x.ensures.kind sound.0)) in
-    let costs : c.noted_cost.result ≡ cost (kind_of c.gate_at-x.result.kind) (start c).args.p.shares = c.noted_cost.ensures ∙ (noted c).note-costs.ensures.1 _ known in
+    let costs : c.noted_cost.result ≡ cost (kind_of c.gate_at-x.result.kind) c.args.p.shares = c.noted_cost.ensures ∙ c.note_costs.ensures.1 _ known in
     seek_turn c.loop-costs.invariant c.gate_at-x.result.kind c.gate_at-x.ensures.kind costs c.if-wire-next.false

@@ -1,6 +1,7 @@
 -- `running::supplied_fault` meets its contract: the counts first, then the bits.
 -- Assumes nothing.
-use mathlib.Core.Path.{◌≡◌, ◌∙◌}
+use mathlib.Core.Path.{◌≡◌, ◌∙◌, ap}
+use mathlib.Core.Bool.{not}
 use native.Mathlib.Omega.{arith}
 use lib.ListN.{length}
 use borrow.Author.Rules.{rules}
@@ -22,7 +23,7 @@ field-requires-2 c = omega (arith, accepted_long _ c.requires)
 pub returns-then-not-inputs-field : goal.returns-then-not-inputs-field
 returns-then-not-inputs-field c =
     refused_same
-    (supplied_wrong _ _ _ c.field-2.ensures.0 c.count_three-draws.ensures c.bytes_for-bytes.ensures c.if-not-inputs-field.true)
+    (supplied_wrong _ _ _ c.field-2.ensures.0 c.count_three-draws.ensures c.bytes_for-bytes.ensures (ap not c.if-not-inputs-field.true))
     c.refuse.ensures
 
 pub bits_fault-requires : goal.bits_fault-requires
@@ -32,7 +33,7 @@ bits_fault-requires c =
     ≡ bytes_for c.count_three-draws.result.first) = (let args = c.args in
     let both =
     counts_right (length args.inputs.now) c.field-2.result (length args.random.now) c.bytes_for-bytes.result
-    c.if-not-inputs-field.false in
+    (ap not c.if-not-inputs-field.false) in
     (both.0, both.1 ∙ c.bytes_for-bytes.ensures)) in
     omega (arith, right.0, c.field-2.ensures.1)
 
@@ -43,7 +44,7 @@ spare_fault-requires c =
     ≡ bytes_for c.count_three-draws.result.first) = (let args = c.args in
     let both =
     counts_right (length args.inputs.now) c.field-2.result (length args.random.now) c.bytes_for-bytes.result
-    c.if-not-inputs-field.false in
+    (ap not c.if-not-inputs-field.false) in
     (both.0, both.1 ∙ c.bytes_for-bytes.ensures)) in
     let few = few_randoms c.args.table.now c.requires c.count_three-draws.ensures in
     (right.1, omega (arith, right.0, right.1, c.field-2.ensures.1, few))
@@ -51,5 +52,5 @@ spare_fault-requires c =
 pub returns : goal.returns
 returns c =
     refused_same
-    (supplied_bits _ _ _ c.field-2.ensures.0 c.count_three-draws.ensures c.bytes_for-bytes.ensures c.if-not-inputs-field.false)
+    (supplied_bits _ _ _ c.field-2.ensures.0 c.count_three-draws.ensures c.bytes_for-bytes.ensures (ap not c.if-not-inputs-field.false))
     (c.first_of.ensures _ _ c.bits_fault.ensures c.spare_fault.ensures)

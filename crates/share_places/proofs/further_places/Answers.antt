@@ -14,8 +14,6 @@ overflow_add-result c = omega (arith, c.requires.4)
 
 pub returns-then-kind-eq4 : goal.returns-then-kind-eq4
 returns-then-kind-eq4 c =
-    let is_or : c.args.kind ≡ 5 = (let p = c.requires in omega (arith, p.0, p.1.0, c.if-kind-eq4.false)) in
-    let fits : c.args.w + cost OR c.args.n ≤ 65535 = rw is_or at c.requires.4 in
     let fits = rw c.if-kind-eq4.true at c.requires.4 in
     rw c.if-kind-eq4.true (
       (λ a. shares_run c.args.n c.args.w c.requires.2),

@@ -11,17 +11,6 @@ use Rattle.tables.specs.Tables.{kind_of, table_of}
 use Rattle.construction.specs.Wires.{cost}
 use Rattle.share_places.proofs.place_gates.Goals as goal
 
--- before the loop, and what the function was given
-abbrev noted : tie.In-loop invariant-loop decreases-loop → tie.After-note-costs invariant-loop decreases-loop
-noted c = c.before.before.before
-
-abbrev start : tie.In-loop invariant-loop decreases-loop → tie.Start invariant-loop decreases-loop
-start c = (noted c).before.before.before.before.before.before
-
--- the gate whose cost is looked up
-abbrev gate : tie.After-noted-cost invariant-loop decreases-loop → tie.After-gate-at invariant-loop decreases-loop
-gate c = c.before.before.before.before.before.before.before.before.before.before.before.before.before.before.before.before.before
-
 pub note_costs-requires : goal.note_costs-requires
 note_costs-requires c = ((plan_sized c.requires.0).few, refl)
 
@@ -37,70 +26,67 @@ gate_at-x-requires c = ((plan_sized c.requires.0).gates, c.loop-g-test.true)
 pub places_at-a-requires : goal.places_at-a-requires
 places_at-a-requires c =
     let room : (let l = c.loop-g in
-    Room ((start c).args.p.inputs + l.g + 1) l.head l.base l.step) = noted_room (start c).requires.1 c.loop-g.invariant.noted (omega (arith, c.loop-g-test.true)) in
-    let facts : (let p = (start c).args.p in
+    Room (c.args.p.inputs + l.g + 1) l.head l.base l.step) = noted_room c.requires.1 c.loop-g.invariant.noted (omega (arith, c.loop-g-test.true)) in
+    let facts : (let p = c.args.p in
     let l = c.loop-g in
-    Turn p.inputs p.shares l.g l.w c.gate_at-x.result) = turn (start c).requires.0 c.loop-g-test.true c.loop-g.invariant.wire c.gate_at-x.ensures in
+    Turn p.inputs p.shares l.g l.w c.gate_at-x.result) = turn c.requires.0 c.loop-g-test.true c.loop-g.invariant.wire c.gate_at-x.ensures in
     let r = room in
     let f = facts in
     record { heads = omega (arith, r.heads, f.left); bases = omega (arith, r.bases, f.left); steps = omega (arith, r.steps, f.left) }
 
 pub new_places-r-requires : goal.new_places-r-requires
 new_places-r-requires c =
-    let facts : (let p = (start c).args.p in
+    let facts : (let p = c.args.p in
     let l = c.loop-g in
-    Turn p.inputs p.shares l.g l.w c.gate_at-x.result) = turn (start c).requires.0 c.loop-g-test.true c.loop-g.invariant.wire c.gate_at-x.ensures in
+    Turn p.inputs p.shares l.g l.w c.gate_at-x.result) = turn c.requires.0 c.loop-g-test.true c.loop-g.invariant.wire c.gate_at-x.ensures in
     let f = facts in
-    let z = plan_sized (start c).pre.0 in
+    let z = plan_sized c.requires.0 in
     (f.kind, omega (arith, z.some), z.few, f.fits, c.places_at-a.ensures.1)
 
 pub overflow_add-inputs : goal.overflow_add-inputs
 overflow_add-inputs c =
-    omega (arith, (plan_sized (start c).requires.0).plain, c.loop-g-test.true)
+    omega (arith, (plan_sized c.requires.0).plain, c.loop-g-test.true)
 
 pub put_places-requires : goal.put_places-requires
 put_places-requires c =
     let room : (let l = c.loop-g in
-    Room ((start c).args.p.inputs + l.g + 1) l.head l.base l.step) = noted_room (start c).requires.1 c.loop-g.invariant.noted (omega (arith, c.loop-g-test.true)) in
+    Room (c.args.p.inputs + l.g + 1) l.head l.base l.step) = noted_room c.requires.1 c.loop-g.invariant.noted (omega (arith, c.loop-g-test.true)) in
     (room, c.new_places-r.ensures.1)
 
 pub noted_cost-w-requires : goal.noted_cost-w-requires
 noted_cost-w-requires c =
-    let facts : (let p = (start c).args.p in
+    let facts : (let p = c.args.p in
     let l = c.loop-g in
-    Turn p.inputs p.shares l.g l.w c.gate_at-x.result) = turn (start c).requires.0 c.loop-g-test.true c.loop-g.invariant.wire c.gate_at-x.ensures in
-    (facts.kind.0, (noted c).note-costs.ensures.0)
+    Turn p.inputs p.shares l.g l.w c.gate_at-x.result) = turn c.requires.0 c.loop-g-test.true c.loop-g.invariant.wire c.gate_at-x.ensures in
+    (facts.kind.0, c.note_costs.ensures.0)
 
 pub overflow_add-w : goal.overflow_add-w
 overflow_add-w c =
-    let facts : (let p = (start c).args.p in
+    let facts : (let p = c.args.p in
     let l = c.loop-g in
-    Turn p.inputs p.shares l.g l.w c.gate_at-x.result) = turn (start c).requires.0 c.loop-g-test.true c.loop-g.invariant.wire c.gate_at-x.ensures in
-    let costs : c.noted_cost-w.result ≡ cost (kind_of (gate c).gate-at.result.kind) (start (gate c)).args.p.shares = c.noted_cost-w.ensures ∙ (noted (gate c)).note-costs.ensures.1 _ (facts (gate c)).kind.0 in
-    omega (arith, (facts (gate c)).fits, costs)
+    Turn p.inputs p.shares l.g l.w c.gate_at-x.result) = turn c.requires.0 c.loop-g-test.true c.loop-g.invariant.wire c.gate_at-x.ensures in
+    let costs : c.noted_cost-w.result ≡ cost (kind_of c.gate_at-x.result.kind) c.args.p.shares = c.noted_cost-w.ensures ∙ c.note_costs.ensures.1 _ facts.kind.0 in
+    omega (arith, facts.fits, costs)
 
 pub overflow_add-g : goal.overflow_add-g
 overflow_add-g c =
-    let turns = (gate c) in
-    omega (arith, (plan_sized (start turns).pre.0).plain, turns.loop-test.taken)
+    omega (arith, (plan_sized c.requires.0).plain, c.loop-g-test.true)
 
 pub loop-g-smaller : goal.loop-g-smaller
-loop-g-smaller c = omega (arith, (gate c).loop-test.true)
+loop-g-smaller c = omega (arith, c.loop-g-test.true)
 
 pub loop-g-preserved : goal.loop-g-preserved
 loop-g-preserved c =
     let room : (let l = c.loop-g in
-    Room ((start c).args.p.inputs + l.g + 1) l.head l.base l.step) = noted_room (start c).requires.1 c.loop-g.invariant.noted (omega (arith, c.loop-g-test.true)) in
-    let facts : (let p = (start c).args.p in
+    Room (c.args.p.inputs + l.g + 1) l.head l.base l.step) = noted_room c.requires.1 c.loop-g.invariant.noted (omega (arith, c.loop-g-test.true)) in
+    let facts : (let p = c.args.p in
     let l = c.loop-g in
-    Turn p.inputs p.shares l.g l.w c.gate_at-x.result) = turn (start c).requires.0 c.loop-g-test.true c.loop-g.invariant.wire c.gate_at-x.ensures in
-    let costs : c.noted_cost-w.result ≡ cost (kind_of (gate c).gate-at.result.kind) (start (gate c)).args.p.shares = c.noted_cost-w.ensures ∙ (noted (gate c)).note-costs.ensures.1 _ (facts (gate c)).kind.0 in
-    let read = gate c in
-    let turns = read in
-    placing_turn (start turns).pre.0 turns.loop.inv turns.loop-test.taken read.gate-at.ensures
+    Turn p.inputs p.shares l.g l.w c.gate_at-x.result) = turn c.requires.0 c.loop-g-test.true c.loop-g.invariant.wire c.gate_at-x.ensures in
+    let costs : c.noted_cost-w.result ≡ cost (kind_of c.gate_at-x.result.kind) c.args.p.shares = c.noted_cost-w.ensures ∙ c.note_costs.ensures.1 _ facts.kind.0 in
+    placing_turn c.requires.0 c.loop-g.invariant c.loop-g-test.true c.gate_at-x.ensures
     c.places_at-a.ensures.0
     c.new_places-r.ensures.0
-    (room turns)
+    room
     c.put_places.ensures
     costs
 

@@ -15,12 +15,12 @@ masked_sizes-masked-requires c = countable_at _ c.loop-order.invariant.within c.
 pub returns-then-not-too_large : goal.returns-then-not-too_large
 returns-then-not-too_large c =
     trying_found c.loop-order.invariant c.masked_sizes-masked.ensures c.loop-order-test.true
-    (sym c.too_large.ensures ∙ not-true _ c.if-not-too_large.true)
+    (sym c.too_large.ensures ∙ c.if-not-too_large.true)
 
 pub loop-order-preserved : goal.loop-order-preserved
 loop-order-preserved c =
     trying_next c.loop-order.invariant c.masked_sizes-masked.ensures c.loop-order-test.true
-    (sym c.too_large.ensures ∙ not-false _ c.if-not-too_large.false)
+    (sym c.too_large.ensures ∙ c.if-not-too_large.false)
 
 pub returns : goal.returns
 returns c = trying_end c.loop-order.invariant c.loop-order-test.false
