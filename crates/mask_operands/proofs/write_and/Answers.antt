@@ -1,0 +1,56 @@
+-- `mask_operands::write_and` meets its contract: the pairs, then the rows.
+-- Assumes nothing.
+use mathlib.Core.Path.{◌≡◌, refl, ap, ◌∙◌}
+use mathlib.Core.List.{List, ◌++◌}
+use Prim.Native.Nat.{ℕ, ◌*◌}
+use native.Mathlib.Omega.{arith}
+use borrow.Author.Rules.{rules}
+use lib.ListN.{length}
+use Rattle.tables.specs.Tables.{pair_bytes}
+use Rattle.tables.proofs.Format.{pairs_long}
+use Rattle.construction.specs.Shares.{in_turn, pairs, tri}
+use Rattle.tables.specs.Inside.{put_at}
+use Rattle.construction.specs.Gadgets.{Gadget, gadget_of}
+use Rattle.layout.specs.Layout.{share_wires, pair_gates, rows_gates}
+use Rattle.layout.proofs.Bytes.{pairs_append}
+use Rattle.tables.proofs.Put.{put_then}
+use Rattle.construction.proofs.Each.{in_turn_length}
+use Rattle.construction.proofs.Costs.{all_of}
+use Rattle.construction.proofs.Rows.{pairs_length}
+use Rattle.mask_operands.proofs.write_and.Goals as goal
+
+pub write_pairs-v-requires : goal.write_pairs-v-requires
+write_pairs-v-requires c = let p = c.requires in (p.0, omega (arith, p.1), omega (arith, p.2))
+
+pub overflow_sub-v : goal.overflow_sub-v
+overflow_sub-v c = omega arith
+
+pub overflow_mul-v : goal.overflow_mul-v
+overflow_mul-v c = omega arith
+
+pub overflow_add-at : goal.overflow_add-at
+overflow_add-at c = omega arith
+
+pub write_rows-requires : goal.write_rows-requires
+write_rows-requires c =
+    let p = c.requires in
+    (p.0, omega arith, omega (arith, p.1), omega (arith, p.2))
+
+pub returns : goal.returns
+returns c =
+    let G : Gadget = gadget_of c.args.and in
+    let n = c.args.n in
+    let w = c.args.w in
+    let A = share_wires n c.args.a in
+    let B = share_wires n c.args.b in
+    let at = c.args.at in
+    let b = c.args.ops.now in
+    let all = in_turn 5 w (pairs n) (pair_gates G A B) in
+    let each = in_turn_length 5 w (pairs n) (pair_gates G A B) (all_of _ (λ _ _. refl) (pairs n)) in
+    let long : length (pair_bytes all) ≡ 20 * tri n = omega (arith, pairs_long all, each, pairs_length n 0) in
+    let next = c.write_pairs-v.ensures.0 in
+    rw pairs_append
+    (put_then at (pair_bytes all) (pair_bytes (rows_gates G n w _ A B)) b (omega (arith, c.requires.2)) c.write_pairs-v.ensures.1
+    (omega (arith, long, next))
+    c.write_rows.ensures
+    ∙ ap {A = ℕ} {B = List ℕ} (λ v. put_at at (pair_bytes all ++ pair_bytes (rows_gates G n w v A B)) b) next)

@@ -1,0 +1,54 @@
+-- `mask_operands::write_xor` meets its contract. The invariant: s shares are written, the others follow them.
+-- Assumes nothing.
+use mathlib.Core.Path.{refl, ap₂}
+use mathlib.Core.List.{◌++◌}
+use Prim.Native.Nat.{ℕ, ◌+◌, ◌-◌, ◌*◌}
+use native.Mathlib.Omega.{arith}
+use Rattle.tables.specs.Tables.{two, pair_bytes}
+use Rattle.layout.specs.Layout.{share_wires, xor_gates}
+use Rattle.layout.proofs.ShareWires.{share_low}
+use Rattle.layout.proofs.Bytes.{pairs_pieces, PutPieces, put_pieces_start, put_pieces_turn, put_pieces_end}
+use Rattle.mask_operands.proofs.write_xor.Goals as goal
+
+pub loop-s-init : goal.loop-s-init
+unfolding pair_bytes
+loop-s-init c =
+    put_pieces_start 4 c.args.at _ _ _ _ (λ _ _. refl) (omega arith) c.requires.1
+
+pub share_wire-left-requires : goal.share_wire-left-requires
+share_wire-left-requires c =
+    share_low c.args.n _ c.args.a c.requires.0.left c.loop-s-test.true
+
+pub share_wire-right-requires : goal.share_wire-right-requires
+share_wire-right-requires c =
+    share_low c.args.n _ c.args.b c.requires.0.right c.loop-s-test.true
+
+pub overflow_mul-s : goal.overflow_mul-s
+overflow_mul-s c = omega arith
+
+pub overflow_add-at : goal.overflow_add-at
+overflow_add-at c = omega arith
+
+pub put_gate-requires : goal.put_gate-requires
+put_gate-requires c = omega arith
+
+pub overflow_add-s : goal.overflow_add-s
+overflow_add-s c = omega arith
+
+pub loop-s-smaller : goal.loop-s-smaller
+loop-s-smaller c = omega arith
+
+pub loop-s-preserved : goal.loop-s-preserved
+unfolding pair_bytes
+loop-s-preserved c =
+    let n = c.args.n in
+    let piece = ap₂ (λ (x y : ℕ). two x ++ two y)
+    (c.share_wire-left.ensures.1 n c.loop-s-test.true)
+    (c.share_wire-right.ensures.1 n c.loop-s-test.true) in
+    put_pieces_turn c.loop-s.invariant _ _ (omega arith) refl piece c.put_gate.ensures (omega arith)
+
+pub shape_of-ops : goal.shape_of-ops
+shape_of-ops c = c.loop-s.invariant.long
+
+pub returns : goal.returns
+returns c = rw pairs_pieces (put_pieces_end c.loop-s.invariant (omega arith))

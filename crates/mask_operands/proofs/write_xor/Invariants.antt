@@ -1,0 +1,18 @@
+-- `mask_operands::write_xor` meets its contract. The invariant: s shares are written, the others follow them.
+-- Assumes nothing.
+use mathlib.Core.Path.{refl, ap₂}
+use mathlib.Core.List.{◌++◌}
+use Prim.Native.Nat.{ℕ, ◌+◌, ◌-◌, ◌*◌}
+use native.Mathlib.Omega.{arith}
+use Rattle.tables.specs.Tables.{two, pair_bytes}
+use Rattle.layout.specs.Layout.{share_wires, xor_gates}
+use Rattle.layout.proofs.ShareWires.{share_low}
+use Rattle.layout.proofs.Bytes.{pairs_pieces, PutPieces, put_pieces_start, put_pieces_turn, put_pieces_end}
+use Rattle.mask_operands.proofs.write_xor.Given as goal
+
+abbrev pub invariant-loop-s : goal.invariant-loop-s
+invariant-loop-s l =
+    PutPieces 4 l.at l.n (λ s. pair_bytes (xor_gates (share_wires l.n l.a) (share_wires l.n l.b) s)) l.initial.ops (l.at + 4 * l.s) l.s l.ops
+
+abbrev pub decreases-loop-s : goal.decreases-loop-s
+decreases-loop-s l = l.n - l.s
