@@ -50,7 +50,7 @@ overflow_add-at c =
     kinds_room c.loop-g.invariant c.loop-g-test.true (omega (arith, p.2, p.0.gates)) c.gate_at-x.ensures) in
     let plain : PlainByte c.gate_at-x.result.kind = (turn c.requires.0 {g = c.loop-g.g} (omega (arith, few)) refl c.gate_at-x.ensures).kind in
     let costs : c.noted_cost-at.result ≡ cost (kind_of c.gate_at-x.result.kind) c.args.p.shares = c.noted_cost-at.ensures ∙ c.note_costs.ensures.1 _ plain.0 in
-    omega (arith, room, costs, c.loop-g.invariant.long, c.good)
+    omega (arith, room, costs, c.loop-g.invariant.long)
 
 pub overflow_add-g : goal.overflow_add-g
 overflow_add-g c =

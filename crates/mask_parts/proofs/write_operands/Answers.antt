@@ -9,7 +9,8 @@ use Rattle.tables.specs.Tables.{kind_of, table_of}
 use Rattle.construction.specs.Gadgets.{gadget_of}
 use Rattle.construction.specs.Wires.{cost}
 use Rattle.share_places.proofs.Turns.{Turn, plan_sized, located_room}
-use Rattle.mask_parts.proofs.Stretches.{
+use Rattle.mask_parts.proofs.Stretches.{OperandsLeft, operands_whole, operands_start, operands_facts, operands_room}
+use Rattle.mask_parts.proofs.Stretches.{operands_turn, operands_end, read_low}
 use Rattle.mask_parts.proofs.write_operands.Goals as goal
 
 pub note_costs-requires : goal.note_costs-requires
@@ -89,7 +90,7 @@ overflow_add-at c =
     l.at + 4 * cost (kind_of c.gate_at-x.result.kind) c.args.p.shares ≤ length l.ops) = (let p = c.requires in
     operands_room p.0 c.loop-g.invariant c.loop-g-test.true p.3 c.gate_at-x.ensures p.1) in
     let costs : c.noted_cost-new.result ≡ cost (kind_of c.gate_at-x.result.kind) c.args.p.shares = c.noted_cost-new.ensures ∙ c.note_costs.ensures.1 _ facts.kind.0 in
-    omega (arith, room, costs, c.loop-g.invariant.long, c.good)
+    omega (arith, room, costs, c.loop-g.invariant.long)
 
 pub overflow_add-g : goal.overflow_add-g
 overflow_add-g c =
@@ -108,7 +109,7 @@ loop-g-preserved c =
     let costs : c.noted_cost-new.result ≡ cost (kind_of c.gate_at-x.result.kind) c.args.p.shares = c.noted_cost-new.ensures ∙ c.note_costs.ensures.1 _ facts.kind.0 in
     let l = c.loop-g in
     let p = c.requires in
-    operands_turn p.0 l.inv c.loop-g-test.true p.3 c.gate_at-x.ensures p.1
+    operands_turn p.0 l.invariant c.loop-g-test.true p.3 c.gate_at-x.ensures p.1
     (c.write_operands_of.ensures l.g) costs
 
 pub shape_of-ops : goal.shape_of-ops

@@ -9,7 +9,8 @@ use Rattle.tables.specs.Tables.{kind_of, table_of}
 use Rattle.construction.specs.Gadgets.{gadget_of}
 use Rattle.construction.specs.Wires.{cost}
 use Rattle.share_places.proofs.Turns.{Turn, plan_sized, located_room}
-use Rattle.mask_parts.proofs.Stretches.{
+use Rattle.mask_parts.proofs.Stretches.{OperandsLeft, operands_whole, operands_start, operands_facts, operands_room}
+use Rattle.mask_parts.proofs.Stretches.{operands_turn, operands_end, read_low}
 use Rattle.mask_parts.proofs.write_operands.Given as goal
 
 abbrev pub invariant-loop-g : goal.invariant-loop-g
