@@ -1,7 +1,7 @@
 -- Encoding, decoding, and a run of the masked table on a tape (document 01, "Tape, encoding, decoding"). The tape is the
 -- paper's word for all random bits of a run, the encoder's and the random gates'.
 -- Assumes nothing.
-use Rattle.std.specs.Prelude.{List, [], ◌∷◌, ◌++◌, ℕ, zero, suc, ◌+◌, ◌*◌, ◌/◌, length, take, drop}
+use Rattle.std.specs.Prelude.{List, [], ◌∷◌, ◌++◌, ℕ, zero, suc, ◌*◌, ◌/◌, length, take, drop}
 use Rattle.tables.specs.Tables.{Table}
 use Rattle.tables.specs.Runs.{xor, run}
 use Rattle.construction.specs.Shares.{shares_of}

@@ -1,6 +1,5 @@
 -- `ands::pair_form` meets its contract: by each AND's own law.
 -- Assumes nothing.
-use borrow.Author.Rules.{rules}
 use Rattle.ands.proofs.Forms.{isw_form_lem, dom_form_lem}
 use Rattle.ands.proofs.pair_form.Goals as goal
 

@@ -1,12 +1,9 @@
--- `bits::all_bits` meets its contract. The loop's invariant: where all that was read ors to a bit, no byte before i is above 1.
+-- `bits::all_bits` meets its contract.
 -- Assumes nothing.
-use Prim.Native.Nat.{◌-◌}
 use native.Mathlib.Numerals.{add-one}
 use native.Mathlib.Omega.{arith}
-use lib.ListN.{length}
-use borrow.Author.Rules.{rules}
 use borrow.Author.Tests.{ltb-true}
-use Rattle.bits.proofs.Scan.{Ored, ored_start, ored_step, ored_end}
+use Rattle.bits.proofs.Scan.{ored_start, ored_step, ored_end}
 use Rattle.bits.proofs.all_bits.Goals as goal
 
 pub loop-i-init : goal.loop-i-init

@@ -1,6 +1,5 @@
 -- `bits::bits_fault` meets its contract.
 -- Assumes nothing.
-use borrow.Author.Rules.{rules}
 use Rattle.tables.proofs.Answers.{refused_same}
 use Rattle.bits.proofs.Scan.{bad_found, bad_none}
 use Rattle.bits.proofs.bits_fault.Goals as goal

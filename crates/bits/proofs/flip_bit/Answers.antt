@@ -6,7 +6,6 @@ use native.Mathlib.Omega.{arith}
 use lib.Bits.{bit_xor}
 use lib.ListN.{get_or, set}
 use lib.Pow.{shl_exact}
-use borrow.Author.Rules.{rules}
 use Rattle.tables.specs.Packing.{unpacked}
 use Rattle.tables.proofs.Packing.{unpacked_length, bit_flipped}
 use Rattle.bits.proofs.flip_bit.Goals as goal

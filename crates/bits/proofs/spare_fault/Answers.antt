@@ -1,7 +1,6 @@
 -- `bits::spare_fault` meets its contract: no bit is unused, none is set, or the last byte is the place.
 -- Assumes nothing.
 use native.Mathlib.Omega.{arith}
-use borrow.Author.Rules.{rules}
 use Rattle.tables.specs.Packing.{spare}
 use Rattle.tables.proofs.Answers.{refused_same}
 use Rattle.bits.proofs.Spare.{spare_unset, spare_set, spare_full}

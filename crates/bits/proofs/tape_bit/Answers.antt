@@ -2,7 +2,6 @@
 -- Assumes nothing.
 use mathlib.Core.Path.{sym}
 use native.Mathlib.Omega.{arith}
-use borrow.Author.Rules.{rules}
 use Rattle.tables.proofs.Packing.{unpacked_length, bit_at}
 use Rattle.bits.proofs.tape_bit.Goals as goal
 

@@ -1,6 +1,5 @@
 -- `check_gates::gate_flaws` meets its contract: what it ors is 0 only where each part is, and then no test of a gate fails.
 -- Assumes nothing.
-use borrow.Author.Rules.{rules}
 use Rattle.check_gates.proofs.Gates.{flaws_none}
 use Rattle.check_gates.proofs.gate_flaws.Goals as goal
 

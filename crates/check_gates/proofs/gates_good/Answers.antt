@@ -1,14 +1,11 @@
--- `check_gates::gates_good` meets its contract. The loop's invariant: where nothing is wrong so far, the gates before g are good.
+-- `check_gates::gates_good` meets its contract.
 -- Assumes nothing.
-use Prim.Native.Nat.{◌-◌}
 use native.Mathlib.Numerals.{add-one}
 use native.Mathlib.Omega.{arith}
-use borrow.Author.Rules.{rules}
 use borrow.Author.Tests.{eqb-true, ltb-true}
-use Rattle.tables.specs.Tables.{table_of}
 use Rattle.tables.proofs.Accept.{gates_are}
 use Rattle.tables.proofs.Tests.{and_true}
-use Rattle.check_gates.proofs.Gates.{Flawless, flawless_start, flawless_step, gates_good_end}
+use Rattle.check_gates.proofs.Gates.{flawless_start, flawless_step, gates_good_end}
 use Rattle.check_gates.proofs.gates_good.Goals as goal
 
 pub loop-g-init : goal.loop-g-init

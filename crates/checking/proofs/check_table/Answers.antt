@@ -1,7 +1,6 @@
 -- `checking::check_table` meets its contract: where no check refuses, the sizes are there to read and add up to the wires.
 -- Assumes nothing.
 use native.Mathlib.Omega.{arith}
-use borrow.Author.Rules.{rules}
 use Rattle.tables.proofs.Accept.{accepted_long, wires_of}
 use Rattle.tables.proofs.Answers.{refused_passed, answered_refused, answered_done}
 use Rattle.checking.proofs.check_table.Goals as goal

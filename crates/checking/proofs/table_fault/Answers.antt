@@ -2,7 +2,6 @@
 -- answers.
 -- Assumes nothing.
 use native.Mathlib.Omega.{arith}
-use borrow.Author.Rules.{rules}
 use Rattle.tables.proofs.Accept.{sizes_good}
 use Rattle.tables.proofs.Answers.{refused_same, first_of, second_of}
 use Rattle.checking.proofs.Checks.{table_short, table_sizes, table_long_lem, table_rest}

@@ -1,7 +1,6 @@
 -- `counts::block_end` meets its contract: a block is not empty, ends with the gates, and a byte counts its gates.
 -- Assumes nothing.
 use native.Mathlib.Omega.{arith}
-use borrow.Author.Rules.{rules}
 use Rattle.counts.proofs.block_end.Goals as goal
 
 pub returns-then-gates-from-gt-BLOCK : goal.returns-then-gates-from-gt-BLOCK

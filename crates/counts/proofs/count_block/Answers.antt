@@ -1,12 +1,9 @@
--- `counts::count_block` meets its contract. The loop's invariant: of each of three kinds, the gates before the block and those counted
--- in it make the gates so far; and they stay few.
+-- `counts::count_block` meets its contract.
 -- Assumes nothing.
 use mathlib.Core.Path.{◌≡◌}
-use Prim.Native.Nat.{◌+◌, ◌-◌, ◌≤◌}
+use Prim.Native.Nat.{◌+◌, ◌≤◌}
 use native.Mathlib.Omega.{arith}
-use borrow.Author.Rules.{rules}
-use Rattle.tables.specs.Tables.{table_of}
-use Rattle.counts.proofs.Counting.{gate_inside, Block, block_start, block_turn, block_end, block_small}
+use Rattle.counts.proofs.Counting.{gate_inside, block_start, block_turn, block_end, block_small}
 use Rattle.counts.proofs.count_block.Goals as goal
 
 pub loop-g-init : goal.loop-g-init

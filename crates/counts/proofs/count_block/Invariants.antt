@@ -1,12 +1,9 @@
--- `counts::count_block` meets its contract. The loop's invariant: of each of three kinds, the gates before the block and those counted
--- in it make the gates so far; and they stay few.
+-- The loop's invariant in `counts::count_block`: of each of three kinds, the gates before the block and those counted in it make the gates
+-- so far; and they stay few.
 -- Assumes nothing.
-use mathlib.Core.Path.{◌≡◌}
 use Prim.Native.Nat.{◌+◌, ◌-◌, ◌≤◌}
-use native.Mathlib.Omega.{arith}
-use borrow.Author.Rules.{rules}
 use Rattle.tables.specs.Tables.{table_of}
-use Rattle.counts.proofs.Counting.{gate_inside, Block, block_start, block_turn, block_end, block_small}
+use Rattle.counts.proofs.Counting.{Block}
 use Rattle.counts.proofs.count_block.Given as goal
 
 abbrev pub invariant-loop-g : goal.invariant-loop-g

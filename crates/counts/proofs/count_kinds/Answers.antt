@@ -1,7 +1,6 @@
 -- `counts::count_kinds` meets its contract: where the first three kinds are all gates, there are none of the others.
 -- Assumes nothing.
 use native.Mathlib.Omega.{arith}
-use borrow.Author.Rules.{rules}
 use Rattle.tables.specs.Tables.{table_of}
 use Rattle.tables.proofs.Accept.{gates_are}
 use Rattle.counts.proofs.Counting.{six_counted, three_small, none_further}

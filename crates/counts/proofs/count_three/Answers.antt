@@ -1,13 +1,8 @@
--- `counts::count_three` meets its contract. The loop's invariant: the counts are those of the gates before the next block.
+-- `counts::count_three` meets its contract.
 -- Assumes nothing.
-use mathlib.Core.Path.{◌≡◌}
-use Prim.Native.Nat.{◌-◌, ◌≤◌}
 use native.Mathlib.Omega.{arith}
-use borrow.Author.Rules.{rules}
-use lib.ListN.{take}
 use Rattle.tables.specs.Tables.{table_of}
 use Rattle.tables.proofs.Accept.{gates_are}
-use Rattle.counts.specs.Three.{three_of}
 use Rattle.counts.proofs.Counting.{none_counted, all_counted}
 use Rattle.counts.proofs.count_three.Goals as goal
 
@@ -15,15 +10,14 @@ pub loop-g-init : goal.loop-g-init
 loop-g-init c = (omega arith, none_counted c.args.kind (table_of c.args.table.now).gates)
 
 pub count_block-counts-requires : goal.count_block-counts-requires
-count_block-counts-requires c =
-    (
-      c.requires.0,
-      c.requires.1,
-      c.block_end-next.ensures.0,
-      c.block_end-next.ensures.1,
-      c.block_end-next.ensures.2,
-      c.loop-g.invariant.1,
-    )
+count_block-counts-requires c = (
+  c.requires.0,
+  c.requires.1,
+  c.block_end-next.ensures.0,
+  c.block_end-next.ensures.1,
+  c.block_end-next.ensures.2,
+  c.loop-g.invariant.1,
+)
 
 pub loop-g-smaller : goal.loop-g-smaller
 loop-g-smaller c = omega (arith, c.block_end-next.ensures.0, c.block_end-next.ensures.1)

@@ -1,14 +1,10 @@
--- `counts::count_three` meets its contract. The loop's invariant: the counts are those of the gates before the next block.
+-- The loop's invariant in `counts::count_three`: the counts are those of the gates before the next block.
 -- Assumes nothing.
 use mathlib.Core.Path.{◌≡◌}
 use Prim.Native.Nat.{◌-◌, ◌≤◌}
-use native.Mathlib.Omega.{arith}
-use borrow.Author.Rules.{rules}
 use lib.ListN.{take}
 use Rattle.tables.specs.Tables.{table_of}
-use Rattle.tables.proofs.Accept.{gates_are}
 use Rattle.counts.specs.Three.{three_of}
-use Rattle.counts.proofs.Counting.{none_counted, all_counted}
 use Rattle.counts.proofs.count_three.Given as goal
 
 abbrev pub invariant-loop-g : goal.invariant-loop-g

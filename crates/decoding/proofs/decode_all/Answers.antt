@@ -1,8 +1,7 @@
--- `decoding::decode_all` meets its contract. The loop's invariant: the sums from i on are left to write.
+-- `decoding::decode_all` meets its contract.
 -- Assumes nothing.
-use Prim.Native.Nat.{◌-◌}
 use native.Mathlib.Omega.{arith}
-use Rattle.decoding.proofs.Decoding.{Decoding, decoding_start, decoding_long, decoding_fits, decoding_turn, decoding_end}
+use Rattle.decoding.proofs.Decoding.{decoding_start, decoding_long, decoding_fits, decoding_turn, decoding_end}
 use Rattle.decoding.proofs.decode_all.Goals as goal
 
 pub loop-i-init : goal.loop-i-init

@@ -2,7 +2,6 @@
 -- Assumes nothing.
 use mathlib.Core.Path.{◌≡◌}
 use mathlib.Core.Bool.{true}
-use borrow.Author.Rules.{rules}
 use Rattle.construction.specs.Says.{order_ok, decode_fault}
 use Rattle.tables.proofs.Answers.{refused_same, refused_passed, first_of}
 use Rattle.construction.proofs.Orders.{order_passed}

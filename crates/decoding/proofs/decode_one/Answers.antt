@@ -1,8 +1,7 @@
--- `decoding::decode_one` meets its contract. The loop's invariant: the shares from j on are left to add.
+-- `decoding::decode_one` meets its contract.
 -- Assumes nothing.
-use Prim.Native.Nat.{◌-◌}
 use native.Mathlib.Omega.{arith}
-use Rattle.decoding.proofs.Decoding.{Adding, adding_start, adding_turn, adding_end}
+use Rattle.decoding.proofs.Decoding.{adding_start, adding_turn, adding_end}
 use Rattle.decoding.proofs.decode_one.Goals as goal
 
 pub loop-j-init : goal.loop-j-init

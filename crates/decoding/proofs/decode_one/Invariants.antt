@@ -1,8 +1,7 @@
--- `decoding::decode_one` meets its contract. The loop's invariant: the shares from j on are left to add.
+-- The loop's invariant in `decoding::decode_one`: the shares from j on are left to add.
 -- Assumes nothing.
 use Prim.Native.Nat.{◌-◌}
-use native.Mathlib.Omega.{arith}
-use Rattle.decoding.proofs.Decoding.{Adding, adding_start, adding_turn, adding_end}
+use Rattle.decoding.proofs.Decoding.{Adding}
 use Rattle.decoding.proofs.decode_one.Given as goal
 
 abbrev pub invariant-loop-j : goal.invariant-loop-j

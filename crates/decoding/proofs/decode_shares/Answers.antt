@@ -6,7 +6,6 @@ use native.Mathlib.Nat.{mul-div-le, div-le_self}
 use native.Mathlib.Numerals.{add-one}
 use native.Mathlib.Omega.{arith}
 use lib.ListN.{length}
-use borrow.Author.Rules.{rules}
 use Rattle.tables.proofs.Answers.{refused_passed, writes_refused, writes_done}
 use Rattle.construction.specs.Codes.{decode}
 use Rattle.construction.proofs.Codes.{decode_length}
@@ -19,13 +18,16 @@ returns-then-found-ne0 c =
 
 pub decode_all-requires : goal.decode_all-requires
 decode_all-requires c =
-    let accepted : (let a = c.args in DecodePassed a.order a.shares.now (length a.out.now)) = decode_passed _ _ _ (refused_passed c.decode_fault-found.ensures c.if-found-ne0.false) in
-    let P = accepted in (mul-div-le _ _, rw add-one P.fits, P.bits)
+    let a = c.args in
+    let passed = refused_passed c.decode_fault-found.ensures c.if-found-ne0.false in
+    let accepted : DecodePassed a.order a.shares.now (length a.out.now) = decode_passed _ _ _ passed in
+    (mul-div-le _ _, rw add-one accepted.fits, accepted.bits)
 
 pub overflow_cast-count : goal.overflow_cast-count
 overflow_cast-count c =
-    let accepted : (let a = c.args in DecodePassed a.order a.shares.now (length a.out.now)) = decode_passed _ _ _ (refused_passed c.decode_fault-found.ensures c.if-found-ne0.false) in
     let a = c.args in
+    let passed = refused_passed c.decode_fault-found.ensures c.if-found-ne0.false in
+    let accepted : DecodePassed a.order a.shares.now (length a.out.now) = decode_passed _ _ _ passed in
     omega (arith, accepted.few, div-le_self (length a.shares.now) (2 * a.order + 1))
 
 pub returns : goal.returns

@@ -1,12 +1,12 @@
--- `encoding::encode_all` meets its contract. The loop's invariant: the encoding of the secrets from i on is left to write.
+-- `encoding::encode_all` meets its contract.
 -- Assumes nothing.
 use mathlib.Core.Path.{◌≡◌, refl}
-use Prim.Native.Nat.{◌+◌, ◌-◌, ◌*◌, ◌≤◌, ◌<◌}
+use Prim.Native.Nat.{◌+◌, ◌*◌, ◌≤◌, ◌<◌}
 use native.Mathlib.Omega.{arith}
 use lib.ListN.{length}
 use Rattle.tables.specs.Packing.{unpacked, tape_of}
 use Rattle.tables.proofs.Packing.{unpacked_length, tape_long_lem}
-use Rattle.encoding.proofs.Encoding.{Encoding, encoding_start, encoding_long, encoding_fits, encoding_turn}
+use Rattle.encoding.proofs.Encoding.{encoding_start, encoding_long, encoding_fits, encoding_turn}
 use Rattle.encoding.proofs.Encoding.{encoding_end}
 use Rattle.encoding.proofs.encode_all.Goals as goal
 
@@ -15,8 +15,9 @@ overflow_mul-bits c = omega arith
 
 pub loop-i-init : goal.loop-i-init
 loop-i-init c =
-    let bits_due : length (tape_of (2 * c.args.order * length c.args.secrets.now) c.args.tape.now)
-    ≡ 2 * c.args.order * length c.args.secrets.now = tape_long_lem _ c.args.tape.now c.requires.1 in
+    let a = c.args in
+    let bits_due : length (tape_of (2 * a.order * length a.secrets.now) a.tape.now) ≡ 2 * a.order * length a.secrets.now =
+    tape_long_lem _ a.tape.now c.requires.1 in
     encoding_start _ _ _ _ bits_due c.requires.2
 
 pub secret_bit-secret-requires : goal.secret_bit-secret-requires
@@ -24,29 +25,30 @@ secret_bit-secret-requires c = omega arith
 
 pub encode_one-requires : goal.encode_one-requires
 encode_one-requires c =
-    let bits_due : length (tape_of (2 * c.args.order * length c.args.secrets.now) c.args.tape.now)
-    ≡ 2 * c.args.order * length c.args.secrets.now = tape_long_lem _ c.args.tape.now c.requires.1 in
-    let fits : (let a = c.args in
-    (c.loop-i.from + 2 * a.order ≤ 2 * a.order * length a.secrets.now)
-    × (c.loop-i.at + 2 * a.order < length c.loop-i.out)) = (let room = encoding_fits c.loop-i.invariant c.loop-i-test.true refl in
-    (omega (arith, room.0, bits_due), room.1)) in
-    let p = c.requires in
-    let room = fits in (
-      omega (arith, room.0, p.1, unpacked_length c.args.tape.now),
-      room.1,
-      c.loop-i.invariant.later,
+    let a = c.args in
+    let l = c.loop-i in
+    let bits_due : length (tape_of (2 * a.order * length a.secrets.now) a.tape.now) ≡ 2 * a.order * length a.secrets.now =
+    tape_long_lem _ a.tape.now c.requires.1 in
+    let room = encoding_fits l.invariant c.loop-i-test.true refl in
+    let fits : (l.from + 2 * a.order ≤ 2 * a.order * length a.secrets.now) × (l.at + 2 * a.order < length l.out) =
+    (omega (arith, room.0, bits_due), room.1) in
+    let p = c.requires in (
+      omega (arith, fits.0, p.1, unpacked_length a.tape.now),
+      fits.1,
+      l.invariant.later,
       p.0,
       rw c.secret_bit-secret.ensures (p.3 _),
     )
 
 pub overflow_add-from : goal.overflow_add-from
 overflow_add-from c =
-    let bits_due : length (tape_of (2 * c.args.order * length c.args.secrets.now) c.args.tape.now)
-    ≡ 2 * c.args.order * length c.args.secrets.now = tape_long_lem _ c.args.tape.now c.requires.1 in
-    let fits : (let a = c.args in
-    (c.loop-i.from + 2 * a.order ≤ 2 * a.order * length a.secrets.now)
-    × (c.loop-i.at + 2 * a.order < length c.loop-i.out)) = (let room = encoding_fits c.loop-i.invariant c.loop-i-test.true refl in
-    (omega (arith, room.0, bits_due), room.1)) in
+    let a = c.args in
+    let l = c.loop-i in
+    let bits_due : length (tape_of (2 * a.order * length a.secrets.now) a.tape.now) ≡ 2 * a.order * length a.secrets.now =
+    tape_long_lem _ a.tape.now c.requires.1 in
+    let room = encoding_fits l.invariant c.loop-i-test.true refl in
+    let fits : (l.from + 2 * a.order ≤ 2 * a.order * length a.secrets.now) × (l.at + 2 * a.order < length l.out) =
+    (omega (arith, room.0, bits_due), room.1) in
     omega (arith, fits.1, c.loop-i.invariant.later, bits_due)
 
 pub overflow_add-at : goal.overflow_add-at
@@ -54,12 +56,13 @@ overflow_add-at c = omega arith
 
 pub overflow_add-at-in-loop-i : goal.overflow_add-at-in-loop-i
 overflow_add-at-in-loop-i c =
-    let bits_due : length (tape_of (2 * c.args.order * length c.args.secrets.now) c.args.tape.now)
-    ≡ 2 * c.args.order * length c.args.secrets.now = tape_long_lem _ c.args.tape.now c.requires.1 in
-    let fits : (let a = c.args in
-    (c.loop-i.from + 2 * a.order ≤ 2 * a.order * length a.secrets.now)
-    × (c.loop-i.at + 2 * a.order < length c.loop-i.out)) = (let room = encoding_fits c.loop-i.invariant c.loop-i-test.true refl in
-    (omega (arith, room.0, bits_due), room.1)) in
+    let a = c.args in
+    let l = c.loop-i in
+    let bits_due : length (tape_of (2 * a.order * length a.secrets.now) a.tape.now) ≡ 2 * a.order * length a.secrets.now =
+    tape_long_lem _ a.tape.now c.requires.1 in
+    let room = encoding_fits l.invariant c.loop-i-test.true refl in
+    let fits : (l.from + 2 * a.order ≤ 2 * a.order * length a.secrets.now) × (l.at + 2 * a.order < length l.out) =
+    (omega (arith, room.0, bits_due), room.1) in
     omega (arith, fits, encoding_long c.loop-i.invariant bits_due c.requires.2)
 
 pub overflow_add-i : goal.overflow_add-i
@@ -71,8 +74,9 @@ loop-i-smaller c = omega arith
 pub loop-i-preserved : goal.loop-i-preserved
 unfolding tape_of
 loop-i-preserved c =
-    let bits_due : length (tape_of (2 * c.args.order * length c.args.secrets.now) c.args.tape.now)
-    ≡ 2 * c.args.order * length c.args.secrets.now = tape_long_lem _ c.args.tape.now c.requires.1 in
+    let a = c.args in
+    let bits_due : length (tape_of (2 * a.order * length a.secrets.now) a.tape.now) ≡ 2 * a.order * length a.secrets.now =
+    tape_long_lem _ a.tape.now c.requires.1 in
     encoding_turn c.loop-i.invariant c.loop-i-test.true c.secret_bit-secret.ensures
     (unpacked c.args.tape.now)
     refl
@@ -81,8 +85,9 @@ loop-i-preserved c =
 
 pub shape_of-out : goal.shape_of-out
 shape_of-out c =
-    let bits_due : length (tape_of (2 * c.args.order * length c.args.secrets.now) c.args.tape.now)
-    ≡ 2 * c.args.order * length c.args.secrets.now = tape_long_lem _ c.args.tape.now c.requires.1 in
+    let a = c.args in
+    let bits_due : length (tape_of (2 * a.order * length a.secrets.now) a.tape.now) ≡ 2 * a.order * length a.secrets.now =
+    tape_long_lem _ a.tape.now c.requires.1 in
     encoding_long c.loop-i.invariant bits_due c.requires.2
 
 pub returns : goal.returns

@@ -1,13 +1,9 @@
--- `encoding::encode_all` meets its contract. The loop's invariant: the encoding of the secrets from i on is left to write.
+-- The loop's invariant in `encoding::encode_all`: the encoding of the secrets from i on is left to write.
 -- Assumes nothing.
-use mathlib.Core.Path.{◌≡◌, refl}
-use Prim.Native.Nat.{◌+◌, ◌-◌, ◌*◌, ◌≤◌, ◌<◌}
-use native.Mathlib.Omega.{arith}
+use Prim.Native.Nat.{◌-◌, ◌*◌}
 use lib.ListN.{length}
-use Rattle.tables.specs.Packing.{unpacked, tape_of}
-use Rattle.tables.proofs.Packing.{unpacked_length, tape_long_lem}
-use Rattle.encoding.proofs.Encoding.{Encoding, encoding_start, encoding_long, encoding_fits, encoding_turn}
-use Rattle.encoding.proofs.Encoding.{encoding_end}
+use Rattle.tables.specs.Packing.{tape_of}
+use Rattle.encoding.proofs.Encoding.{Encoding}
 use Rattle.encoding.proofs.encode_all.Given as goal
 
 abbrev pub invariant-loop-i : goal.invariant-loop-i

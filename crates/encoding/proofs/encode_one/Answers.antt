@@ -1,10 +1,8 @@
--- `encoding::encode_one` meets its contract. The loop's invariant: the rest of the secret's shares is left to write.
+-- `encoding::encode_one` meets its contract.
 -- Assumes nothing.
-use Prim.Native.Nat.{◌*◌, ◌-◌}
 use native.Mathlib.Omega.{arith}
 use lib.ListN.{length-set}
-use Rattle.tables.specs.Packing.{unpacked}
-use Rattle.encoding.proofs.Encoding.{Copying, copying_start, copying_turn, copying_end}
+use Rattle.encoding.proofs.Encoding.{copying_start, copying_turn, copying_end}
 use Rattle.encoding.proofs.encode_one.Goals as goal
 
 pub overflow_mul-bits : goal.overflow_mul-bits

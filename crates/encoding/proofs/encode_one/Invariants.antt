@@ -1,10 +1,8 @@
--- `encoding::encode_one` meets its contract. The loop's invariant: the rest of the secret's shares is left to write.
+-- The loop's invariant in `encoding::encode_one`: the rest of the secret's shares is left to write.
 -- Assumes nothing.
 use Prim.Native.Nat.{◌*◌, ◌-◌}
-use native.Mathlib.Omega.{arith}
-use lib.ListN.{length-set}
 use Rattle.tables.specs.Packing.{unpacked}
-use Rattle.encoding.proofs.Encoding.{Copying, copying_start, copying_turn, copying_end}
+use Rattle.encoding.proofs.Encoding.{Copying}
 use Rattle.encoding.proofs.encode_one.Given as goal
 
 abbrev pub invariant-loop-s : goal.invariant-loop-s

@@ -3,7 +3,6 @@
 use Prim.Native.Nat.{◌*◌}
 use native.Mathlib.Omega.{arith}
 use lib.ListN.{length}
-use borrow.Author.Rules.{rules}
 use Rattle.tables.specs.Packing.{tape_of}
 use Rattle.tables.proofs.Packing.{tape_long_lem}
 use Rattle.tables.proofs.Answers.{refused_passed, writes_refused, writes_done}
@@ -18,27 +17,30 @@ returns-then-found-ne0 c =
 
 pub encode_all-requires : goal.encode_all-requires
 encode_all-requires c =
-    let accepted : (let a = c.args in
-    EncodePassed a.order a.secrets.now a.tape.now (length a.out.now)) = encode_passed _ _ _ _ (refused_passed c.encode_fault-found.ensures c.if-found-ne0.false) in
-    let P = accepted in (P.order.1, omega (arith, P.long), P.fits, P.secrets)
+    let a = c.args in
+    let passed = refused_passed c.encode_fault-found.ensures c.if-found-ne0.false in
+    let accepted : EncodePassed a.order a.secrets.now a.tape.now (length a.out.now) = encode_passed _ _ _ _ passed in
+    (accepted.order.1, omega (arith, accepted.long), accepted.fits, accepted.secrets)
 
 pub overflow_mul-t-2 : goal.overflow_mul-t-2
 overflow_mul-t-2 c =
-    let accepted : (let a = c.args in
-    EncodePassed a.order a.secrets.now a.tape.now (length a.out.now)) = encode_passed _ _ _ _ (refused_passed c.encode_fault-found.ensures c.if-found-ne0.false) in
+    let a = c.args in
+    let passed = refused_passed c.encode_fault-found.ensures c.if-found-ne0.false in
+    let accepted : EncodePassed a.order a.secrets.now a.tape.now (length a.out.now) = encode_passed _ _ _ _ passed in
     omega (arith, accepted.few)
 
 pub overflow_cast-t-2 : goal.overflow_cast-t-2
 overflow_cast-t-2 c =
-    let accepted : (let a = c.args in
-    EncodePassed a.order a.secrets.now a.tape.now (length a.out.now)) = encode_passed _ _ _ _ (refused_passed c.encode_fault-found.ensures c.if-found-ne0.false) in
+    let a = c.args in
+    let passed = refused_passed c.encode_fault-found.ensures c.if-found-ne0.false in
+    let accepted : EncodePassed a.order a.secrets.now a.tape.now (length a.out.now) = encode_passed _ _ _ _ passed in
     omega (arith, accepted.few)
 
 pub returns : goal.returns
 returns c =
-    let accepted : (let a = c.args in
-    EncodePassed a.order a.secrets.now a.tape.now (length a.out.now)) = encode_passed _ _ _ _ (refused_passed c.encode_fault-found.ensures c.if-found-ne0.false) in
     let a = c.args in
+    let passed = refused_passed c.encode_fault-found.ensures c.if-found-ne0.false in
+    let accepted : EncodePassed a.order a.secrets.now a.tape.now (length a.out.now) = encode_passed _ _ _ _ passed in
     let due = 2 * a.order * length a.secrets.now in
     let tape = tape_of due a.tape.now in
     let long = encode_length a.order a.secrets.now tape (tape_long_lem due a.tape.now (omega (arith, accepted.long))) in

@@ -1,6 +1,5 @@
 -- `fields::gate_at` meets its contract: the fields stand where the format has them.
 -- Assumes nothing.
-use borrow.Author.Rules.{rules}
 use Rattle.fields.proofs.Fields.{gate_read}
 use Rattle.fields.proofs.gate_at.Goals as goal
 

@@ -1,7 +1,6 @@
 -- `fields::output_at` meets its contract: the outputs stand after the gates.
 -- Assumes nothing.
 use mathlib.Core.Path.{sym, ◌∙◌}
-use borrow.Author.Rules.{rules}
 use Rattle.fields.proofs.Fields.{output_is}
 use Rattle.fields.proofs.output_at.Goals as goal
 

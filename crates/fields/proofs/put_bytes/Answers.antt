@@ -1,14 +1,11 @@
--- `fields::put_bytes` meets its contract. The loop's invariant: the bytes from i on are left to write.
+-- `fields::put_bytes` meets its contract.
 -- Assumes nothing.
-use borrow.Author.Rules.{rules}
 use mathlib.Core.Path.{◌∙◌}
-use Prim.Native.Nat.{◌+◌, ◌-◌}
 use native.Mathlib.Nat.{add-zero, add-suc}
 use native.Mathlib.Numerals.{add-one}
-use lib.ListN.{length, drop, drop_of_length-le}
+use lib.ListN.{drop_of_length-le}
 use lib.Seq.{drop-cons}
-use Rattle.tables.specs.Inside.{put_at}
-use Rattle.tables.proofs.Put.{Writing, writing_start, writing_inside, writing_byte, writing_end, writing_long, put_length}
+use Rattle.tables.proofs.Put.{writing_start, writing_inside, writing_byte, writing_end, writing_long, put_length}
 use Rattle.fields.proofs.put_bytes.Goals as goal
 
 pub loop-i-init : goal.loop-i-init

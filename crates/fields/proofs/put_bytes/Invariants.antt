@@ -1,14 +1,9 @@
--- `fields::put_bytes` meets its contract. The loop's invariant: the bytes from i on are left to write.
+-- The loop's invariant in `fields::put_bytes`: the bytes from i on are left to write.
 -- Assumes nothing.
-use borrow.Author.Rules.{rules}
-use mathlib.Core.Path.{◌∙◌}
 use Prim.Native.Nat.{◌+◌, ◌-◌}
-use native.Mathlib.Nat.{add-zero, add-suc}
-use native.Mathlib.Numerals.{add-one}
-use lib.ListN.{length, drop, drop_of_length-le}
-use lib.Seq.{drop-cons}
+use lib.ListN.{length, drop}
 use Rattle.tables.specs.Inside.{put_at}
-use Rattle.tables.proofs.Put.{Writing, writing_start, writing_inside, writing_byte, writing_end, writing_long, put_length}
+use Rattle.tables.proofs.Put.{Writing}
 use Rattle.fields.proofs.put_bytes.Given as goal
 
 abbrev pub invariant-loop-i : goal.invariant-loop-i

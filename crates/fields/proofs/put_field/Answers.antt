@@ -1,6 +1,5 @@
 -- `fields::put_field` meets its contract: two stores put the two bytes.
 -- Assumes nothing.
-use borrow.Author.Rules.{rules}
 use Rattle.tables.proofs.Put.{put_two}
 use Rattle.fields.proofs.put_field.Goals as goal
 

@@ -6,7 +6,6 @@ use lib.ListN.{length}
 use lib.Seq.{length-take-le}
 use Rattle.text.proofs.Writing.{puts_as, put_elsewhere}
 use Rattle.forecasting.proofs.Line.{line_fits}
-use borrow.Author.Rules.{rules}
 use Rattle.forecasting.proofs.forecast_line.Goals as goal
 
 pub put_line-long-requires : goal.put_line-long-requires

@@ -3,7 +3,6 @@
 use Rattle.construction.specs.declared.And.TheVariants.{Isw}
 use Rattle.planning.proofs.Planning.{planned_as, planned_ready, plan_fits}
 use Rattle.forecasting.proofs.Forecast.{forecast_refused, forecast_ready}
-use borrow.Author.Rules.{rules}
 use Rattle.forecasting.proofs.forecast_sizes.Goals as goal
 
 pub returns-in-Refused : goal.returns-in-Refused

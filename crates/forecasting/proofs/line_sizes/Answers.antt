@@ -1,6 +1,5 @@
 -- `forecasting::line_sizes` meets its contract.
 -- Assumes nothing.
-use borrow.Author.Rules.{rules}
 use Rattle.forecasting.proofs.Line.{line_long, line_empty, line_part}
 use Rattle.forecasting.proofs.line_sizes.Goals as goal
 

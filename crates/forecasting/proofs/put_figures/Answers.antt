@@ -7,7 +7,6 @@ use lib.ListN.{length-append}
 use Rattle.text.specs.Text.{decimal, line_of}
 use Rattle.text.proofs.Writing.{next_room, puts_then}
 use Rattle.construction.specs.declared.Sizes as DSizes
-use borrow.Author.Rules.{rules}
 use Rattle.forecasting.proofs.put_figures.Goals as goal
 
 -- what follows the second number, and the first

@@ -5,7 +5,6 @@ use native.Mathlib.Omega.{arith}
 use lib.ListN.{length}
 use Rattle.text.proofs.Writing.{puts_as}
 use Rattle.forecasting.proofs.Line.{refused_line, figures_line_lem}
-use borrow.Author.Rules.{rules}
 use Rattle.forecasting.proofs.put_line.Goals as goal
 
 pub put_refusal-requires : goal.put_refusal-requires

@@ -3,7 +3,6 @@
 use mathlib.Core.Path.{ap}
 use Prim.Native.Nat.{ℕ, ◌+◌, ◌*◌}
 use native.Mathlib.Omega.{arith}
-use borrow.Author.Rules.{rules}
 use Rattle.gate_costs.proofs.Figures.{square_small, tri_small}
 use Rattle.gate_costs.proofs.and_cost.Goals as goal
 

@@ -2,7 +2,6 @@
 -- Assumes nothing.
 use mathlib.Core.Path.{sym}
 use native.Mathlib.Omega.{arith}
-use borrow.Author.Rules.{rules}
 use Rattle.gate_costs.proofs.Figures.{square_small, tri_small, share_costs}
 use Rattle.gate_costs.proofs.gate_cost.Goals as goal
 

@@ -1,7 +1,6 @@
 -- `gate_costs::gate_draws` meets its contract: only an AND and an OR draw, a bit for each pair.
 -- Assumes nothing.
 use mathlib.Core.Path.{sym, ◌∙◌}
-use borrow.Author.Rules.{rules}
 use Rattle.gate_costs.proofs.Figures.{draws_are}
 use Rattle.gate_costs.proofs.gate_draws.Goals as goal
 

@@ -1,9 +1,8 @@
--- `gate_costs::note_costs` meets its contract. The invariant: the costs of the kinds so far are noted.
+-- `gate_costs::note_costs` meets its contract.
 -- Assumes nothing.
-use Prim.Native.Nat.{◌-◌, ◌≤◌}
 use native.Mathlib.Omega.{arith}
 use Rattle.tables.specs.Tables.{kind_of}
-use Rattle.gate_costs.proofs.Figures.{cost_small, CostsTo, costs_next}
+use Rattle.gate_costs.proofs.Figures.{cost_small, costs_next}
 use Rattle.gate_costs.proofs.note_costs.Goals as goal
 
 pub loop-kind-init : goal.loop-kind-init

@@ -1,9 +1,7 @@
--- `gate_costs::note_costs` meets its contract. The invariant: the costs of the kinds so far are noted.
+-- The loop's invariant in `gate_costs::note_costs`: the costs of the kinds so far are noted.
 -- Assumes nothing.
 use Prim.Native.Nat.{◌-◌, ◌≤◌}
-use native.Mathlib.Omega.{arith}
-use Rattle.tables.specs.Tables.{kind_of}
-use Rattle.gate_costs.proofs.Figures.{cost_small, CostsTo, costs_next}
+use Rattle.gate_costs.proofs.Figures.{CostsTo}
 use Rattle.gate_costs.proofs.note_costs.Given as goal
 
 abbrev pub invariant-loop-kind : goal.invariant-loop-kind

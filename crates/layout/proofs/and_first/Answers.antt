@@ -2,7 +2,6 @@
 -- Assumes nothing.
 use Prim.Native.Nat.{ℕ, ◌+◌, ◌-◌, ◌*◌}
 use native.Mathlib.Omega.{arith}
-use borrow.Author.Rules.{rules}
 use Rattle.construction.specs.Shares.{tri}
 use Rattle.construction.proofs.Sum.{up_at}
 use Rattle.gate_costs.proofs.Figures.{tri_small}

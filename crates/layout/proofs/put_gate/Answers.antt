@@ -2,7 +2,6 @@
 -- Assumes nothing.
 use mathlib.Core.Path.{refl}
 use native.Mathlib.Omega.{arith}
-use borrow.Author.Rules.{rules}
 use Rattle.tables.specs.Tables.{two}
 use Rattle.tables.proofs.Put.{put_then}
 use Rattle.layout.proofs.put_gate.Goals as goal

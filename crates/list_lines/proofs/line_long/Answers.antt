@@ -4,7 +4,6 @@ use mathlib.Core.Path.{◌∙◌}
 use native.Mathlib.Nat.{zero-add}
 use native.Mathlib.Omega.{arith}
 use Rattle.list_lines.proofs.Lines.{line_short}
-use borrow.Author.Rules.{rules}
 use Rattle.list_lines.proofs.line_long.Goals as goal
 
 pub put_line-requires : goal.put_line-requires

@@ -7,7 +7,6 @@ use Rattle.tables.specs.Tables.{kind_of}
 use Rattle.text.specs.Text.{decimal, line_of}
 use Rattle.text.proofs.Writing.{next_room, puts_then}
 use Rattle.list_lines.specs.Lines.{equals_word, kind_words}
-use borrow.Author.Rules.{rules}
 use Rattle.list_lines.proofs.put_gate.Goals as goal
 
 pub put_number-next-requires : goal.put_number-next-requires
@@ -22,12 +21,11 @@ put_number-next-requires c =
 
 pub put_kind-requires : goal.put_kind-requires
 unfolding line_of
-put_kind-requires c =
-    (
-      c.requires.0,
-      next_room (32 ∷ line_of equals_word (kind_words (kind_of c.args.kind) c.args.left c.args.right))
-          c.requires.1 c.put_number-next.ensures,
-    )
+put_kind-requires c = (
+  c.requires.0,
+  next_room (32 ∷ line_of equals_word (kind_words (kind_of c.args.kind) c.args.left c.args.right))
+      c.requires.1 c.put_number-next.ensures,
+)
 
 pub returns : goal.returns
 unfolding line_of

@@ -1,16 +1,10 @@
 -- `list_lines::put_kind` meets its contract, a case for each kind; a table that passed has no other.
 -- Assumes nothing.
-use mathlib.Core.Path.{◌≡◌, ap}
-use mathlib.Core.List.{List, ◌∷◌}
-use Prim.Native.Nat.{ℕ, ◌+◌, ◌≤◌}
+use mathlib.Core.Path.{ap}
 use native.Mathlib.Omega.{arith}
 use lib.ListN.{length}
-use Rattle.tables.specs.Tables.{kind_of}
-use Rattle.text.specs.Text.{line_of}
 use Rattle.text.proofs.Writing.{puts_as}
-use Rattle.list_lines.specs.Lines.{equals_word, kind_words}
 use Rattle.list_lines.proofs.Lines.{not_line, xor_line_lem, and_line_lem, random_line_lem, constant_line_lem, or_line_lem}
-use borrow.Author.Rules.{rules}
 use Rattle.list_lines.proofs.put_kind.Goals as goal
 
 pub put_last-requires : goal.put_last-requires

@@ -7,7 +7,6 @@ use Rattle.tables.proofs.Accept.{accepted_long}
 use Rattle.text.specs.Text.{line_of}
 use Rattle.text.proofs.Writing.{puts_as}
 use Rattle.list_lines.proofs.Numbered.{first_line, later_line}
-use borrow.Author.Rules.{rules}
 use Rattle.list_lines.proofs.put_line.Goals as goal
 
 pub field-inputs-requires : goal.field-inputs-requires

@@ -2,7 +2,6 @@
 -- Assumes nothing.
 use native.Mathlib.Omega.{arith}
 use Rattle.text.specs.Text.{line_of}
-use borrow.Author.Rules.{rules}
 use Rattle.list_lines.proofs.put_output.Goals as goal
 
 pub put_two-requires : goal.put_two-requires

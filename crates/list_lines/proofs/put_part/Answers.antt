@@ -6,7 +6,6 @@ use lib.ListN.{length}
 use Rattle.tables.proofs.Accept.{accepted_long, has_gates, has_outputs}
 use Rattle.text.proofs.Writing.{puts_as}
 use Rattle.list_lines.proofs.Numbered.{line_known, gate_line_lem, line_output, output_line_lem}
-use borrow.Author.Rules.{rules}
 use Rattle.list_lines.proofs.put_part.Goals as goal
 
 pub field-gates-requires : goal.field-gates-requires

@@ -1,12 +1,8 @@
--- `listing::lines_long` meets its contract: the lines from number j on are left.
+-- `listing::lines_long` meets its contract.
 -- Assumes nothing.
-use Prim.Native.Nat.{◌-◌}
 use native.Mathlib.Omega.{arith}
-use Rattle.tables.specs.Tables.{table_of}
-use Rattle.list_lines.specs.Lines.{table_lines}
 use Rattle.listing.proofs.TableText.{lines_short}
-use Rattle.listing.proofs.Loops.{Left, left_start, left_most, left_turn, left_end}
-use borrow.Author.Rules.{rules}
+use Rattle.listing.proofs.Loops.{left_start, left_most, left_turn, left_end}
 use Rattle.listing.proofs.lines_long.Goals as goal
 
 pub loop-j-init : goal.loop-j-init

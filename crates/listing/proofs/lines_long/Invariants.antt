@@ -1,12 +1,9 @@
--- `listing::lines_long` meets its contract: the lines from number j on are left.
+-- The loop's invariant in `listing::lines_long`: the lines from number j on are left.
 -- Assumes nothing.
 use Prim.Native.Nat.{◌-◌}
-use native.Mathlib.Omega.{arith}
 use Rattle.tables.specs.Tables.{table_of}
 use Rattle.list_lines.specs.Lines.{table_lines}
-use Rattle.listing.proofs.TableText.{lines_short}
-use Rattle.listing.proofs.Loops.{Left, left_start, left_most, left_turn, left_end}
-use borrow.Author.Rules.{rules}
+use Rattle.listing.proofs.Loops.{Left}
 use Rattle.listing.proofs.lines_long.Given as goal
 
 abbrev pub invariant-loop-j : goal.invariant-loop-j

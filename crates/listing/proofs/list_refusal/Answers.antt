@@ -4,7 +4,6 @@ use mathlib.Core.Path.{sym}
 use native.Mathlib.Omega.{arith}
 use lib.Seq.{length-take-le}
 use Rattle.text.proofs.Writing.{put_elsewhere, refusal_long}
-use borrow.Author.Rules.{rules}
 use Rattle.listing.proofs.list_refusal.Goals as goal
 
 pub put_refusal-long-requires : goal.put_refusal-long-requires

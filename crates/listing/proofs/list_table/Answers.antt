@@ -3,7 +3,6 @@
 use native.Mathlib.Omega.{arith}
 use Rattle.text.proofs.Writing.{all_short, all_put}
 use Rattle.listing.proofs.TableText.{list_refused, list_six, list_sizes, list_lines}
-use borrow.Author.Rules.{rules}
 use Rattle.listing.proofs.list_table.Goals as goal
 
 pub returns-then-found-ne0 : goal.returns-then-found-ne0

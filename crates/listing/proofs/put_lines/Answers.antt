@@ -1,11 +1,7 @@
--- `listing::put_lines` meets its contract: the lines from number j on are left.
+-- `listing::put_lines` meets its contract.
 -- Assumes nothing.
-use Prim.Native.Nat.{◌-◌}
 use native.Mathlib.Omega.{arith}
-use Rattle.tables.specs.Tables.{table_of}
-use Rattle.list_lines.specs.Lines.{table_lines}
-use Rattle.listing.proofs.Loops.{Putting, left_most, putting_start, putting_long, putting_turn, putting_end}
-use borrow.Author.Rules.{rules}
+use Rattle.listing.proofs.Loops.{left_most, putting_start, putting_long, putting_turn, putting_end}
 use Rattle.listing.proofs.put_lines.Goals as goal
 
 pub loop-j-init : goal.loop-j-init

@@ -4,7 +4,6 @@ use mathlib.Core.Path.{refl, sym}
 use native.Mathlib.Numerals.{add-one}
 use native.Mathlib.Omega.{arith}
 use lib.Seq.{length-take-le}
-use borrow.Author.Rules.{rules}
 use Rattle.map_inputs.proofs.Beginning.{encode_first, inputs_ready, shares_fit, shares_ready, begun_says}
 use Rattle.map_inputs.proofs.begin_runs.Goals as goal
 

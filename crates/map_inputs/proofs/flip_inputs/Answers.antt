@@ -1,12 +1,9 @@
--- `map_inputs::flip_inputs` meets its contract. The loop's invariant: the bits of the inputs from i on are left to flip.
+-- `map_inputs::flip_inputs` meets its contract.
 -- Assumes nothing.
 use mathlib.Core.Path.{refl}
-use Prim.Native.Nat.{◌-◌, ◌*◌}
 use native.Mathlib.Omega.{arith}
-use lib.ListN.{length}
-use Rattle.tables.specs.Packing.{unpacked}
 use Rattle.tables.proofs.Packing.{bytes_long}
-use Rattle.map_inputs.proofs.Flipping.{FlippingEach, each_start, each_fits, each_turn, each_end, each_none}
+use Rattle.map_inputs.proofs.Flipping.{each_start, each_fits, each_turn, each_end, each_none}
 use Rattle.map_inputs.proofs.flip_inputs.Goals as goal
 
 pub overflow_mul-bits : goal.overflow_mul-bits

@@ -1,10 +1,10 @@
--- `map_inputs::flip_shares` meets its contract. The loop's invariant: the shares of the inputs from i on are left to flip.
+-- `map_inputs::flip_shares` meets its contract.
 -- Assumes nothing.
 use mathlib.Core.Path.{refl}
-use Prim.Native.Nat.{◌+◌, ◌-◌, ◌*◌, ◌<◌}
+use Prim.Native.Nat.{◌+◌, ◌*◌, ◌<◌}
 use native.Mathlib.Omega.{arith}
 use lib.ListN.{length}
-use Rattle.map_inputs.proofs.Flipping.{FlippingEach, each_start, each_fits, each_bit, each_turn, each_end}
+use Rattle.map_inputs.proofs.Flipping.{each_start, each_fits, each_bit, each_turn, each_end}
 use Rattle.map_inputs.proofs.flip_shares.Goals as goal
 
 pub overflow_sub-at : goal.overflow_sub-at
@@ -21,9 +21,10 @@ secret_bit-y-requires c = omega (arith, c.loop-i-test.true, c.requires.1.second)
 
 pub bounds-run-at : goal.bounds-run-at
 bounds-run-at c =
-    let fits : (let a = c.args in
+    let a = c.args in
     let l = c.loop-i in
-    (l.at < a.shares * length a.first.now) × (l.at < length l.run) × (l.at + a.shares < 4294967296)) = each_fits c.requires.1 c.loop-i.invariant c.requires.0 c.loop-i-test.true in
+    let fits : (l.at < a.shares * length a.first.now) × (l.at < length l.run) × (l.at + a.shares < 4294967296) =
+    each_fits c.requires.1 l.invariant c.requires.0 c.loop-i-test.true in
     fits.1
 
 pub overflow_add-run : goal.overflow_add-run
@@ -38,16 +39,18 @@ overflow_add-run-in-loop-i c =
 
 pub bounds-run-at-in-loop-i : goal.bounds-run-at-in-loop-i
 bounds-run-at-in-loop-i c =
-    let fits : (let a = c.args in
+    let a = c.args in
     let l = c.loop-i in
-    (l.at < a.shares * length a.first.now) × (l.at < length l.run) × (l.at + a.shares < 4294967296)) = each_fits c.requires.1 c.loop-i.invariant c.requires.0 c.loop-i-test.true in
+    let fits : (l.at < a.shares * length a.first.now) × (l.at < length l.run) × (l.at + a.shares < 4294967296) =
+    each_fits c.requires.1 l.invariant c.requires.0 c.loop-i-test.true in
     fits.1
 
 pub overflow_add-at : goal.overflow_add-at
 overflow_add-at c =
-    let fits : (let a = c.args in
+    let a = c.args in
     let l = c.loop-i in
-    (l.at < a.shares * length a.first.now) × (l.at < length l.run) × (l.at + a.shares < 4294967296)) = each_fits c.requires.1 c.loop-i.invariant c.requires.0 c.loop-i-test.true in
+    let fits : (l.at < a.shares * length a.first.now) × (l.at < length l.run) × (l.at + a.shares < 4294967296) =
+    each_fits c.requires.1 l.invariant c.requires.0 c.loop-i-test.true in
     omega (arith, fits.2)
 
 pub overflow_add-i : goal.overflow_add-i

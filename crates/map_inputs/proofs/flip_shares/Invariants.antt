@@ -1,10 +1,8 @@
--- `map_inputs::flip_shares` meets its contract. The loop's invariant: the shares of the inputs from i on are left to flip.
+-- The loop's invariant in `map_inputs::flip_shares`: the shares of the inputs from i on are left to flip.
 -- Assumes nothing.
-use mathlib.Core.Path.{refl}
-use Prim.Native.Nat.{◌+◌, ◌-◌, ◌*◌, ◌<◌}
-use native.Mathlib.Omega.{arith}
+use Prim.Native.Nat.{◌-◌}
 use lib.ListN.{length}
-use Rattle.map_inputs.proofs.Flipping.{FlippingEach, each_start, each_fits, each_bit, each_turn, each_end}
+use Rattle.map_inputs.proofs.Flipping.{FlippingEach}
 use Rattle.map_inputs.proofs.flip_shares.Given as goal
 
 abbrev pub invariant-loop-i : goal.invariant-loop-i

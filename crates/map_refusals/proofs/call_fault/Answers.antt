@@ -1,6 +1,5 @@
 -- `map_refusals::call_fault` meets its contract: of the three parts of the chain, the first that refuses.
 -- Assumes nothing.
-use borrow.Author.Rules.{rules}
 use Rattle.map_refusals.proofs.call_fault.Goals as goal
 
 pub supply_fault-supplied-requires : goal.supply_fault-supplied-requires

@@ -3,7 +3,6 @@
 use Rattle.construction.specs.declared.And.TheVariants.{Isw}
 use Rattle.map_refusals.proofs.Faults.{plan_small, map_plan_refused, map_call_refused, map_call_ready}
 use Rattle.planning.proofs.Planning.{planned_ready}
-use borrow.Author.Rules.{rules}
 use Rattle.map_refusals.proofs.map_fault.Goals as goal
 
 pub call_fault-found-requires : goal.call_fault-found-requires

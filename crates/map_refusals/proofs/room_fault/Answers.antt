@@ -5,7 +5,6 @@ use native.Mathlib.Omega.{arith}
 use Rattle.tables.specs.Packing.{bytes_for}
 use Rattle.tables.proofs.Answers.{refused_same}
 use Rattle.map_refusals.proofs.Faults.{tape_short, one_short, other_short, room_enough}
-use borrow.Author.Rules.{rules}
 use Rattle.map_refusals.proofs.room_fault.Goals as goal
 
 pub returns-then-mapped-bytes_for : goal.returns-then-mapped-bytes_for

@@ -4,7 +4,6 @@ use mathlib.Core.Path.{◌∙◌}
 use native.Mathlib.Omega.{arith}
 use Rattle.tables.proofs.Answers.{refused_same}
 use Rattle.map_refusals.proofs.Faults.{first_wrong, second_wrong, tape_wrong, counts_right}
-use borrow.Author.Rules.{rules}
 use Rattle.map_refusals.proofs.supply_fault.Goals as goal
 
 pub returns-then-first-p : goal.returns-then-first-p

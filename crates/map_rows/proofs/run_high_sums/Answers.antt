@@ -1,13 +1,12 @@
--- `map_rows::run_high_sums` meets its contract. The invariant: in each run j sums have run on, and `Upright`.
+-- `map_rows::run_high_sums` meets its contract.
 -- Assumes nothing.
 use mathlib.Core.Path.{◌≡◌, refl}
 use Prim.Native.Nat.{◌+◌, ◌-◌, ◌*◌, ◌≤◌, ◌<◌}
 use native.Mathlib.Omega.{arith}
 use Rattle.construction.specs.Shares.{pair_at}
 use Rattle.ands.proofs.Forms.{form_below}
-use Rattle.layout.proofs.Pieces.{Upright, upright_start, upright_turn, upright_high, upright_within, upright_low}
-use Rattle.map_rows.proofs.InSums.{InSums, sums_start, sums_room, sums_turn, sums_long, sums_end}
-use borrow.Author.Rules.{rules}
+use Rattle.layout.proofs.Pieces.{upright_start, upright_turn, upright_high, upright_within, upright_low}
+use Rattle.map_rows.proofs.InSums.{sums_start, sums_room, sums_turn, sums_long, sums_end}
 use Rattle.map_rows.proofs.run_high_sums.Goals as goal
 
 pub bounds-one-last : goal.bounds-one-last
@@ -23,39 +22,40 @@ pub overflow_add-z : goal.overflow_add-z
 overflow_add-z c = omega (arith, c.requires)
 
 pub loop-j-init : goal.loop-j-init
-loop-j-init c =
-    (
-      sums_start _ _ _ _ c.requires.0 refl,
-      sums_start _ _ _ _ c.requires.1 refl,
-      upright_start c.args.n c.args.w c.args.i,
-    )
+loop-j-init c = (
+  sums_start _ _ _ _ c.requires.0 refl,
+  sums_start _ _ _ _ c.requires.1 refl,
+  upright_start c.args.n c.args.w c.args.i,
+)
 
 pub overflow_sub-added : goal.overflow_sub-added
 overflow_sub-added c =
-    let after-pair : (5 ≤ c.loop-j.z)
-    × (c.loop-j.z ≤ c.args.last)
-    × (c.pair_form-form.result.low < 5)
-    × (c.pair_form-form.result.high < 5) = (let inv = c.loop-j.invariant.2 in
-    let j = c.loop-j.j in (
-      omega (arith, upright_high _ _ _ j _ c.loop-j-test.true c.requires.2 inv),
-      omega (arith, upright_within _ _ _ j _ c.loop-j-test.true c.requires.2 inv, c.requires.4),
-      (form_below c.pair_form-form.ensures).0,
-      (form_below c.pair_form-form.ensures).1,
-    )) in
+    let j = c.loop-j.j in
+    let z = c.loop-j.z in
+    let form = c.pair_form-form.result in
+    let up = c.loop-j.invariant.2 in
+    let below = form_below c.pair_form-form.ensures in
+    let after-pair : (5 ≤ z) × (z ≤ c.args.last) × (form.low < 5) × (form.high < 5) = (
+      omega (arith, upright_high _ _ _ j _ c.loop-j-test.true c.requires.2 up),
+      omega (arith, upright_within _ _ _ j _ c.loop-j-test.true c.requires.2 up, c.requires.4),
+      below.0,
+      below.1,
+    ) in
     omega (arith, after-pair.0)
 
 pub overflow_add-added : goal.overflow_add-added
 overflow_add-added c =
-    let after-pair : (5 ≤ c.loop-j.z)
-    × (c.loop-j.z ≤ c.args.last)
-    × (c.pair_form-form.result.low < 5)
-    × (c.pair_form-form.result.high < 5) = (let inv = c.loop-j.invariant.2 in
-    let j = c.loop-j.j in (
-      omega (arith, upright_high _ _ _ j _ c.loop-j-test.true c.requires.2 inv),
-      omega (arith, upright_within _ _ _ j _ c.loop-j-test.true c.requires.2 inv, c.requires.4),
-      (form_below c.pair_form-form.ensures).0,
-      (form_below c.pair_form-form.ensures).1,
-    )) in
+    let j = c.loop-j.j in
+    let z = c.loop-j.z in
+    let form = c.pair_form-form.result in
+    let up = c.loop-j.invariant.2 in
+    let below = form_below c.pair_form-form.ensures in
+    let after-pair : (5 ≤ z) × (z ≤ c.args.last) × (form.low < 5) × (form.high < 5) = (
+      omega (arith, upright_high _ _ _ j _ c.loop-j-test.true c.requires.2 up),
+      omega (arith, upright_within _ _ _ j _ c.loop-j-test.true c.requires.2 up, c.requires.4),
+      below.0,
+      below.1,
+    ) in
     omega (arith, after-pair, c.requires.5)
 
 pub overflow_add-last : goal.overflow_add-last
@@ -63,16 +63,17 @@ overflow_add-last c = omega (arith, c.requires)
 
 pub run_sum-x-requires : goal.run_sum-x-requires
 run_sum-x-requires c =
-    let after-pair : (5 ≤ c.loop-j.z)
-    × (c.loop-j.z ≤ c.args.last)
-    × (c.pair_form-form.result.low < 5)
-    × (c.pair_form-form.result.high < 5) = (let inv = c.loop-j.invariant.2 in
-    let j = c.loop-j.j in (
-      omega (arith, upright_high _ _ _ j _ c.loop-j-test.true c.requires.2 inv),
-      omega (arith, upright_within _ _ _ j _ c.loop-j-test.true c.requires.2 inv, c.requires.4),
-      (form_below c.pair_form-form.ensures).0,
-      (form_below c.pair_form-form.ensures).1,
-    )) in
+    let j = c.loop-j.j in
+    let z = c.loop-j.z in
+    let form = c.pair_form-form.result in
+    let up = c.loop-j.invariant.2 in
+    let below = form_below c.pair_form-form.ensures in
+    let after-pair : (5 ≤ z) × (z ≤ c.args.last) × (form.low < 5) × (form.high < 5) = (
+      omega (arith, upright_high _ _ _ j _ c.loop-j-test.true c.requires.2 up),
+      omega (arith, upright_within _ _ _ j _ c.loop-j-test.true c.requires.2 up, c.requires.4),
+      below.0,
+      below.1,
+    ) in
     let inv = c.loop-j.invariant.0 in
     (sums_room inv c.loop-j-test.true, omega (arith, after-pair), inv.value)
 
@@ -82,16 +83,17 @@ overflow_add-last-in-loop-j c =
 
 pub run_sum-y-requires : goal.run_sum-y-requires
 run_sum-y-requires c =
-    let after-pair : (5 ≤ c.loop-j.z)
-    × (c.loop-j.z ≤ c.args.last)
-    × (c.pair_form-form.result.low < 5)
-    × (c.pair_form-form.result.high < 5) = (let inv = c.loop-j.invariant.2 in
-    let j = c.loop-j.j in (
-      omega (arith, upright_high _ _ _ j _ c.loop-j-test.true c.requires.2 inv),
-      omega (arith, upright_within _ _ _ j _ c.loop-j-test.true c.requires.2 inv, c.requires.4),
-      (form_below c.pair_form-form.ensures).0,
-      (form_below c.pair_form-form.ensures).1,
-    )) in
+    let j = c.loop-j.j in
+    let z = c.loop-j.z in
+    let form = c.pair_form-form.result in
+    let up = c.loop-j.invariant.2 in
+    let below = form_below c.pair_form-form.ensures in
+    let after-pair : (5 ≤ z) × (z ≤ c.args.last) × (form.low < 5) × (form.high < 5) = (
+      omega (arith, upright_high _ _ _ j _ c.loop-j-test.true c.requires.2 up),
+      omega (arith, upright_within _ _ _ j _ c.loop-j-test.true c.requires.2 up, c.requires.4),
+      below.0,
+      below.1,
+    ) in
     let inv = c.loop-j.invariant.1 in
     (sums_room inv c.loop-j-test.true, omega (arith, after-pair), inv.value)
 
@@ -109,16 +111,17 @@ overflow_mul-z-in-loop-j c =
 
 pub overflow_add-z-in-loop-j : goal.overflow_add-z-in-loop-j
 overflow_add-z-in-loop-j c =
-    let after-pair : (5 ≤ c.loop-j.z)
-    × (c.loop-j.z ≤ c.args.last)
-    × (c.pair_form-form.result.low < 5)
-    × (c.pair_form-form.result.high < 5) = (let inv = c.loop-j.invariant.2 in
-    let j = c.loop-j.j in (
-      omega (arith, upright_high _ _ _ j _ c.loop-j-test.true c.requires.2 inv),
-      omega (arith, upright_within _ _ _ j _ c.loop-j-test.true c.requires.2 inv, c.requires.4),
-      (form_below c.pair_form-form.ensures).0,
-      (form_below c.pair_form-form.ensures).1,
-    )) in
+    let j = c.loop-j.j in
+    let z = c.loop-j.z in
+    let form = c.pair_form-form.result in
+    let up = c.loop-j.invariant.2 in
+    let below = form_below c.pair_form-form.ensures in
+    let after-pair : (5 ≤ z) × (z ≤ c.args.last) × (form.low < 5) × (form.high < 5) = (
+      omega (arith, upright_high _ _ _ j _ c.loop-j-test.true c.requires.2 up),
+      omega (arith, upright_within _ _ _ j _ c.loop-j-test.true c.requires.2 up, c.requires.4),
+      below.0,
+      below.1,
+    ) in
     omega (arith, after-pair.1, c.requires.3, c.requires.5)
 
 pub overflow_add-j : goal.overflow_add-j

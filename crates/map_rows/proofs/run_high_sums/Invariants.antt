@@ -1,13 +1,9 @@
--- `map_rows::run_high_sums` meets its contract. The invariant: in each run j sums have run on, and `Upright`.
+-- The loop's invariant in `map_rows::run_high_sums`: in each run j sums have run on, and `Upright`.
 -- Assumes nothing.
-use mathlib.Core.Path.{◌≡◌, refl}
-use Prim.Native.Nat.{◌+◌, ◌-◌, ◌*◌, ◌≤◌, ◌<◌}
-use native.Mathlib.Omega.{arith}
+use Prim.Native.Nat.{◌+◌, ◌-◌, ◌*◌}
 use Rattle.construction.specs.Shares.{pair_at}
-use Rattle.ands.proofs.Forms.{form_below}
-use Rattle.layout.proofs.Pieces.{Upright, upright_start, upright_turn, upright_high, upright_within, upright_low}
-use Rattle.map_rows.proofs.InSums.{InSums, sums_start, sums_room, sums_turn, sums_long, sums_end}
-use borrow.Author.Rules.{rules}
+use Rattle.layout.proofs.Pieces.{Upright}
+use Rattle.map_rows.proofs.InSums.{InSums}
 use Rattle.map_rows.proofs.run_high_sums.Given as goal
 
 abbrev pub invariant-loop-j : goal.invariant-loop-j

@@ -1,11 +1,10 @@
--- `map_rows::run_low_sums` meets its contract. The invariant, of each run: c sums have run on.
+-- `map_rows::run_low_sums` meets its contract.
 -- Assumes nothing.
 use mathlib.Core.Path.{refl}
-use Prim.Native.Nat.{◌+◌, ◌-◌, ◌*◌, ◌<◌, ◌≤◌}
+use Prim.Native.Nat.{◌+◌, ◌*◌, ◌<◌, ◌≤◌}
 use native.Mathlib.Omega.{arith}
 use lib.ListN.{length}
-use Rattle.map_rows.proofs.InSums.{InSums, sums_start, sums_room, sums_turn, sums_long, sums_end}
-use borrow.Author.Rules.{rules}
+use Rattle.map_rows.proofs.InSums.{sums_start, sums_room, sums_turn, sums_long, sums_end}
 use Rattle.map_rows.proofs.run_low_sums.Goals as goal
 
 pub bounds-one-last : goal.bounds-one-last
@@ -23,8 +22,7 @@ overflow_mul-added c =
     let inside : (c.args.z + 5 * c.loop-c.c
     + c.pair_form-form.result.low
     ≤ c.args.last)
-    × (c.args.last + c.loop-c.c + 1 < length c.loop-c.one) = (let h = c.loop-c-test.true in
-    (
+    × (c.args.last + c.loop-c.c + 1 < length c.loop-c.one) = (let h = c.loop-c-test.true in (
       omega (arith, c.pair_form-form.ensures.low, c.requires.2 _ h),
       omega (arith, (sums_room c.loop-c.invariant.0 h).room),
     )) in
@@ -35,8 +33,7 @@ overflow_add-added c =
     let inside : (c.args.z + 5 * c.loop-c.c
     + c.pair_form-form.result.low
     ≤ c.args.last)
-    × (c.args.last + c.loop-c.c + 1 < length c.loop-c.one) = (let h = c.loop-c-test.true in
-    (
+    × (c.args.last + c.loop-c.c + 1 < length c.loop-c.one) = (let h = c.loop-c-test.true in (
       omega (arith, c.pair_form-form.ensures.low, c.requires.2 _ h),
       omega (arith, (sums_room c.loop-c.invariant.0 h).room),
     )) in
@@ -47,8 +44,7 @@ overflow_add-added-in-loop-c c =
     let inside : (c.args.z + 5 * c.loop-c.c
     + c.pair_form-form.result.low
     ≤ c.args.last)
-    × (c.args.last + c.loop-c.c + 1 < length c.loop-c.one) = (let h = c.loop-c-test.true in
-    (
+    × (c.args.last + c.loop-c.c + 1 < length c.loop-c.one) = (let h = c.loop-c-test.true in (
       omega (arith, c.pair_form-form.ensures.low, c.requires.2 _ h),
       omega (arith, (sums_room c.loop-c.invariant.0 h).room),
     )) in
@@ -59,8 +55,7 @@ overflow_add-last c =
     let inside : (c.args.z + 5 * c.loop-c.c
     + c.pair_form-form.result.low
     ≤ c.args.last)
-    × (c.args.last + c.loop-c.c + 1 < length c.loop-c.one) = (let h = c.loop-c-test.true in
-    (
+    × (c.args.last + c.loop-c.c + 1 < length c.loop-c.one) = (let h = c.loop-c-test.true in (
       omega (arith, c.pair_form-form.ensures.low, c.requires.2 _ h),
       omega (arith, (sums_room c.loop-c.invariant.0 h).room),
     )) in
@@ -71,8 +66,7 @@ run_sum-x-requires c =
     let inside : (c.args.z + 5 * c.loop-c.c
     + c.pair_form-form.result.low
     ≤ c.args.last)
-    × (c.args.last + c.loop-c.c + 1 < length c.loop-c.one) = (let h = c.loop-c-test.true in
-    (
+    × (c.args.last + c.loop-c.c + 1 < length c.loop-c.one) = (let h = c.loop-c-test.true in (
       omega (arith, c.pair_form-form.ensures.low, c.requires.2 _ h),
       omega (arith, (sums_room c.loop-c.invariant.0 h).room),
     )) in
@@ -84,8 +78,7 @@ overflow_add-last-in-loop-c c =
     let inside : (c.args.z + 5 * c.loop-c.c
     + c.pair_form-form.result.low
     ≤ c.args.last)
-    × (c.args.last + c.loop-c.c + 1 < length c.loop-c.one) = (let h = c.loop-c-test.true in
-    (
+    × (c.args.last + c.loop-c.c + 1 < length c.loop-c.one) = (let h = c.loop-c-test.true in (
       omega (arith, c.pair_form-form.ensures.low, c.requires.2 _ h),
       omega (arith, (sums_room c.loop-c.invariant.0 h).room),
     )) in
@@ -96,8 +89,7 @@ run_sum-y-requires c =
     let inside : (c.args.z + 5 * c.loop-c.c
     + c.pair_form-form.result.low
     ≤ c.args.last)
-    × (c.args.last + c.loop-c.c + 1 < length c.loop-c.one) = (let h = c.loop-c-test.true in
-    (
+    × (c.args.last + c.loop-c.c + 1 < length c.loop-c.one) = (let h = c.loop-c-test.true in (
       omega (arith, c.pair_form-form.ensures.low, c.requires.2 _ h),
       omega (arith, (sums_room c.loop-c.invariant.0 h).room),
     )) in

@@ -1,11 +1,7 @@
--- `map_rows::run_low_sums` meets its contract. The invariant, of each run: c sums have run on.
+-- The loop's invariant in `map_rows::run_low_sums`, of each run: c sums have run on.
 -- Assumes nothing.
-use mathlib.Core.Path.{refl}
-use Prim.Native.Nat.{◌+◌, ◌-◌, ◌*◌, ◌<◌, ◌≤◌}
-use native.Mathlib.Omega.{arith}
-use lib.ListN.{length}
-use Rattle.map_rows.proofs.InSums.{InSums, sums_start, sums_room, sums_turn, sums_long, sums_end}
-use borrow.Author.Rules.{rules}
+use Prim.Native.Nat.{◌+◌, ◌-◌, ◌*◌}
+use Rattle.map_rows.proofs.InSums.{InSums}
 use Rattle.map_rows.proofs.run_low_sums.Given as goal
 
 abbrev pub invariant-loop-c : goal.invariant-loop-c

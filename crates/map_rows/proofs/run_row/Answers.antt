@@ -7,7 +7,6 @@ use Rattle.layout.specs.Layout.{share_wires}
 use Rattle.layout.proofs.Pieces.{low_within}
 use Rattle.map_values.proofs.Before.{left_low, right_low, left_before, right_before}
 use Rattle.map_rows.proofs.Rows.{high_ready, low_ready, row_ran}
-use borrow.Author.Rules.{rules}
 use Rattle.map_rows.proofs.run_row.Goals as goal
 
 pub share_wire-ai-requires : goal.share_wire-ai-requires

@@ -1,13 +1,12 @@
--- `map_rows::run_rows` meets its contract. The invariant, of each run: i rows have run on.
+-- `map_rows::run_rows` meets its contract.
 -- Assumes nothing.
 use mathlib.Core.Path.{refl}
-use Prim.Native.Nat.{◌-◌}
 use native.Mathlib.Nat.{mul-le-mul_left}
 use native.Mathlib.Omega.{arith}
 use Rattle.construction.specs.Gadgets.{gadget_of}
 use Rattle.layout.specs.Layout.{share_wires}
 use Rattle.map_values.proofs.InPieces.{pieces_start, pieces_room, pieces_end}
-use Rattle.map_rows.proofs.Rows.{InRows, rows_turn}
+use Rattle.map_rows.proofs.Rows.{rows_turn}
 use Rattle.map_rows.proofs.run_rows.Goals as goal
 
 pub loop-i-init : goal.loop-i-init

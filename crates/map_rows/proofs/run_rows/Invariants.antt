@@ -1,13 +1,9 @@
--- `map_rows::run_rows` meets its contract. The invariant, of each run: i rows have run on.
+-- The loop's invariant in `map_rows::run_rows`, of each run: i rows have run on.
 -- Assumes nothing.
-use mathlib.Core.Path.{refl}
 use Prim.Native.Nat.{◌-◌}
-use native.Mathlib.Nat.{mul-le-mul_left}
-use native.Mathlib.Omega.{arith}
 use Rattle.construction.specs.Gadgets.{gadget_of}
 use Rattle.layout.specs.Layout.{share_wires}
-use Rattle.map_values.proofs.InPieces.{pieces_start, pieces_room, pieces_end}
-use Rattle.map_rows.proofs.Rows.{InRows, rows_turn}
+use Rattle.map_rows.proofs.Rows.{InRows}
 use Rattle.map_rows.proofs.run_rows.Given as goal
 
 abbrev pub invariant-loop-i : goal.invariant-loop-i

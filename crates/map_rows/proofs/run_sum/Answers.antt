@@ -10,7 +10,6 @@ use lib.Seq.{get_or-set_same}
 use Rattle.tables.specs.Tables.{XOR}
 use Rattle.tables.proofs.Run.{bit_xor_lem}
 use Rattle.tables.proofs.Ran.{ran_one, runs_bit}
-use borrow.Author.Rules.{rules}
 use Rattle.map_rows.proofs.run_sum.Goals as goal
 
 pub returns : goal.returns

@@ -7,7 +7,6 @@ use lib.ListN.{set}
 use Rattle.tables.specs.Tables.{AND}
 use Rattle.tables.proofs.Run.{bit_and_lem}
 use Rattle.tables.proofs.Ran.{ran_one, runs_bit}
-use borrow.Author.Rules.{rules}
 use Rattle.map_values.proofs.run_and.Goals as goal
 
 pub returns : goal.returns

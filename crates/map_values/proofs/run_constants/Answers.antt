@@ -1,14 +1,11 @@
--- `map_values::run_constants` meets its contract. The invariant: s shares have run on, and `bit` is the next one.
+-- `map_values::run_constants` meets its contract.
 -- Assumes nothing.
-use mathlib.Core.Path.{◌≡◌, refl}
-use mathlib.Core.Bool.{cond}
-use Prim.Native.Nat.{◌+◌, ◌-◌, ◌<◌}
+use mathlib.Core.Path.{refl}
+use Prim.Native.Nat.{◌+◌, ◌<◌}
 use native.Mathlib.Omega.{arith}
-use lib.Dec.{eqb}
 use lib.ListN.{length}
 use Rattle.tables.proofs.Ran.{runs_less}
-use Rattle.layout.specs.Layout.{constant_gates}
-use Rattle.map_values.proofs.InPieces.{InPieces, pieces_start, pieces_room, pieces_turn, pieces_end}
+use Rattle.map_values.proofs.InPieces.{pieces_start, pieces_room, pieces_turn, pieces_end}
 use Rattle.map_values.proofs.InPieces.{constant_none, constant_ran, constant_next}
 use Rattle.map_values.proofs.run_constants.Goals as goal
 

@@ -1,15 +1,11 @@
--- `map_values::run_constants` meets its contract. The invariant: s shares have run on, and `bit` is the next one.
+-- The loop's invariant in `map_values::run_constants`: s shares have run on, and `bit` is the next one.
 -- Assumes nothing.
-use mathlib.Core.Path.{◌≡◌, refl}
+use mathlib.Core.Path.{◌≡◌}
 use mathlib.Core.Bool.{cond}
-use Prim.Native.Nat.{◌+◌, ◌-◌, ◌<◌}
-use native.Mathlib.Omega.{arith}
+use Prim.Native.Nat.{◌+◌, ◌-◌}
 use lib.Dec.{eqb}
-use lib.ListN.{length}
-use Rattle.tables.proofs.Ran.{runs_less}
 use Rattle.layout.specs.Layout.{constant_gates}
-use Rattle.map_values.proofs.InPieces.{InPieces, pieces_start, pieces_room, pieces_turn, pieces_end}
-use Rattle.map_values.proofs.InPieces.{constant_none, constant_ran, constant_next}
+use Rattle.map_values.proofs.InPieces.{InPieces}
 use Rattle.map_values.proofs.run_constants.Given as goal
 
 abbrev pub invariant-loop-s : goal.invariant-loop-s

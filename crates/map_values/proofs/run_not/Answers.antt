@@ -5,7 +5,6 @@ use mathlib.Core.List.{[]}
 use native.Mathlib.Omega.{arith}
 use Rattle.tables.specs.Tables.{NOT}
 use Rattle.tables.proofs.Ran.{ran_one, runs_bit}
-use borrow.Author.Rules.{rules}
 use Rattle.map_values.proofs.run_not.Goals as goal
 
 pub overflow_sub-run : goal.overflow_sub-run

@@ -4,7 +4,6 @@ use mathlib.Core.Path.{refl}
 use mathlib.Core.List.{[], ◌∷◌}
 use Prim.Native.Nat.{◌+◌}
 use native.Mathlib.Omega.{arith}
-use borrow.Author.Rules.{rules}
 use Rattle.tables.specs.Tables.{NOT, gate, total}
 use Rattle.tables.proofs.Lists.{bits_nil}
 use Rattle.tables.proofs.Ran.{Ran, ran_start, ran_more, runs_less}

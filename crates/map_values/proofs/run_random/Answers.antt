@@ -5,7 +5,6 @@ use mathlib.Core.List.{[], ◌∷◌}
 use native.Mathlib.Omega.{arith}
 use Rattle.tables.specs.Tables.{RANDOM}
 use Rattle.tables.proofs.Ran.{ran_one}
-use borrow.Author.Rules.{rules}
 use Rattle.map_values.proofs.run_random.Goals as goal
 
 pub returns : goal.returns

@@ -1,13 +1,12 @@
--- `map_values::run_xors` meets its contract. The invariant: s shares have run on.
+-- `map_values::run_xors` meets its contract.
 -- Assumes nothing.
 use mathlib.Core.Path.{refl, ap₂}
 use mathlib.Core.List.{List, [], ◌∷◌}
-use Prim.Native.Nat.{ℕ, ◌+◌, ◌-◌}
+use Prim.Native.Nat.{ℕ}
 use native.Mathlib.Omega.{arith}
 use Rattle.tables.specs.Tables.{XOR, Gate, gate}
 use Rattle.tables.proofs.Ran.{runs_less}
-use Rattle.layout.specs.Layout.{share_wires, xor_gates}
-use Rattle.map_values.proofs.InPieces.{InPieces, pieces_start, pieces_room, pieces_turn, pieces_end, xor_none}
+use Rattle.map_values.proofs.InPieces.{pieces_start, pieces_room, pieces_turn, pieces_end, xor_none}
 use Rattle.map_values.proofs.Before.{left_low, right_low, left_before, right_before}
 use Rattle.map_values.proofs.run_xors.Goals as goal
 

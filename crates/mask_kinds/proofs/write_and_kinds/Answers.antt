@@ -5,7 +5,6 @@ use mathlib.Core.List.{List, ◌++◌}
 use Prim.Native.Nat.{ℕ, ◌*◌}
 use native.Mathlib.Omega.{arith}
 use lib.ListN.{length}
-use borrow.Author.Rules.{rules}
 use Rattle.tables.specs.Inside.{put_at}
 use Rattle.tables.proofs.Put.{put_then}
 use Rattle.layout.specs.Layout.{pieces_from}

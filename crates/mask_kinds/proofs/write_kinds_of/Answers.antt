@@ -1,7 +1,6 @@
 -- `mask_kinds::write_kinds_of` meets its contract: a further kind, an AND's kinds, or one byte before the kinds that stand already.
 -- Assumes nothing.
 use native.Mathlib.Omega.{arith}
-use borrow.Author.Rules.{rules}
 use mathlib.Core.Path.{◌≡◌}
 use Prim.Native.Nat.{◌<◌}
 use lib.ListN.{length, set}

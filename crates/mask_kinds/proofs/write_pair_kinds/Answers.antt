@@ -1,10 +1,8 @@
--- `mask_kinds::write_pair_kinds` meets its contract. The invariant: the kinds of c pairs are written, the others follow them.
+-- `mask_kinds::write_pair_kinds` meets its contract.
 -- Assumes nothing.
 use mathlib.Core.Path.{refl}
-use Prim.Native.Nat.{◌+◌, ◌-◌, ◌*◌}
 use native.Mathlib.Omega.{arith}
-use Rattle.mask_kinds.specs.Kinds.{pair_kinds}
-use Rattle.layout.proofs.Bytes.{PutPieces, put_pieces_start, put_pieces_turn, put_pieces_end}
+use Rattle.layout.proofs.Bytes.{put_pieces_start, put_pieces_turn, put_pieces_end}
 use Rattle.mask_kinds.proofs.write_pair_kinds.Goals as goal
 
 pub loop-c-init : goal.loop-c-init

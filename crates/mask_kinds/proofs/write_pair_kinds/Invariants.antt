@@ -1,10 +1,8 @@
--- `mask_kinds::write_pair_kinds` meets its contract. The invariant: the kinds of c pairs are written, the others follow them.
+-- The loop's invariant in `mask_kinds::write_pair_kinds`: the kinds of c pairs are written, the others follow them.
 -- Assumes nothing.
-use mathlib.Core.Path.{refl}
 use Prim.Native.Nat.{◌+◌, ◌-◌, ◌*◌}
-use native.Mathlib.Omega.{arith}
 use Rattle.mask_kinds.specs.Kinds.{pair_kinds}
-use Rattle.layout.proofs.Bytes.{PutPieces, put_pieces_start, put_pieces_turn, put_pieces_end}
+use Rattle.layout.proofs.Bytes.{PutPieces}
 use Rattle.mask_kinds.proofs.write_pair_kinds.Given as goal
 
 abbrev pub invariant-loop-c : goal.invariant-loop-c

@@ -1,12 +1,12 @@
--- `mask_kinds::write_rows_kinds` meets its contract. The invariant: the kinds of i rows are written, the others follow them.
+-- `mask_kinds::write_rows_kinds` meets its contract.
 -- Assumes nothing.
 use mathlib.Core.Path.{refl}
-use Prim.Native.Nat.{suc, ◌+◌, ◌-◌, ◌*◌, ◌≤◌}
+use Prim.Native.Nat.{suc, ◌+◌, ◌*◌, ◌≤◌}
 use native.Mathlib.Nat.{mul-le-mul_left}
 use native.Mathlib.Omega.{arith}
 use lib.ListN.{length}
-use Rattle.mask_kinds.specs.Kinds.{row_kinds, XorsFrom}
-use Rattle.layout.proofs.Bytes.{PutPieces, put_pieces_start, put_pieces_turn, put_pieces_end}
+use Rattle.mask_kinds.specs.Kinds.{row_kinds}
+use Rattle.layout.proofs.Bytes.{put_pieces_start, put_pieces_turn, put_pieces_end}
 use Rattle.mask_kinds.proofs.GateKinds.{row_kinds_long, row_head, xors_after}
 use Rattle.mask_kinds.proofs.write_rows_kinds.Goals as goal
 
@@ -18,16 +18,16 @@ loop-i-init c = (
 
 pub bounds-kinds-to : goal.bounds-kinds-to
 bounds-kinds-to c =
-    let within : c.loop-i.to + c.args.n ≤ length c.loop-i.kinds = (let W = c.loop-i.invariant.0 in
+    let W = c.loop-i.invariant.0 in
     let rows : c.args.n * suc c.loop-i.i ≤ c.args.n * c.args.n = mul-le-mul_left c.args.n c.loop-i-test.true in
-    omega (arith, W.place, W.long, c.requires.0)) in
+    let within : c.loop-i.to + c.args.n ≤ length c.loop-i.kinds = omega (arith, rows, W.place, W.long, c.requires.0) in
     omega (arith, within)
 
 pub overflow_add-to : goal.overflow_add-to
 overflow_add-to c =
-    let within : c.loop-i.to + c.args.n ≤ length c.loop-i.kinds = (let W = c.loop-i.invariant.0 in
+    let W = c.loop-i.invariant.0 in
     let rows : c.args.n * suc c.loop-i.i ≤ c.args.n * c.args.n = mul-le-mul_left c.args.n c.loop-i-test.true in
-    omega (arith, W.place, W.long, c.requires.0)) in
+    let within : c.loop-i.to + c.args.n ≤ length c.loop-i.kinds = omega (arith, rows, W.place, W.long, c.requires.0) in
     omega (arith, within)
 
 pub overflow_add-i : goal.overflow_add-i
@@ -38,9 +38,9 @@ loop-i-smaller c = omega arith
 
 pub loop-i-preserved : goal.loop-i-preserved
 loop-i-preserved c =
-    let within : c.loop-i.to + c.args.n ≤ length c.loop-i.kinds = (let W = c.loop-i.invariant.0 in
+    let W = c.loop-i.invariant.0 in
     let rows : c.args.n * suc c.loop-i.i ≤ c.args.n * c.args.n = mul-le-mul_left c.args.n c.loop-i-test.true in
-    omega (arith, W.place, W.long, c.requires.0)) in
+    let within : c.loop-i.to + c.args.n ≤ length c.loop-i.kinds = omega (arith, rows, W.place, W.long, c.requires.0) in
     let n = c.args.n in
     let b = c.loop-i.kinds in
     let inv = c.loop-i.invariant in

@@ -1,13 +1,8 @@
--- `mask_kinds::write_rows_kinds` meets its contract. The invariant: the kinds of i rows are written, the others follow them.
+-- The loop's invariant in `mask_kinds::write_rows_kinds`: the kinds of i rows are written, the others follow them.
 -- Assumes nothing.
-use mathlib.Core.Path.{refl}
-use Prim.Native.Nat.{suc, ◌+◌, ◌-◌, ◌*◌, ◌≤◌}
-use native.Mathlib.Nat.{mul-le-mul_left}
-use native.Mathlib.Omega.{arith}
-use lib.ListN.{length}
+use Prim.Native.Nat.{◌-◌}
 use Rattle.mask_kinds.specs.Kinds.{row_kinds, XorsFrom}
-use Rattle.layout.proofs.Bytes.{PutPieces, put_pieces_start, put_pieces_turn, put_pieces_end}
-use Rattle.mask_kinds.proofs.GateKinds.{row_kinds_long, row_head, xors_after}
+use Rattle.layout.proofs.Bytes.{PutPieces}
 use Rattle.mask_kinds.proofs.write_rows_kinds.Given as goal
 
 abbrev pub invariant-loop-i : goal.invariant-loop-i

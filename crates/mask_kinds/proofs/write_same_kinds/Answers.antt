@@ -1,11 +1,10 @@
--- `mask_kinds::write_same_kinds` meets its contract. The invariant: c kinds are written, the others follow them.
+-- `mask_kinds::write_same_kinds` meets its contract.
 -- Assumes nothing.
 use mathlib.Core.Path.{refl}
-use mathlib.Core.List.{[], ◌∷◌}
-use Prim.Native.Nat.{◌+◌, ◌-◌}
+use Prim.Native.Nat.{◌+◌}
 use native.Mathlib.Omega.{arith}
 use Rattle.tables.proofs.Put.{put_set}
-use Rattle.layout.proofs.Bytes.{PutPieces, put_pieces_start, put_pieces_turn, put_pieces_end}
+use Rattle.layout.proofs.Bytes.{put_pieces_start, put_pieces_turn, put_pieces_end}
 use Rattle.mask_kinds.proofs.GateKinds.{replicate_pieces}
 use Rattle.mask_kinds.proofs.write_same_kinds.Goals as goal
 

@@ -1,12 +1,8 @@
--- `mask_kinds::write_same_kinds` meets its contract. The invariant: c kinds are written, the others follow them.
+-- The loop's invariant in `mask_kinds::write_same_kinds`: c kinds are written, the others follow them.
 -- Assumes nothing.
-use mathlib.Core.Path.{refl}
 use mathlib.Core.List.{[], ◌∷◌}
 use Prim.Native.Nat.{◌+◌, ◌-◌}
-use native.Mathlib.Omega.{arith}
-use Rattle.tables.proofs.Put.{put_set}
-use Rattle.layout.proofs.Bytes.{PutPieces, put_pieces_start, put_pieces_turn, put_pieces_end}
-use Rattle.mask_kinds.proofs.GateKinds.{replicate_pieces}
+use Rattle.layout.proofs.Bytes.{PutPieces}
 use Rattle.mask_kinds.proofs.write_same_kinds.Given as goal
 
 abbrev pub invariant-loop-c : goal.invariant-loop-c

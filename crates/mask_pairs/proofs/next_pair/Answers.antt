@@ -1,6 +1,5 @@
 -- `mask_pairs::next_pair` meets its contract: the next upper share, or the first pair of the next lower share.
 -- Assumes nothing.
-use borrow.Author.Rules.{rules}
 use Rattle.mask_pairs.proofs.PairNumbers.{pair_next, pair_turn}
 use Rattle.mask_pairs.proofs.next_pair.Goals as goal
 

@@ -1,6 +1,5 @@
 -- `mask_pairs::write_pair` meets its contract: whichever AND it is, its own call has written.
 -- Assumes nothing.
-use borrow.Author.Rules.{rules}
 use Rattle.mask_pairs.proofs.write_pair.Goals as goal
 
 pub returns-in-Isw : goal.returns-in-Isw

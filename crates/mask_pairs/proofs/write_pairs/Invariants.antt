@@ -1,20 +1,13 @@
--- `mask_pairs::write_pairs` meets its contract. The invariant: c pairs are written, and p is the pair that is number c.
+-- The loop's invariant in `mask_pairs::write_pairs`: c pairs are written, and p is the pair that is number c.
 -- Assumes nothing.
-use mathlib.Core.Path.{refl, ap}
-use mathlib.Core.List.{List}
-use Prim.Native.Nat.{ℕ, ◌+◌, ◌-◌, ◌*◌, ◌≤◌, ◌<◌}
-use native.Mathlib.Numerals.{add-one}
-use native.Mathlib.Omega.{arith}
-use lib.ListN.{length}
-use Rattle.tables.specs.Tables.{Gate, pair_bytes}
+use Prim.Native.Nat.{◌+◌, ◌-◌, ◌*◌, ◌<◌}
+use Rattle.tables.specs.Tables.{pair_bytes}
 use Rattle.construction.specs.Shares.{tri}
 use Rattle.construction.specs.Gadgets.{gadget_of}
 use Rattle.layout.specs.Layout.{share_wires, pair_gates}
 use Rattle.mask_pairs.specs.PairRoom.{PairNo}
-use Rattle.layout.proofs.ShareWires.{share_low}
-use Rattle.layout.proofs.Bytes.{pairs_pieces, PutPieces, put_pieces_start, put_pieces_turn, put_pieces_end}
-use Rattle.layout.proofs.Pieces.{pair_number, pairs_in_turn}
-use Rattle.mask_pairs.proofs.PairNumbers.{pair_piece, pair_first}
+use Rattle.layout.proofs.Bytes.{PutPieces}
+use Rattle.layout.proofs.Pieces.{pair_number}
 use Rattle.mask_pairs.proofs.write_pairs.Given as goal
 
 abbrev pub invariant-loop-c : goal.invariant-loop-c

@@ -1,4 +1,4 @@
--- `mask_rows::write_high_sums` meets its contract. The invariant: j sums are written, the others follow them, and `Upright`.
+-- `mask_rows::write_high_sums` meets its contract.
 -- Assumes nothing.
 use mathlib.Core.Path.{refl, ap, ◌∙◌}
 use Prim.Native.Nat.{ℕ, ◌+◌, ◌-◌, ◌*◌, ◌≤◌}
@@ -9,8 +9,8 @@ use Rattle.tables.specs.Inside.{put_at}
 use Rattle.construction.specs.Shares.{pair_at}
 use Rattle.ands.proofs.Forms.{form_below}
 use Rattle.layout.specs.Layout.{pieces_from, sum_gates}
-use Rattle.layout.proofs.Bytes.{pairs_pieces, PutPieces, put_pieces_start, put_pieces_turn, put_pieces_end}
-use Rattle.layout.proofs.Pieces.{Upright, upright_start, upright_turn, upright_high, upright_within}
+use Rattle.layout.proofs.Bytes.{pairs_pieces, put_pieces_start, put_pieces_turn, put_pieces_end}
+use Rattle.layout.proofs.Pieces.{upright_start, upright_turn, upright_high, upright_within}
 use Rattle.layout.proofs.Pieces.{upright_low}
 use Rattle.mask_rows.proofs.write_high_sums.Goals as goal
 
@@ -25,11 +25,10 @@ overflow_add-z c = omega arith
 
 pub loop-j-init : goal.loop-j-init
 unfolding pair_bytes
-loop-j-init c =
-    (
-      put_pieces_start 4 c.args.at _ _ _ _ (λ _ _. refl) (omega arith) c.requires.3,
-      upright_start c.args.n c.args.w c.args.i,
-    )
+loop-j-init c = (
+  put_pieces_start 4 c.args.at _ _ _ _ (λ _ _. refl) (omega arith) c.requires.3,
+  upright_start c.args.n c.args.w c.args.i,
+)
 
 pub overflow_mul-j : goal.overflow_mul-j
 overflow_mul-j c = omega arith
@@ -42,29 +41,32 @@ overflow_add-last c = omega arith
 
 pub overflow_sub-z : goal.overflow_sub-z
 overflow_sub-z c =
-    let after-pair : (5 ≤ c.loop-j.z) × (c.loop-j.z ≤ 65536) = (let inv = c.loop-j.invariant.1 in
-    let j = c.loop-j.j in (
-      omega (arith, upright_high _ _ _ j _ (omega arith) c.requires.0 inv),
-      omega (arith, upright_within _ _ _ j _ (omega arith) c.requires.0 inv, c.requires.2),
-    )) in
+    let j = c.loop-j.j in
+    let up = c.loop-j.invariant.1 in
+    let after-pair : (5 ≤ c.loop-j.z) × (c.loop-j.z ≤ 65536) = (
+      omega (arith, upright_high _ _ _ j _ (omega arith) c.requires.0 up),
+      omega (arith, upright_within _ _ _ j _ (omega arith) c.requires.0 up, c.requires.2),
+    ) in
     omega (arith, after-pair.0)
 
 pub overflow_add-z-in-loop-j : goal.overflow_add-z-in-loop-j
 overflow_add-z-in-loop-j c =
-    let after-pair : (5 ≤ c.loop-j.z) × (c.loop-j.z ≤ 65536) = (let inv = c.loop-j.invariant.1 in
-    let j = c.loop-j.j in (
-      omega (arith, upright_high _ _ _ j _ (omega arith) c.requires.0 inv),
-      omega (arith, upright_within _ _ _ j _ (omega arith) c.requires.0 inv, c.requires.2),
-    )) in
+    let j = c.loop-j.j in
+    let up = c.loop-j.invariant.1 in
+    let after-pair : (5 ≤ c.loop-j.z) × (c.loop-j.z ≤ 65536) = (
+      omega (arith, upright_high _ _ _ j _ (omega arith) c.requires.0 up),
+      omega (arith, upright_within _ _ _ j _ (omega arith) c.requires.0 up, c.requires.2),
+    ) in
     omega (arith, after-pair.1, form_below c.pair_form-form.ensures)
 
 pub put_gate-requires : goal.put_gate-requires
 put_gate-requires c =
-    let after-pair : (5 ≤ c.loop-j.z) × (c.loop-j.z ≤ 65536) = (let inv = c.loop-j.invariant.1 in
-    let j = c.loop-j.j in (
-      omega (arith, upright_high _ _ _ j _ (omega arith) c.requires.0 inv),
-      omega (arith, upright_within _ _ _ j _ (omega arith) c.requires.0 inv, c.requires.2),
-    )) in
+    let j = c.loop-j.j in
+    let up = c.loop-j.invariant.1 in
+    let after-pair : (5 ≤ c.loop-j.z) × (c.loop-j.z ≤ 65536) = (
+      omega (arith, upright_high _ _ _ j _ (omega arith) c.requires.0 up),
+      omega (arith, upright_within _ _ _ j _ (omega arith) c.requires.0 up, c.requires.2),
+    ) in
     omega (arith, after-pair, form_below c.pair_form-form.ensures)
 
 pub overflow_sub-z-in-loop-j : goal.overflow_sub-z-in-loop-j
@@ -78,11 +80,12 @@ overflow_mul-z-in-loop-j c = omega arith
 
 pub overflow_add-z-in-loop-j-2 : goal.overflow_add-z-in-loop-j-2
 overflow_add-z-in-loop-j-2 c =
-    let after-pair : (5 ≤ c.loop-j.z) × (c.loop-j.z ≤ 65536) = (let inv = c.loop-j.invariant.1 in
-    let j = c.loop-j.j in (
-      omega (arith, upright_high _ _ _ j _ (omega arith) c.requires.0 inv),
-      omega (arith, upright_within _ _ _ j _ (omega arith) c.requires.0 inv, c.requires.2),
-    )) in
+    let j = c.loop-j.j in
+    let up = c.loop-j.invariant.1 in
+    let after-pair : (5 ≤ c.loop-j.z) × (c.loop-j.z ≤ 65536) = (
+      omega (arith, upright_high _ _ _ j _ (omega arith) c.requires.0 up),
+      omega (arith, upright_within _ _ _ j _ (omega arith) c.requires.0 up, c.requires.2),
+    ) in
     omega (arith, after-pair.1)
 
 pub overflow_add-j : goal.overflow_add-j
@@ -111,8 +114,7 @@ pub returns : goal.returns
 returns c =
     let inv = c.loop-j.invariant in
     let a = c.args in
-    let sums : ℕ → List ℕ =
-    λ v. pair_bytes (pieces_from a.i 0 (sum_gates a.last (λ j. a.w + 5 * pair_at a.n j a.i + v))) in (
+    let sums : ℕ → List ℕ = λ v. pair_bytes (pieces_from a.i 0 (sum_gates a.last (λ j. a.w + 5 * pair_at a.n j a.i + v))) in (
       λ h. upright_low _ _ _ c.loop-j.j _ h (omega (arith, inv.0.within)) inv.1,
       rw pairs_pieces (put_pieces_end inv.0 (omega arith))
           ∙ ap {A = ℕ} {B = List ℕ} (λ v. put_at c.args.at (sums v) c.args.ops.now) c.pair_form-form.ensures.high,

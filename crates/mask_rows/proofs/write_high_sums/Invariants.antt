@@ -1,17 +1,11 @@
--- `mask_rows::write_high_sums` meets its contract. The invariant: j sums are written, the others follow them, and `Upright`.
+-- The loop's invariant in `mask_rows::write_high_sums`: j sums are written, the others follow them, and `Upright`.
 -- Assumes nothing.
-use mathlib.Core.Path.{refl, ap, ◌∙◌}
-use Prim.Native.Nat.{ℕ, ◌+◌, ◌-◌, ◌*◌, ◌≤◌}
-use native.Mathlib.Omega.{arith}
-use mathlib.Core.List.{List, ◌++◌}
-use Rattle.tables.specs.Tables.{two, pair_bytes}
-use Rattle.tables.specs.Inside.{put_at}
+use Prim.Native.Nat.{◌+◌, ◌-◌, ◌*◌}
+use Rattle.tables.specs.Tables.{pair_bytes}
 use Rattle.construction.specs.Shares.{pair_at}
-use Rattle.ands.proofs.Forms.{form_below}
-use Rattle.layout.specs.Layout.{pieces_from, sum_gates}
-use Rattle.layout.proofs.Bytes.{pairs_pieces, PutPieces, put_pieces_start, put_pieces_turn, put_pieces_end}
-use Rattle.layout.proofs.Pieces.{Upright, upright_start, upright_turn, upright_high, upright_within}
-use Rattle.layout.proofs.Pieces.{upright_low}
+use Rattle.layout.specs.Layout.{sum_gates}
+use Rattle.layout.proofs.Bytes.{PutPieces}
+use Rattle.layout.proofs.Pieces.{Upright}
 use Rattle.mask_rows.proofs.write_high_sums.Given as goal
 
 abbrev pub invariant-loop-j : goal.invariant-loop-j

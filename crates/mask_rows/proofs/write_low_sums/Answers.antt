@@ -1,8 +1,8 @@
--- `mask_rows::write_low_sums` meets its contract. The invariant: c sums are written, the others follow them.
+-- `mask_rows::write_low_sums` meets its contract.
 -- Assumes nothing.
 use mathlib.Core.Path.{refl, ap, ◌∙◌}
 use mathlib.Core.List.{List}
-use Prim.Native.Nat.{ℕ, ◌+◌, ◌-◌, ◌*◌, ◌<◌}
+use Prim.Native.Nat.{ℕ, ◌+◌, ◌*◌, ◌<◌}
 use native.Mathlib.Omega.{arith}
 use Rattle.tables.specs.Tables.{pair_bytes}
 use Rattle.tables.specs.Inside.{put_at}
@@ -10,7 +10,7 @@ use Rattle.construction.specs.Gadgets.{gadget_of}
 use Rattle.construction.specs.Wires.{pair_wire}
 use Rattle.ands.proofs.Forms.{form_below}
 use Rattle.layout.specs.Layout.{pieces_from, sum_gates}
-use Rattle.layout.proofs.Bytes.{pairs_pieces, PutPieces, put_pieces_start, put_pieces_turn, put_pieces_end}
+use Rattle.layout.proofs.Bytes.{pairs_pieces, put_pieces_start, put_pieces_turn, put_pieces_end}
 use Rattle.mask_rows.proofs.write_low_sums.Goals as goal
 
 pub pair_form-form-requires : goal.pair_form-form-requires

@@ -5,7 +5,6 @@ use mathlib.Core.List.{◌++◌}
 use Prim.Native.Nat.{◌+◌, ◌-◌, ◌*◌}
 use native.Mathlib.Omega.{arith}
 use lib.ListN.{length}
-use borrow.Author.Rules.{rules}
 use Rattle.tables.specs.Tables.{two, pair_bytes}
 use Rattle.tables.proofs.Format.{pairs_long}
 use Rattle.tables.proofs.Put.{put_then}

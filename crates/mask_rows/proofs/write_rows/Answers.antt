@@ -1,8 +1,8 @@
--- `mask_rows::write_rows` meets its contract. The invariant: i rows are written, the others follow them.
+-- `mask_rows::write_rows` meets its contract.
 -- Assumes nothing.
 use mathlib.Core.Path.{◌≡◌, ap}
 use mathlib.Core.List.{List}
-use Prim.Native.Nat.{ℕ, suc, ◌+◌, ◌-◌, ◌*◌, ◌≤◌, ◌<◌}
+use Prim.Native.Nat.{ℕ, suc, ◌+◌, ◌*◌, ◌≤◌, ◌<◌}
 use native.Mathlib.Nat.{mul-le-mul_left}
 use native.Mathlib.Omega.{arith}
 use lib.ListN.{length}
@@ -10,7 +10,7 @@ use Rattle.tables.specs.Tables.{pair_bytes}
 use Rattle.tables.proofs.Format.{pairs_long}
 use Rattle.construction.specs.Gadgets.{Gadget, gadget_of}
 use Rattle.layout.specs.Layout.{share_wires, row_gates}
-use Rattle.layout.proofs.Bytes.{pairs_pieces, PutPieces, put_pieces_start, put_pieces_turn, put_pieces_end}
+use Rattle.layout.proofs.Bytes.{pairs_pieces, put_pieces_start, put_pieces_turn, put_pieces_end}
 use Rattle.layout.proofs.Pieces.{row_long}
 use Rattle.mask_rows.proofs.write_rows.Goals as goal
 

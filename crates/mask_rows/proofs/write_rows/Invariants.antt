@@ -1,17 +1,11 @@
--- `mask_rows::write_rows` meets its contract. The invariant: i rows are written, the others follow them.
+-- The loop's invariant in `mask_rows::write_rows`: i rows are written, the others follow them.
 -- Assumes nothing.
-use mathlib.Core.Path.{◌≡◌, ap}
-use mathlib.Core.List.{List}
-use Prim.Native.Nat.{ℕ, suc, ◌+◌, ◌-◌, ◌*◌, ◌≤◌, ◌<◌}
-use native.Mathlib.Nat.{mul-le-mul_left}
-use native.Mathlib.Omega.{arith}
-use lib.ListN.{length}
+use mathlib.Core.Path.{◌≡◌}
+use Prim.Native.Nat.{◌+◌, ◌-◌, ◌*◌}
 use Rattle.tables.specs.Tables.{pair_bytes}
-use Rattle.tables.proofs.Format.{pairs_long}
-use Rattle.construction.specs.Gadgets.{Gadget, gadget_of}
+use Rattle.construction.specs.Gadgets.{gadget_of}
 use Rattle.layout.specs.Layout.{share_wires, row_gates}
-use Rattle.layout.proofs.Bytes.{pairs_pieces, PutPieces, put_pieces_start, put_pieces_turn, put_pieces_end}
-use Rattle.layout.proofs.Pieces.{row_long}
+use Rattle.layout.proofs.Bytes.{PutPieces}
 use Rattle.mask_rows.proofs.write_rows.Given as goal
 
 abbrev pub invariant-loop-i : goal.invariant-loop-i

@@ -13,12 +13,14 @@ gate_draws-requires c = c.requires.1
 
 pub overflow_mul-result : goal.overflow_mul-result
 overflow_mul-result c =
-    let few : c.args.count * c.gate_draws.result ≤ 65535 * 465 = (few_times c.args.count _ 465 c.requires.0
-    (omega (arith, c.gate_draws.ensures, draws_small (kind_of c.args.kind) c.args.n c.requires.1))) in
+    let small = draws_small (kind_of c.args.kind) c.args.n c.requires.1 in
+    let few : c.args.count * c.gate_draws.result ≤ 65535 * 465 =
+    few_times c.args.count _ 465 c.requires.0 (omega (arith, c.gate_draws.ensures, small)) in
     record { fits = omega (arith, few) }
 
 pub returns : goal.returns
 returns c =
-    let few : c.args.count * c.gate_draws.result ≤ 65535 * 465 = (few_times c.args.count _ 465 c.requires.0
-    (omega (arith, c.gate_draws.ensures, draws_small (kind_of c.args.kind) c.args.n c.requires.1))) in
+    let small = draws_small (kind_of c.args.kind) c.args.n c.requires.1 in
+    let few : c.args.count * c.gate_draws.result ≤ 65535 * 465 =
+    few_times c.args.count _ 465 c.requires.0 (omega (arith, c.gate_draws.ensures, small)) in
     (ap (λ (y : ℕ). c.args.count * y) c.gate_draws.ensures, few)

@@ -13,10 +13,14 @@ gate_cost-requires c = (c.requires.1, c.requires.2)
 
 pub overflow_mul-result : goal.overflow_mul-result
 overflow_mul-result c =
-    let few : c.args.count * c.gate_cost.result ≤ 65535 * 3289 = (few_times c.args.count _ 3289 c.requires.0 (omega (arith, c.gate_cost.ensures, cost_small (kind_of c.args.kind) c.args.n c.requires.2))) in
+    let small = cost_small (kind_of c.args.kind) c.args.n c.requires.2 in
+    let few : c.args.count * c.gate_cost.result ≤ 65535 * 3289 =
+    few_times c.args.count _ 3289 c.requires.0 (omega (arith, c.gate_cost.ensures, small)) in
     record { fits = omega (arith, few) }
 
 pub returns : goal.returns
 returns c =
-    let few : c.args.count * c.gate_cost.result ≤ 65535 * 3289 = (few_times c.args.count _ 3289 c.requires.0 (omega (arith, c.gate_cost.ensures, cost_small (kind_of c.args.kind) c.args.n c.requires.2))) in
+    let small = cost_small (kind_of c.args.kind) c.args.n c.requires.2 in
+    let few : c.args.count * c.gate_cost.result ≤ 65535 * 3289 =
+    few_times c.args.count _ 3289 c.requires.0 (omega (arith, c.gate_cost.ensures, small)) in
     (ap (λ (y : ℕ). c.args.count * y) c.gate_cost.ensures, few)

@@ -3,7 +3,6 @@
 use mathlib.Core.Path.{◌≡◌}
 use Prim.Native.Nat.{◌+◌, ◌*◌}
 use native.Mathlib.Omega.{arith}
-use borrow.Author.Rules.{rules}
 use Rattle.construction.specs.Shares.{shares_of}
 use Rattle.planning.proofs.Planning.{few_times, few_total_wires, few_total_draws, totals_at}
 use Rattle.planning.proofs.masked_sizes.Goals as goal

@@ -2,7 +2,6 @@
 -- Assumes nothing.
 use mathlib.Core.Path.{sym, ◌∙◌}
 use native.Mathlib.Omega.{arith}
-use borrow.Author.Rules.{rules}
 use Rattle.planning.proofs.Planning.{planned_large, planned_small}
 use Rattle.planning.proofs.plan_sizes.Goals as goal
 

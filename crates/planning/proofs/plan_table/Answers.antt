@@ -1,6 +1,5 @@
 -- `planning::plan_table` meets its contract: one of 1 to 7, or 8 or the plan by the table's masked sizes.
 -- Assumes nothing.
-use borrow.Author.Rules.{rules}
 use Rattle.planning.proofs.Planning.{tallied_as, seven_refused, planned_tally}
 use Rattle.planning.proofs.plan_table.Goals as goal
 

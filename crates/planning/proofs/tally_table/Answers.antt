@@ -2,7 +2,6 @@
 -- Assumes nothing.
 use mathlib.Core.Path.{ap, sym, ◌∙◌}
 use native.Mathlib.Omega.{arith}
-use borrow.Author.Rules.{rules}
 use Rattle.tables.specs.declared.Counts as DCounts
 use Rattle.tables.proofs.Answers.{refused_passed}
 use Rattle.tables.proofs.Accept.{accepted_long, has_gates, inputs_of, gates_of_length, outputs_of_length}
@@ -29,29 +28,25 @@ count_kinds-counts-requires c =
     has_gates _ (refused_passed c.table_fault-found.ensures c.if-found-ne0.false) c.field-gates.ensures.0
 
 pub random_fault-random-requires : goal.random_fault-random-requires
-random_fault-random-requires c =
-    (
-      has_gates _ (refused_passed c.table_fault-found.ensures c.if-found-ne0.false) c.field-gates.ensures.0,
-      ap (λ (x : DCounts.Counts). x.randoms) c.count_kinds-counts.ensures,
-    )
+random_fault-random-requires c = (
+  has_gates _ (refused_passed c.table_fault-found.ensures c.if-found-ne0.false) c.field-gates.ensures.0,
+  ap (λ (x : DCounts.Counts). x.randoms) c.count_kinds-counts.ensures,
+)
 
 pub returns-then-first-ne0 : goal.returns-then-first-ne0
-returns-then-first-ne0 c =
-    (
-      chain_refused _ _
-          (refused_passed c.table_fault-found.ensures c.if-found-ne0.false)
-          (c.first_of-first.ensures _ _ c.order_fault.ensures
-          c.random_fault-random.ensures),
-      c.if-first-ne0.true,
-    )
+returns-then-first-ne0 c = (
+  chain_refused _ _
+      (refused_passed c.table_fault-found.ensures c.if-found-ne0.false)
+      (c.first_of-first.ensures _ _ c.order_fault.ensures
+      c.random_fault-random.ensures),
+  c.if-first-ne0.true,
+)
 
 pub returns : goal.returns
 returns c =
-    let accept : Maskable c.args.table.now c.args.order = (maskable _ _
-    (refused_passed c.table_fault-found.ensures c.if-found-ne0.false)
-    (c.first_of-first.ensures _ _ c.order_fault.ensures
-    c.random_fault-random.ensures)
-    c.if-first-ne0.false) in
+    let passed = refused_passed c.table_fault-found.ensures c.if-found-ne0.false in
+    let first = c.first_of-first.ensures _ _ c.order_fault.ensures c.random_fault-random.ensures in
+    let accept : Maskable c.args.table.now c.args.order = maskable _ _ passed first c.if-first-ne0.false in
     let s = c.args.table.now in
     let counts = c.count_kinds-counts.ensures in (
       accept,

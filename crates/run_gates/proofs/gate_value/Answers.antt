@@ -4,7 +4,6 @@ use mathlib.Core.Path.{refl}
 use Prim.Native.Nat.{◌≤◌}
 use native.Mathlib.Omega.{arith}
 use Rattle.run_gates.proofs.Gate.{says_random, says_constant, says_truth}
-use borrow.Author.Rules.{rules}
 use Rattle.run_gates.proofs.gate_value.Goals as goal
 
 pub tape_bit-requires : goal.tape_bit-requires

@@ -1,7 +1,6 @@
 -- `text::put_all` meets its contract: nothing, or all of the bytes.
 -- Assumes nothing.
 use Rattle.text.proofs.Writing.{all_short, all_put}
-use borrow.Author.Rules.{rules}
 use Rattle.text.proofs.put_all.Goals as goal
 
 pub returns-then-out-src : goal.returns-then-out-src

@@ -5,7 +5,6 @@ use native.Mathlib.Omega.{arith}
 use lib.ListN.{length-append}
 use Rattle.text.specs.Text.{decimal}
 use Rattle.text.proofs.Writing.{next_room, puts_then}
-use borrow.Author.Rules.{rules}
 use Rattle.text.proofs.put_two.Goals as goal
 
 pub put_number-next-requires : goal.put_number-next-requires

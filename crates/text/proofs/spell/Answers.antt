@@ -1,8 +1,8 @@
--- `text::spell` meets its contract: the digits of the rest are left, for the places up to i.
+-- `text::spell` meets its contract.
 -- Assumes nothing.
 use borrow.Author.Rules.{rules}
 use mathlib.Core.Path.{sym, ◌∙◌}
-use Rattle.text.proofs.Writing.{Spelling, spelling_start, spelling_place, spelling_turn, spelling_end}
+use Rattle.text.proofs.Writing.{spelling_start, spelling_place, spelling_turn, spelling_end}
 use Rattle.text.proofs.spell.Goals as goal
 
 pub loop-rest-init : goal.loop-rest-init
