@@ -24,8 +24,8 @@ need() {
 
 # Temporary files: the folder temporary with scratch in it, which nobody else enters, and a file that is renamed when it is whole.
 temporary='' scratch='' beside=''
-# The process group of what runs apart, the process that tells how far it is, and the one that reads a file.
-group='' watcher='' reader=''
+# The process group of what runs apart, and the process that reads a file.
+group='' reader=''
 
 # Ends what runs apart and removes the temporary files; it may be called twice, as an interrupt may come while it runs.
 clean() {
@@ -37,8 +37,7 @@ clean() {
         wait "$group" 2>/dev/null
         kill -s KILL -- "$1" "-$group" 2>/dev/null
     fi
-    # shellcheck disable=SC2086
-    [ -z "$watcher$reader" ] || kill $watcher $reader 2>/dev/null
+    [ -z "$reader" ] || kill "$reader" 2>/dev/null
     [ -z "$beside" ] || rm -f -- "$beside"
     # what was just ended may still have written there
     [ -z "$temporary" ] || rm -rf -- "$temporary" 2>/dev/null || { sleep 0.2 && rm -rf -- "$temporary"; }

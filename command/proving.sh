@@ -64,9 +64,9 @@ newline='
 # Proves and builds those of these files that are not there.
 build_missing() {
     need rt "the Rattle toolchain proves and builds what is not built from these sources:$missing"
-    need cc "a C compiler links the programs"
+    need cc "a C compiler links the shared library"
     case $home in *"$newline"*) die "not built, and rt cannot work in a folder with a line feed in its name:$missing" ;; esac
-    for name in . target built; do
+    for name in . built crates/* crates/*/out; do
         if [ -e "$name" ] && [ ! -w "$name" ]; then die "not built, and '$home$name' is not writable:$missing"; fi
     done
     # whoever had the lock may have built them meanwhile
@@ -83,20 +83,16 @@ build_all() {
     lend_temporary
     find_toolchain
     # shellcheck disable=SC2046,SC2086
-    begin_watch $(crates_of $1)
+    begin_count $(crates_of $1)
     build_part "$1" "$first"
     build_part "$1" "$rest"
-    end_watch
 }
 
 # Proves and builds those of some files that are of a part, and keeps them.
 build_part() {
     names=''
     for name in $2; do
-        case "$1 " in *" $name "*) ;; *) continue ;; esac
-        names="$names $name"
-        # a program is removed so that rt links it anew, whatever is there
-        rm -f "target/bin/$name" "target/stamp/$name"
+        case "$1 " in *" $name "*) names="$names $name" ;; esac
     done
     [ -n "$names" ] || return 0
     # shellcheck disable=SC2046,SC2086
@@ -116,9 +112,9 @@ crates_of() {
     done
 }
 
-# Ends where crates/ has a file that rt would read and the key does not cover.
+# Ends where crates/ has a file that rt would read and the key does not cover; what rt itself makes is in each crate's out/.
 no_strangers() {
-    strange=$(find -L crates -name '*.rt' -o -name '*.antt' | LC_ALL=C sort | awk 'NR == FNR { known[$0]; next } !($0 in known)' "$scratch/files" -)
+    strange=$(find -L crates -path 'crates/*/out' ! -path 'crates/*/*/out' -prune -o \( -name '*.rt' -o -name '*.antt' \) -print | LC_ALL=C sort | awk 'NR == FNR { known[$0]; next } !($0 in known)' "$scratch/files" -)
     [ -z "$strange" ] || die "not built, as it is no file of the project (git does not track it): $(printf '%s\n' "$strange" | head -n 1)"
 }
 
@@ -144,7 +140,8 @@ unlock() {
 plan() {
     awk -v names="$*" '
         { sub(/#.*/, ""); at = index($0, ":") }
-        at { name = substr($0, 1, at - 1); needs[name] = substr($0, at + 1) }
+        # what a crate is, such as staticlib, may stand after its name
+        at { split(substr($0, 1, at - 1), words, " "); name = words[1]; needs[name] = substr($0, at + 1) }
         function add(name,    words, count, i) {
             if (!(name in needs) || name in seen) return
             seen[name] = 1
@@ -157,74 +154,69 @@ plan() {
 
 # Warns of another toolchain than the one that these sources are for; sets its version.
 find_toolchain() {
-    toolchain=$(rt --version) || die "'rt --version' failed"
+    toolchain=$(rt version) || die "'rt version' failed"
     [ "$toolchain" = "$(cat toolchain.txt)" ] ||
         say "warning: rt is '$toolchain', and these proofs are for '$(cat toolchain.txt)': they may fail"
 }
 
-# Proves these crates and what they depend on.
+# Begins to count these crates and what they depend on, as they are proved.
+begin_count() {
+    seen=' ' count=0 total=$(plan "$@" | wc -l)
+}
+
+# Proves these crates and what they depend on, lowest first, and builds them; each once.
 prove() {
-    begin_apart rt check "$@" >"$scratch/rt" 2>&1
-    wait "$group"
-    status=$?
-    group=''
-    [ "$status" -eq 0 ] || not_proved "rt check $*"
-}
-
-# Begins to tell how far the proofs of these crates are, and of those that they depend on.
-begin_watch() {
-    list=$(plan "$@")
-    rm -f target/log/*.res "$scratch/proved"
-    watch "$list" 9<&- &
-    watcher=$!
-}
-
-# Has what is left told, and ends that.
-end_watch() {
-    : >"$scratch/proved"
-    wait "$watcher"
-    watcher=''
-}
-
-# Tells each crate of a list once, as rt begins to prove it, or that it was proved before: rt writes target/log/CRATE.res, with 'failed'
-# in it until the crate is proved, and removes target/stamp/CRATE unless that says that nothing changed.
-watch() {
-    seen=' ' count=0 total=$(printf '%s\n' "$1" | wc -l) ended=''
-    while [ -z "$ended" ]; do
-        # whoever loses its parent gets another
-        read -r stat </proc/self/stat
-        case ${stat##*)} in " "?" $$ "*) ;; *) break ;; esac
-        [ ! -e "$scratch/proved" ] || ended=yes
-        for crate in $1; do
-            case $seen in *" $crate "*) continue ;; esac
-            { read -r state <"target/log/$crate.res"; } 2>/dev/null || continue
-            if [ "$state" = failed ] && [ -e "target/stamp/$crate" ]; then continue; fi
-            seen="$seen$crate " count=$((count + 1))
-            if [ "$state" = failed ]; then progress "proving $crate, $count of $total"; else progress "$crate was proved before, $count of $total"; fi
-        done
-        [ -n "$ended" ] || sleep 0.2
+    for crate in $(plan "$@"); do
+        case $seen in *" $crate "*) continue ;; esac
+        seen="$seen$crate " count=$((count + 1))
+        prove_crate "$crate"
     done
 }
 
-# Ends with what rt said.
+# Proves a crate over what it depends on, and builds it: a library for those above it, the archive, or a program, which rt runs too.
+# Tells that it is proved now, or that it was before: rt removes the stamp of a library that it is about to prove.
+prove_crate() {
+    verb=lib stamp=crates/$1/out/rlib/stamp
+    if [ -e "crates/$1/src/main.rt" ]; then
+        # a program is removed so that rt links it anew, whatever is there
+        verb=run && rm -f "crates/$1/out/$1" "crates/$1/out/$1.stamp"
+    fi
+    rm -f "$scratch/ended"
+    # shellcheck disable=SC2016
+    begin_apart sh -c '
+        cd "$1" || exit
+        # what rt says is on standard error where it runs a program
+        if [ "$2" = run ]; then rt run <stdin >/dev/null 2>"$3/rt"; else rt lib >"$3/rt" 2>&1; fi
+        status=$?
+        : >"$3/ended"
+        exit "$status"' sh "crates/$1" "$verb" "$scratch"
+    while [ -e "$stamp" ] && [ ! -e "$scratch/ended" ]; do sleep 0.1; done
+    told=''
+    [ -e "$scratch/ended" ] || { told=yes && progress "proving $1, $count of $total"; }
+    wait "$group"
+    status=$?
+    group=''
+    [ "$status" -eq 0 ] || not_proved "$1"
+    [ -n "$told" ] || progress "$1 was proved before, $count of $total"
+}
+
+# Ends with what rt said of a crate.
 not_proved() {
-    grep -e 'NOT PROVED' -e 'FAILED' "$scratch/rt" >&3 || tail -n 3 "$scratch/rt" >&3
-    die "'$1' failed; target/log/ has all that it said"
+    { mkdir -p built && cp "$scratch/rt" built/log; } 2>/dev/null
+    grep -E '^(fn [^ ]+: no|error)' "$scratch/rt" >&3 || tail -n 3 "$scratch/rt" >&3
+    die "'rt $verb' failed in crates/$1; built/log has all that it said"
 }
 
 # Makes a file that was proved, from what rt built; sets from, where it is.
 make_file() {
-    from=target/bin/$1
     case $1 in
-    libmasks_c.a)
-        apart rt staticlib masks_c >"$scratch/rt" 2>&1 || not_proved "rt staticlib masks_c"
-        from=target/staticlib/$1
-        ;;
+    libmasks_c.a) from=crates/masks_c/out/$1 ;;
     lib*)
         from=$scratch/$1
         is_kept libmasks_c.a || die "the shared library cannot be linked: there is no archive in $kept"
         link_shared "$kept/libmasks_c.a" include/masks.h "$from" || die "the shared library cannot be linked: $(head -n 1 "$scratch/told")"
         ;;
+    *) from=crates/$1/out/$1 ;;
     esac
 }
 

@@ -64,11 +64,19 @@ fail() {
     exit 1
 }
 
+# Ends where rt ci said that an edit is bad, one that could not be applied or read: it passes all the same there.
+no_bad_edits() {
+    edits=$(grep '^rt: ok; .*must-fail edits: ' "$scratch/rt" | tail -n 1)
+    [ -n "$edits" ] || fail "rt ci does not tell how many edits it refused"
+    bad=$(printf '%s\n' "$edits" | sed -n 's/.*, \([0-9][0-9]*\) bad[;,].*/\1/p')
+    [ "${bad:-0}" -eq 0 ] || fail "edits that must be refused are bad, and show nothing: $bad"
+}
+
 # Checks everything. The last line is that of `rt ci`, 'N passed, 0 failed', and only where everything passed.
 test_all() {
     in_project
     need rt "the Rattle toolchain checks the proofs"
-    need cc "a C compiler links the programs"
+    need cc "a C compiler links the shared library"
     need cargo "Rust's cargo builds the comparison"
     start
     if command -v shellcheck >/dev/null; then
@@ -76,7 +84,6 @@ test_all() {
     else
         echo "shellcheck is not on this machine: the script is not checked by it"
     fi
-    apart rt fmt --check 2>&3 || fail "some files are not in the layout of 'rt fmt'"
     lock
     find_toolchain
     find_key
@@ -93,6 +100,10 @@ test_all() {
     0:[1-9]*" passed, 0 failed") ;;
     *) fail "the proofs did not pass" ;;
     esac
+    no_bad_edits
+    # rt ci builds the programs, and proves the archive without building it
+    begin_count masks_c
+    prove masks_c
     # shellcheck disable=SC2086
     keep $all
     unlock
