@@ -4,7 +4,7 @@
 //!     compare fuzz SECONDS [--seed N]   generated cases for so long, from the clock's seed or N
 //!     compare case CALL SEED            one generated case again, shown in full
 //!     compare line FILE                 the line that the forecast program prints for an input
-//!     compare programs                  tests the programs in target/bin, ./fantzori and the pages
+//!     compare programs                  tests the programs that rt built, ./fantzori and the pages
 //!     compare commands [GROUP]          tests the commands of ./fantzori alone, or a group of them
 //!     compare building                  tests what it builds and installs alone
 //!     compare pages                     tests the pages alone

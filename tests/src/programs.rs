@@ -1,4 +1,4 @@
-//! Tests of the programs in target/bin: mask, forecast, sizes and show against the functions of this
+//! Tests of the programs that rt built: mask, forecast, sizes and show against the functions of this
 //! crate, and the tables under examples/ through the programs and the archive.
 
 use std::io::{Read, Write};
@@ -188,7 +188,7 @@ impl Written {
     }
 }
 
-/// A program in target/bin.
+/// A program as rt built it, in its crate's folder.
 struct Program {
     name: &'static str,
     path: PathBuf,
@@ -196,11 +196,11 @@ struct Program {
 
 impl Program {
     fn find(name: &'static str) -> Result<Self, String> {
-        let path = root().join("target/bin").join(name);
+        let path = root().join(format!("crates/{name}/out/{name}"));
         if path.is_file() {
             Ok(Program { name, path })
         } else {
-            Err(format!("FAILED: there is no target/bin/{name}: 'rt check {name}' builds it"))
+            Err(format!("FAILED: there is no {}: 'rt ci' builds it", path.display()))
         }
     }
 

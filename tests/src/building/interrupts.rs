@@ -7,7 +7,8 @@ use std::process::ChildStderr;
 use std::time::{Duration, Instant};
 use std::{fs, thread};
 
-use super::{Project, SOURCES};
+use super::keeping::add_line;
+use super::{Project, sources};
 use crate::running::{Folder, Ran, Started, at_terminal, ensure};
 
 const PROVES: &str = "fantzori: proving tables, 1 of ";
@@ -16,7 +17,10 @@ const WAITS: &str = "fantzori: another ./fantzori is proving here: waiting for i
 /// Each signal while a command proves, and one while another waits for it; meanwhile nobody else
 /// can read its table.
 pub fn test(folder: &Folder) -> Result<(), String> {
-    let project = Project::copy(folder, "nothing built", &SOURCES)?;
+    let project = Project::copy(folder, "nothing built", &sources()?)?;
+    // What rt proved of these sources elsewhere on this machine it would take from there.
+    add_line(&project.path.join("crates/tables/src/lib.rt"), "// more")
+        .map_err(|error| project.told(error))?;
     for (signal, status) in [("TERM", 143), ("INT", 130), ("HUP", 129), ("QUIT", 131)] {
         let proves = Begun::new(folder, &project, "temporary", PROVES)?;
         // So that the prover has begun to write.
@@ -179,6 +183,8 @@ fn ensure_ended(folder: &Folder, project: &Project) -> Result<(), String> {
     }
     let written = folder.path("not there").exists();
     if left.is_empty() && !written {
+        // Whatever rt had proved meanwhile, the next command proves the first crate again.
+        drop(fs::remove_dir_all(project.path.join("crates/tables/out/rlib")));
         return Ok(());
     }
     Err(format!("FAILED: after an interrupt OUT is written: {written}; left are {left:?}"))

@@ -64,7 +64,7 @@ fn ensure_not_run(folder: &Folder, ran: &Ran) -> Result<(), String> {
 type Change<'a> = (&'a str, &'a dyn Fn(&Project) -> std::io::Result<()>);
 
 /// Adds a line to a file.
-fn add_line(path: &Path, line: &str) -> std::io::Result<()> {
+pub fn add_line(path: &Path, line: &str) -> std::io::Result<()> {
     let text = fs::read_to_string(path)?;
     fs::write(path, text + line + "\n")
 }
@@ -126,7 +126,7 @@ pub fn built_again(folder: &Folder, project: &Project) -> Result<(), String> {
         .map_err(|error| project.told(error))?;
     shows()?;
     project.remove_part("built")?;
-    fs::write(project.path.join("target/bin/show"), &script)
+    fs::write(project.path.join("crates/show/out/show"), &script)
         .map_err(|error| project.told(error))?;
     shows()
 }

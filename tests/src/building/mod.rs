@@ -10,7 +10,7 @@ mod together;
 
 use std::path::{Path, PathBuf};
 use std::process::Command;
-use std::{env, fs};
+use std::{env, fs, io};
 
 use compare::examples::the_and;
 use compare::model::{self, And};
@@ -38,7 +38,7 @@ pub fn test() -> Result<(), String> {
     println!("building: a project that cannot be written, links, spaces, a line feed");
     installing::test(&folder, &tools)?;
     println!("building: install, the installed command, installs beside it, uninstall");
-    let project = Project::copy(&folder, "with target", &[&SOURCES[..], &OTHERS].concat())?;
+    let project = Project::copy(&folder, "with out", &[sources()?, made()?].concat())?;
     keeping::built_again(&folder, &project)?;
     keeping::other_toolchain(&project)?;
     println!("building: a changed program is built again, and another toolchain is told");
@@ -64,9 +64,41 @@ fn fuzzes(folder: &Folder) -> Result<(), String> {
 /// What is copied of the project: what the programs are proved from, and what is installed.
 const SOURCES: [&str; 7] =
     ["fantzori", "command", "crates", "crates.txt", "toolchain.txt", "include", "docs"];
-/// What was built, and what rt keeps so that nothing is proved twice.
-const OTHERS: [&str; 6] =
-    ["built", "target/rlib", "target/stamp", "target/log", "target/bin", "target/obj"];
+
+/// The same, without what rt made in each crate's out/.
+fn sources() -> Result<Vec<String>, String> {
+    let mut parts: Vec<String> =
+        SOURCES.into_iter().filter(|&part| part != "crates").map(String::from).collect();
+    for crate_name in names_in("crates")? {
+        let folder = format!("crates/{crate_name}");
+        let own = names_in(&folder)?.into_iter().filter(|name| name != "out");
+        parts.extend(own.map(|name| format!("{folder}/{name}")));
+    }
+    Ok(parts)
+}
+
+/// What was built, and what rt keeps so that nothing is proved twice: the libraries, and all of the
+/// programs and the archive.
+fn made() -> Result<Vec<String>, String> {
+    let mut parts = vec!["built".to_string()];
+    for crate_name in names_in("crates")? {
+        let out = format!("crates/{crate_name}/out");
+        let is_whole = ["mask", "forecast", "sizes", "show", "masks_c"].contains(&&*crate_name);
+        let part = if is_whole { out } else { out + "/rlib" };
+        parts.extend(root().join(&part).exists().then_some(part));
+    }
+    Ok(parts)
+}
+
+/// The names in a folder of the project.
+fn names_in(folder: &str) -> Result<Vec<String>, String> {
+    let told = |error| format!("FAILED: {folder}: {error}");
+    let entries = fs::read_dir(root().join(folder)).map_err(told)?;
+    let name = |entry: io::Result<fs::DirEntry>| {
+        entry.map(|entry| entry.file_name().to_string_lossy().into_owned())
+    };
+    entries.map(name).collect::<Result<_, _>>().map_err(told)
+}
 
 /// A copy of the project.
 struct Project {
@@ -77,7 +109,7 @@ struct Project {
 
 impl Project {
     /// Copies parts of the project into a new folder.
-    fn copy(folder: &Folder, name: &str, parts: &[&str]) -> Result<Self, String> {
+    fn copy(folder: &Folder, name: &str, parts: &[String]) -> Result<Self, String> {
         let path = folder.path(name);
         fs::create_dir(&path).map_err(|error| folder.told(error))?;
         let mut copy = Command::new("cp");
@@ -89,7 +121,7 @@ impl Project {
 
     /// The sources and what was built from them.
     fn built(folder: &Folder, name: &str) -> Result<Self, String> {
-        Project::copy(folder, name, &[&SOURCES[..], &["built"]].concat())
+        Project::copy(folder, name, &[sources()?, vec!["built".into()]].concat())
     }
 
     /// The same project in another folder.

@@ -37,7 +37,7 @@ fn today() -> Result<String, String> {
 
 /// The toolchain that proved the programs.
 fn toolchain() -> Result<String, String> {
-    let ran = Ran::of(Command::new("rt").arg("--version"))?;
+    let ran = Ran::of(Command::new("rt").arg("version"))?;
     ensure(ran.is_done(), &ran, "rt has no version")?;
     Ok(ran.out.trim().into())
 }
