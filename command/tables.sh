@@ -142,36 +142,43 @@ find_sizes() {
     line="$1 $2 $3 $4" wires=$2 masked_outputs=$5 fits=$6
 }
 
-# Masks scratch/table into a file.
+# Masks scratch/table into a file. Fails with 1, the status of a program that could not write all, where it may be cut.
 run_mask() {
     order_and_table "$and_byte" | "$kept/mask" >"$1" 2>"$scratch/told"
     status=$?
     if read -r told number place <"$scratch/told" && [ "$told" = refused ]; then
         refused "$number" "$place"
     fi
-    [ "$status" -eq 0 ] || die "'$kept/mask' failed with status $status"
+    [ "$status" -le 1 ] || die "'$kept/mask' failed with status $status"
+    return "$status"
 }
 
 # Masks scratch/table into a file, and compares the sizes of what was written with the forecast.
 write_masked() {
     run_mask "$1"
+    status=$?
     count_kinds "$1"
     shares=$((2 * order + 1)) masked_wires=$((inputs + gates)) masked_bytes=$(wc -c <"$1")
     tape_bits=$((2 * order * inputs / shares + randoms))
     written="$shares $masked_wires $tape_bits $masked_bytes"
     find_sizes
     [ "$written" = "$line" ] || die "the masked table has the sizes $written, not $line as forecast: is the disk full?"
+    [ "$status" -eq 0 ] || die "'$kept/mask' failed with status $status"
     plain_sum=$(sha256 <"$scratch/table") masked_sum=$(sha256 <"$1")
 }
 
 # Lists a table in a file by the show program, or tells its refusal.
 write_listing() {
-    "$kept/show" <"$1" >"$2" || die "'$kept/show' failed"
+    "$kept/show" <"$1" >"$2"
+    # with 1 it could not write all
+    status=$?
+    [ "$status" -le 1 ] || die "'$kept/show' failed"
     if read -r told number place <"$2" && [ "$told" = refused ]; then
         refused "$number" "$place"
     fi
     sizes_of "$1"
     [ "$(wc -l <"$2")" -eq $((1 + gates + outputs)) ] || die "the listing could not be written whole: is there no room in $scratch?"
+    [ "$status" -eq 0 ] || die "'$kept/show' failed"
 }
 
 # So many of something, by its name in the singular.
