@@ -1,12 +1,13 @@
-// Reads an order byte and then a table from standard input, and prints the line of its forecast.
+// Reads an order byte and then a table from standard input, and prints the line of its forecast. A read or a write that fails ends it
+// with the error, status 1.
 #![tactic(auto)]
 
-use libc::{STDIN_FILENO, STDOUT_FILENO};
+use std::io;
 
-fn main() {
+fn main(rt: HostRuntime) -> io::Result<()> {
     let mut input = [0u8; 65537];
-    let read = io::read_full(STDIN_FILENO, &mut input);
+    let read = whole_input::read_full(&mut rt.stdin(), &mut input)?;
     let mut line = [0u8; 64];
     let long = forecasting::forecast_line(&input[..read], &mut line);
-    io::write_all(STDOUT_FILENO, &line[..long]);
+    rt.write_all(&line[..long])
 }
