@@ -17,15 +17,19 @@ fn report(rt: &HostRuntime, number: u32, place: u32) -> io::Result<()> {
     rt.stderr().write_all(&line[..long])
 }
 
-fn main(rt: HostRuntime) -> io::Result<()> {
-    let mut input = [0u8; tables::LONGEST + 3];
-    let read = whole_input::read_full(&mut rt.stdin(), &mut input)?;
-    let mut masked = [0u8; tables::LONGEST];
-    let answer = masking::mask_input(&input[..read], &mut masked);
+// Writes the masked table, by way of the lent bytes, or the line of its refusal.
+fn write_masked(rt: &HostRuntime, input: &[u8], masked: &mut [u8; tables::LONGEST]) -> io::Result<()> {
+    let answer = masking::mask_input(input, masked);
     if answer.number != 0 {
-        return report(&rt, answer.number as u32, answer.place);
+        return report(rt, answer.number as u32, answer.place);
     }
     let long = answer.value as usize;
     rt.write_all(&masked[..long]).ok();
     Ok(())
+}
+
+fn main(rt: HostRuntime) -> io::Result<()> {
+    let mut input = [0u8; tables::LONGEST + 3];
+    let read = whole_input::read_full(&mut rt.stdin(), &mut input)?;
+    write_masked(&rt, &input[..read], &mut [0u8; tables::LONGEST])
 }
