@@ -30,7 +30,7 @@ fn block_end(from: usize, gates: usize) -> usize
 }
 
 // 1 where a byte is a kind, else 0: a number, so that a sum over kinds needs no branch.
-fn is_kind(byte: u8, kind: u8) -> u8
+pub fn is_kind(byte: u8, kind: u8) -> u8
     requires { kind ≤ 5 }
     ensures { (result ≡ of_kind kind (kind_of byte)) × (result ≤ 1) }
 {
