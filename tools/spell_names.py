@@ -16,7 +16,7 @@ TOKEN = re.compile(r"[^\s(){};,\[\].«»\"`|]+")
 DECLARED = re.compile(r"^\s*(?:abbrev |unfoldable |pub )*([^\s(){};,\[\].«»]+) :(?: |$)")
 HEAD = re.compile(r"^\s*(?:pub )?(record|data) ([^\s(){};,]+)")
 MEMBER = re.compile(r"^  (?:pub )?((?:[^\s(){};,:]+ )+):(?: |$)")
-APART = {"xor_all": "xor_all_lem", "in_bytes": "in_bytes_lem", "bit-xor": "bit_xor_lem", "bit-and": "bit_and_lem"}
+APART = {"xor_all": "xor_all_lem", "in_bytes": "in_bytes_lem", "bit-xor": "bit_xor_lem", "bit-and": "bit_and_lem", "with-pins": "with_pins"}
 TAKEN = set()
 
 

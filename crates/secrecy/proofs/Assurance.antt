@@ -390,7 +390,7 @@ module _ (a : DAnd.And) where
         assured : Assured G s o xs ys ts ps c
         assured =
             record {
-              with_pins_lem =
+              with_pins =
                   subst (λ (m : Table). ReadAlike G s o xs ys ts ps c (of_each (probe_reads m) ps))
                   (sym (ap table_of is ∙ ((demands a).written_back s o h.plain).read_back))
                   (read_alike probe_reads hides_pins (pins_below (lawful a) plain o accepted ps probes_below));

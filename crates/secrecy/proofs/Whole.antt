@@ -245,7 +245,7 @@ module _ (a : DAnd.And) where
         third =
             record {
               tapes = bits_once;
-              with_pins_lem = λ s o h.
+              with_pins = λ s o h.
                   let P = accepted_is s o h in
                   hides (hiding a) (table_of s) o (covers_pins (lawful a) (table_of s) o P) P;
               single_values = λ s o h. hides (hiding a) (table_of s) o (covers_single (lawful a) (table_of s) o) (accepted_is s o h);
@@ -261,7 +261,7 @@ module _ (a : DAnd.And) where
         third =
             record {
               tapes = bytes_once;
-              with_pins_lem = λ s o h. hides_packed (gadget_of a) (probe_marks (gadget_of a)) probe_reads (table_of s) o (demands.third.with_pins_lem s o h);
+              with_pins = λ s o h. hides_packed (gadget_of a) (probe_marks (gadget_of a)) probe_reads (table_of s) o (demands.third.with_pins s o h);
               single_values = λ s o h. hides_packed (gadget_of a) (wire_marks (gadget_of a)) single (table_of s) o (demands.third.single_values s o h);
             };
       }

@@ -112,7 +112,7 @@ pub record ReadAlike (G : Gadget) (s : List ℕ) (o : ℕ) (xs ys ts ps : List �
 -- what then holds of the bytes that the calls left
 pub record Assured (G : Gadget) (s : List ℕ) (o : ℕ) (xs ys ts ps : List ℕ) (c : Calls G s o xs ys ts ps) : Type 0 where
   -- "A read wire in demand 3 means all these values" (Card 9): the probed wires with their pins, and the probed wires alone
-  pub with_pins_lem : ReadAlike G s o xs ys ts ps c (of_each (probe_reads (table_of (table_written c))) ps)
+  pub with_pins : ReadAlike G s o xs ys ts ps c (of_each (probe_reads (table_of (table_written c))) ps)
   pub single_values : ReadAlike G s o xs ys ts ps c ps
   -- the buffers that mapping filled are those two runs
   pub first_run : take c.first.ran.value c.one.after ≡ written c.first.values c.first.ran

@@ -142,7 +142,7 @@ pub record WrittenBack (G : Gadget) (s : List ℕ) (o : ℕ) : Type 0 where
 pub record Third (F : ℕ → Tapes) (G : Gadget) : Type 0 where
   pub tapes : (n : ℕ) → EachOnce (F n)
   -- "A read wire in demand 3 means all these values" (Card 9): a probe's wire and its pins
-  pub with_pins_lem : (s : List ℕ) (o : ℕ) → accepted s o ≡ true → Hides F G (probe_marks G) probe_reads (table_of s) o
+  pub with_pins : (s : List ℕ) (o : ℕ) → accepted s o ≡ true → Hides F G (probe_marks G) probe_reads (table_of s) o
   -- document 01's own words, "A probe reads the value of one wire", with the marks of one wire
   pub single_values : (s : List ℕ) (o : ℕ) → accepted s o ≡ true → Hides F G (wire_marks G) single (table_of s) o
 
