@@ -5,6 +5,9 @@ ghost use Rattle.std.specs.Prelude.{◌<◌, IfOk, length, take};
 ghost use Rattle.std.specs.Io.{ReadsAtMost};
 ghost use Rattle.std.specs.Io.KnownBytes.{Consumes, IsAtEnd};
 
+#[cfg(test)]
+mod tests;
+
 use std::io;
 use std::io::Read;
 
