@@ -18,7 +18,11 @@ fn report(rt: &HostRuntime, number: u32, place: u32) -> io::Result<()> {
 }
 
 // Writes the masked table, by way of the lent bytes, or the line of its refusal.
-fn write_masked(rt: &HostRuntime, input: &[u8], masked: &mut [u8; tables::LONGEST]) -> io::Result<()> {
+fn write_masked(
+    rt: &HostRuntime,
+    input: &[u8],
+    masked: &mut [u8; tables::LONGEST],
+) -> io::Result<()> {
     let answer = masking::mask_input(input, masked);
     if answer.number != 0 {
         return report(rt, answer.number as u32, answer.place);
