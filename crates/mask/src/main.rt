@@ -1,8 +1,7 @@
 // Reads a byte that names the AND (0 document 01's, any other that of source document 002), an order byte and then a plain table from
 // standard input, and writes the masked table on standard output; or the line `refused`, number, place on standard error, and then
-// nothing on standard output. The exit status is 0 in both cases. It is 0 also where the masked table cannot be written whole: who reads
-// it compares its sizes, as ./fantzori does. A read that fails, or a refusal that cannot be written, ends it with the error, status 1. One
-// byte more than these two and the longest table have is read: a longer input and its first 458,749 bytes have the same refusal, 2 by the
+// nothing on standard output. The exit status is 0 in both cases. A read or a write that fails ends it with the error, status 1. One byte
+// more than these two and the longest table have is read: a longer input and its first 458,749 bytes have the same refusal, 2 by the
 // sizes or else 1 by the length (`cut_masked` of the crate masking). On the stack are about 1.3 MB: 458,749 bytes of input, 458,746 of
 // output, 393,216 of masking's own arrays. A masked table has at most 65,535 wires and 65,535 outputs, which the longest table's bytes
 // hold.
@@ -28,8 +27,7 @@ fn write_masked(
         return report(rt, answer.number as u32, answer.place);
     }
     let long = answer.value as usize;
-    rt.write_all(&masked[..long]).ok();
-    Ok(())
+    rt.write_all(&masked[..long])
 }
 
 fn main(rt: HostRuntime) -> io::Result<()> {
