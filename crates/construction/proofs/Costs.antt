@@ -218,4 +218,6 @@ pub masked_tape :
     {G : Gadget} (L : Lawful G) (o : ℕ) (t : Table)
     → tape_long G o t ≡ 2 * o * t.inputs + total (λ k. draws k (shares_of o)) t.gates
 unfolding tape_long masked_table
-masked_tape L o t = ap (λ (y : ℕ). 2 * o * t.inputs + y) (masked_draws L (shares_of o) 0 _ _ t.gates)
+masked_tape {G = G} L o t =
+    let drawn_by : tape_long G o t ≡ 2 * o * t.inputs + randoms (masked_table G o t).gates = refl in
+    drawn_by ∙ ap (λ (y : ℕ). 2 * o * t.inputs + y) (masked_draws L (shares_of o) 0 _ _ t.gates)

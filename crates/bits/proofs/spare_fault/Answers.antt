@@ -1,6 +1,9 @@
 -- `bits::spare_fault` meets its contract: no bit is unused, none is set, or the last byte is the place.
 -- Assumes nothing.
+use mathlib.Core.Path.{◌≡◌}
+use Prim.Native.Nat.{◌/◌, ◌%◌, ◌^◌}
 use native.Mathlib.Omega.{arith}
+use lib.ListN.{get_or}
 use Rattle.tables.specs.Packing.{spare}
 use Rattle.tables.proofs.Answers.{refused_same}
 use Rattle.bits.proofs.Spare.{spare_unset, spare_set, spare_full}
@@ -16,7 +19,9 @@ bounds-tape-bits c = omega (arith, c.requires.0, c.if-used-eq0.false)
 
 pub returns-then-tape-bits-eq0 : goal.returns-then-tape-bits-eq0
 unfolding spare
-returns-then-tape-bits-eq0 c = refused_same (spare_unset _ _ _ c.if-tape-bits-eq0.true) c.refuse-then-tape-bits-eq0.ensures
+returns-then-tape-bits-eq0 c =
+    let unset : get_or c.args.tape.now (c.args.bits / 8) 0 / 2 ^ (c.args.bits % 8) ≡ 0 = c.if-tape-bits-eq0.true in
+    refused_same (spare_unset _ _ _ unset) c.refuse-then-tape-bits-eq0.ensures
 
 pub overflow_sub-tape : goal.overflow_sub-tape
 overflow_sub-tape c = omega (arith, c.requires.0, c.if-used-eq0.false)

@@ -2,6 +2,7 @@
 -- Assumes nothing.
 use native.Mathlib.Numerals.{add-one}
 use native.Mathlib.Omega.{arith}
+use lib.Dec.{eqb, ltb}
 use borrow.Author.Tests.{eqb-true, ltb-true}
 use Rattle.tables.proofs.Accept.{gates_are}
 use Rattle.tables.proofs.Tests.{and_true}
@@ -45,7 +46,7 @@ loop-g-preserved c =
 pub returns : goal.returns
 returns c = λ none.
     let loop = c.loop-g in
-    let both = and_true _ _ none in
+    let both = and_true (eqb loop.flaws 0) (ltb loop.largest 6) none in
     let few = ltb-true loop.largest 6 both.1 in
     gates_good_end (loop.invariant.good (eqb-true loop.flaws 0 both.0) (omega (arith, few)))
     (omega (arith, c.loop-g-test.false, gates_are c.requires.0))

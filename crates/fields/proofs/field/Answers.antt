@@ -1,6 +1,7 @@
 -- `fields::field` meets its contract: each byte read is below 256.
 -- Assumes nothing.
 use Prim.Native.Nat.{◌+◌}
+use mathlib.Core.Path.{refl}
 use native.Mathlib.Numerals.{add-one}
 use native.Mathlib.Omega.{arith}
 use Rattle.fields.proofs.field.Goals as goal
@@ -24,4 +25,4 @@ overflow_add-result c =
 pub returns : goal.returns
 returns c =
     let at = c.args.at in
-    (rw add-one, omega (arith, c.shared_slice_known-2-1.given at, c.shared_slice_known-2-1.given (at + 1)))
+    (rw add-one refl, omega (arith, c.shared_slice_known-2-1.given at, c.shared_slice_known-2-1.given (at + 1)))
