@@ -2,6 +2,7 @@
 -- Assumes nothing.
 use mathlib.Core.Path.{◌≡◌}
 use mathlib.Core.Bool.{true}
+use native.Mathlib.Omega.{arith}
 use Rattle.construction.specs.Says.{order_ok, decode_fault}
 use Rattle.tables.proofs.Answers.{refused_same, refused_passed, first_of}
 use Rattle.construction.proofs.Orders.{order_passed}
@@ -14,17 +15,20 @@ returns-then-found-ne0 c = first_of _ c.order_fault-found.ensures c.if-found-ne0
 
 pub returns-then-len-gt65535 : goal.returns-then-len-gt65535
 returns-then-len-gt65535 c =
-    let ordered : order_ok c.args.order ≡ true = order_passed c.args.order (refused_passed c.order_fault-found.ensures c.if-found-ne0.false) in
+    let passed = refused_passed c.order_fault-found.ensures c.if-found-ne0.false in
+    let ordered : order_ok c.args.order ≡ true = order_passed c.args.order passed in
     refused_same (decode_many _ _ _ ordered c.if-len-gt65535.true) c.refuse.ensures
 
 pub returns-then-len-n-ne0 : goal.returns-then-len-n-ne0
 returns-then-len-n-ne0 c =
-    let ordered : order_ok c.args.order ≡ true = order_passed c.args.order (refused_passed c.order_fault-found.ensures c.if-found-ne0.false) in
-    refused_same (decode_count _ _ _ ordered c.if-len-gt65535.false c.if-len-n-ne0.true)
+    let passed = refused_passed c.order_fault-found.ensures c.if-found-ne0.false in
+    let ordered : order_ok c.args.order ≡ true = order_passed c.args.order passed in
+    refused_same (decode_count _ _ _ ordered (omega arith) c.if-len-n-ne0.true)
     c.refuse-then-len-n-ne0.ensures
 
 pub returns : goal.returns
 returns c =
-    let ordered : order_ok c.args.order ≡ true = order_passed c.args.order (refused_passed c.order_fault-found.ensures c.if-found-ne0.false) in
-    refused_same (decode_rest _ _ _ ordered c.if-len-gt65535.false c.if-len-n-ne0.false)
+    let passed = refused_passed c.order_fault-found.ensures c.if-found-ne0.false in
+    let ordered : order_ok c.args.order ≡ true = order_passed c.args.order passed in
+    refused_same (decode_rest _ _ _ ordered (omega arith) c.if-len-n-ne0.false)
     (c.first_of.ensures _ _ c.bits_fault.ensures c.refuse_if.ensures)
