@@ -1,7 +1,6 @@
 -- `running::lent_fault` meets its contract: the sizes are there to read, and the test is the definition's.
 -- Assumes nothing.
 use native.Mathlib.Omega.{arith}
-use borrow.Author.Rules.{rules}
 use Rattle.tables.proofs.Accept.{accepted_long}
 use Rattle.tables.proofs.Answers.{refused_same}
 use Rattle.running.proofs.RunFault.{lent_is}

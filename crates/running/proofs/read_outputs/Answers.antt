@@ -1,11 +1,8 @@
--- `running::read_outputs` meets its contract. The invariant: the values from output o on are left to write.
+-- `running::read_outputs` meets its contract.
 -- Assumes nothing.
-use Prim.Native.Nat.{◌-◌}
 use native.Mathlib.Numerals.{add-one}
 use native.Mathlib.Omega.{arith}
-use borrow.Author.Rules.{rules}
-use Rattle.tables.specs.Tables.{table_of}
-use Rattle.running.proofs.RunTable.{Reading, reading_start, reading_long, reading_room, reading_turn, reading_end}
+use Rattle.running.proofs.RunTable.{reading_start, reading_long, reading_room, reading_turn, reading_end}
 use Rattle.running.proofs.read_outputs.Goals as goal
 
 pub loop-o-init : goal.loop-o-init

@@ -1,6 +1,5 @@
 -- `running::run_fault` meets its contract: the three parts of the chain in turn.
 -- Assumes nothing.
-use borrow.Author.Rules.{rules}
 use Rattle.tables.specs.Says.{run_fault}
 use Rattle.tables.proofs.Answers.{refused_passed, first_of, second_of}
 use Rattle.running.proofs.run_fault.Goals as goal

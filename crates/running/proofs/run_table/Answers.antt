@@ -1,6 +1,5 @@
 -- `running::run_table` meets its contract: the first refusal, or the run.
 -- Assumes nothing.
-use borrow.Author.Rules.{rules}
 use Rattle.tables.proofs.Answers.{refused_passed}
 use Rattle.running.proofs.RunTable.{run_refused, run_done}
 use Rattle.running.proofs.run_table.Goals as goal

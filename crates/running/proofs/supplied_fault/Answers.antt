@@ -4,7 +4,6 @@ use mathlib.Core.Path.{◌≡◌, ◌∙◌, ap}
 use mathlib.Core.Bool.{not}
 use native.Mathlib.Omega.{arith}
 use lib.ListN.{length}
-use borrow.Author.Rules.{rules}
 use Rattle.tables.specs.Packing.{bytes_for}
 use Rattle.tables.proofs.Accept.{accepted_long, has_gates}
 use Rattle.tables.proofs.Answers.{refused_same}
@@ -28,25 +27,23 @@ returns-then-not-inputs-field c =
 
 pub bits_fault-requires : goal.bits_fault-requires
 bits_fault-requires c =
-    let right : (length c.args.inputs.now ≡ c.field-2.result)
-    × (length c.args.random.now
-    ≡ bytes_for c.count_three-draws.result.first) = (let args = c.args in
+    let a = c.args in
     let both =
-    counts_right (length args.inputs.now) c.field-2.result (length args.random.now) c.bytes_for-bytes.result
+    counts_right (length a.inputs.now) c.field-2.result (length a.random.now) c.bytes_for-bytes.result
     (ap not c.if-not-inputs-field.false) in
-    (both.0, both.1 ∙ c.bytes_for-bytes.ensures)) in
+    let right : (length a.inputs.now ≡ c.field-2.result) × (length a.random.now ≡ bytes_for c.count_three-draws.result.first) =
+    (both.0, both.1 ∙ c.bytes_for-bytes.ensures) in
     omega (arith, right.0, c.field-2.ensures.1)
 
 pub spare_fault-requires : goal.spare_fault-requires
 spare_fault-requires c =
-    let right : (length c.args.inputs.now ≡ c.field-2.result)
-    × (length c.args.random.now
-    ≡ bytes_for c.count_three-draws.result.first) = (let args = c.args in
+    let a = c.args in
     let both =
-    counts_right (length args.inputs.now) c.field-2.result (length args.random.now) c.bytes_for-bytes.result
+    counts_right (length a.inputs.now) c.field-2.result (length a.random.now) c.bytes_for-bytes.result
     (ap not c.if-not-inputs-field.false) in
-    (both.0, both.1 ∙ c.bytes_for-bytes.ensures)) in
-    let few = few_randoms c.args.table.now c.requires c.count_three-draws.ensures in
+    let right : (length a.inputs.now ≡ c.field-2.result) × (length a.random.now ≡ bytes_for c.count_three-draws.result.first) =
+    (both.0, both.1 ∙ c.bytes_for-bytes.ensures) in
+    let few = few_randoms a.table.now c.requires c.count_three-draws.ensures in
     (right.1, omega (arith, right.0, right.1, c.field-2.ensures.1, few))
 
 pub returns : goal.returns

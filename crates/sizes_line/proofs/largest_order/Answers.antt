@@ -1,9 +1,7 @@
--- `sizes_line::largest_order` meets its contract: the loop tries the orders from 15 down.
+-- `sizes_line::largest_order` meets its contract.
 -- Assumes nothing.
 use mathlib.Core.Path.{sym, ◌∙◌}
-use borrow.Author.Rules.{rules}
-use borrow.Author.Tests.{not-true, not-false}
-use Rattle.sizes_line.proofs.Largest.{Trying, countable_at, trying_start, trying_found, trying_next, trying_end}
+use Rattle.sizes_line.proofs.Largest.{countable_at, trying_start, trying_found, trying_next, trying_end}
 use Rattle.sizes_line.proofs.largest_order.Goals as goal
 
 pub loop-order-init : goal.loop-order-init

@@ -6,7 +6,6 @@ use native.Mathlib.Omega.{arith}
 use lib.ListN.{length-append}
 use Rattle.text.specs.Text.{decimal}
 use Rattle.text.proofs.Writing.{next_room, puts_then}
-use borrow.Author.Rules.{rules}
 use Rattle.sizes_line.specs.declared.Six as DSix
 use Rattle.sizes_line.proofs.put_later.Goals as goal
 

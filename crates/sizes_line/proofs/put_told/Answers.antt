@@ -4,7 +4,6 @@ use mathlib.Core.Path.{ap}
 use native.Mathlib.Omega.{arith}
 use lib.ListN.{length}
 use Rattle.text.proofs.Writing.{puts_as}
-use borrow.Author.Rules.{rules}
 use Rattle.sizes_line.proofs.Line.{refusal_told, six_told}
 use Rattle.sizes_line.proofs.put_told.Goals as goal
 

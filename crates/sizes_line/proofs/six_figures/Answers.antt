@@ -2,7 +2,6 @@
 -- Assumes nothing.
 use mathlib.Core.Path.{◌∙◌}
 use native.Mathlib.Omega.{arith}
-use borrow.Author.Rules.{rules}
 use Rattle.tables.specs.Tables.{table_long}
 use Rattle.construction.specs.declared.And.TheVariants.{Isw}
 use Rattle.planning.proofs.Planning.{MaskedFits, masked_fits, tally_outputs, wires_masked, gates_masked, tape_masked}
@@ -14,8 +13,7 @@ masked_sizes-masked-requires c = c.requires
 
 pub table_bytes-bytes-requires : goal.table_bytes-bytes-requires
 table_bytes-bytes-requires c =
-    let small : MaskedFits c.masked_sizes-masked.result = masked_fits c.requires c.masked_sizes-masked.ensures in
-    let m = small in
+    let m : MaskedFits c.masked_sizes-masked.result = masked_fits c.requires c.masked_sizes-masked.ensures in
     (omega (arith, m.gates), omega (arith, m.outputs, c.requires.outputs))
 
 pub largest_order-largest-requires : goal.largest_order-largest-requires
@@ -23,29 +21,28 @@ largest_order-largest-requires c = countable_at 15 (omega arith) c.requires
 
 pub overflow_cast-result : goal.overflow_cast-result
 overflow_cast-result c =
-    let small : MaskedFits c.masked_sizes-masked.result = masked_fits c.requires c.masked_sizes-masked.ensures in
-    record { fits = omega (arith, small.shares) }
+    let m : MaskedFits c.masked_sizes-masked.result = masked_fits c.requires c.masked_sizes-masked.ensures in
+    record { fits = omega (arith, m.shares) }
 
 pub overflow_cast-result-2 : goal.overflow_cast-result-2
 overflow_cast-result-2 c =
-    let small : MaskedFits c.masked_sizes-masked.result = masked_fits c.requires c.masked_sizes-masked.ensures in
-    record { fits = omega (arith, small.wires) }
+    let m : MaskedFits c.masked_sizes-masked.result = masked_fits c.requires c.masked_sizes-masked.ensures in
+    record { fits = omega (arith, m.wires) }
 
 pub overflow_cast-result-3 : goal.overflow_cast-result-3
 overflow_cast-result-3 c =
-    let small : MaskedFits c.masked_sizes-masked.result = masked_fits c.requires c.masked_sizes-masked.ensures in
-    record { fits = omega (arith, small.tape) }
+    let m : MaskedFits c.masked_sizes-masked.result = masked_fits c.requires c.masked_sizes-masked.ensures in
+    record { fits = omega (arith, m.tape) }
 
 pub overflow_cast-result-4 : goal.overflow_cast-result-4
 overflow_cast-result-4 c =
-    let small : MaskedFits c.masked_sizes-masked.result = masked_fits c.requires c.masked_sizes-masked.ensures in
-    let m = small in
+    let m : MaskedFits c.masked_sizes-masked.result = masked_fits c.requires c.masked_sizes-masked.ensures in
     record { fits = omega (arith, c.table_bytes-bytes.ensures, m.gates, m.outputs, c.requires.outputs) }
 
 pub overflow_cast-result-5 : goal.overflow_cast-result-5
 overflow_cast-result-5 c =
-    let small : MaskedFits c.masked_sizes-masked.result = masked_fits c.requires c.masked_sizes-masked.ensures in
-    record { fits = omega (arith, small.outputs, c.requires.outputs) }
+    let m : MaskedFits c.masked_sizes-masked.result = masked_fits c.requires c.masked_sizes-masked.ensures in
+    record { fits = omega (arith, m.outputs, c.requires.outputs) }
 
 pub returns : goal.returns
 returns c t T =

@@ -6,7 +6,6 @@ use lib.ListN.{length}
 use lib.Seq.{length-take-le}
 use Rattle.text.proofs.Writing.{puts_as, put_elsewhere}
 use Rattle.sizes_line.proofs.Line.{line_fits}
-use borrow.Author.Rules.{rules}
 use Rattle.sizes_line.proofs.sizes_line.Goals as goal
 
 pub put_told-long-requires : goal.put_told-long-requires

@@ -1,6 +1,5 @@
 -- `sizes_line::tell_input` meets its contract: no input, or an order byte and a table.
 -- Assumes nothing.
-use borrow.Author.Rules.{rules}
 use Rattle.sizes_line.proofs.Line.{told_empty, told_part}
 use Rattle.sizes_line.proofs.tell_input.Goals as goal
 

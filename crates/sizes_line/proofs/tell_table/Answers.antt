@@ -1,6 +1,5 @@
 -- `sizes_line::tell_table` meets its contract: one of 1 to 7, or the figures of the tally.
 -- Assumes nothing.
-use borrow.Author.Rules.{rules}
 use Rattle.planning.proofs.Planning.{tallied_as}
 use Rattle.sizes_line.proofs.Line.{told_refused, told_six}
 use Rattle.sizes_line.proofs.tell_table.Goals as goal
