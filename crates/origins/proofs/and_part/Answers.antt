@@ -1,7 +1,6 @@
 -- `origins::and_part` meets its contract: a wire before the rows is a pair's, any other is its row's product or sum.
 -- Assumes nothing.
 use native.Mathlib.Omega.{arith}
-use borrow.Author.Rules.{rules}
 use Rattle.gate_costs.proofs.Figures.{tri_small}
 use Rattle.origins.proofs.Origins.{pair_says, row_some, row_below, terms_below, own_says, sum_says}
 use Rattle.origins.proofs.and_part.Goals as goal

@@ -1,17 +1,15 @@
--- `origins::find_gate` meets its contract. The invariant, `Seeking`, says that the wire is among the new wires of the gates left.
+-- `origins::find_gate` meets its contract.
 -- Assumes nothing.
 use mathlib.Core.Path.{◌≡◌, refl, ◌∙◌}
-use Prim.Native.Nat.{◌-◌, ◌≤◌}
+use Prim.Native.Nat.{◌≤◌}
 use native.Mathlib.Omega.{arith}
-use lib.ListN.{length}
-use borrow.Author.Rules.{rules}
-use Rattle.tables.specs.Tables.{kind_of, table_of}
+use Rattle.tables.specs.Tables.{kind_of}
 use Rattle.tables.proofs.Accept.{gates_of_length, has_gates}
 use Rattle.tables.proofs.Format.{passed_sound_gates, sound_at, known_byte}
 use Rattle.construction.specs.Wires.{cost}
 use Rattle.gate_costs.proofs.Figures.{cost_small}
 use Rattle.planning.proofs.Planning.{plan_passed, plan_fits}
-use Rattle.origins.proofs.Finding.{Seeking, seek_start, seek_some, seek_turn, seek_end}
+use Rattle.origins.proofs.Finding.{seek_start, seek_some, seek_turn, seek_end}
 use Rattle.origins.proofs.find_gate.Goals as goal
 
 pub note_costs-requires : goal.note_costs-requires
@@ -30,17 +28,16 @@ gate_at-x-requires c =
 
 pub noted_cost-requires : goal.noted_cost-requires
 noted_cost-requires c =
-    let known : c.gate_at-x.result.kind ≤ 5 = (let R = c.requires.0 in
-    let sound = sound_at _ _ _ (passed_sound_gates _ (plan_passed R).table) (seek_some c.loop-costs.invariant) in
-    known_byte _ (rw c.gate_at-x.ensures.kind sound.0)) in
+    let sound = sound_at _ _ _ (passed_sound_gates _ (plan_passed c.requires.0).table) (seek_some c.loop-costs.invariant) in
+    let known : c.gate_at-x.result.kind ≤ 5 = known_byte _ (rw c.gate_at-x.ensures.kind sound.0) in
     (known, c.note_costs.ensures.0)
 
 pub overflow_add-next : goal.overflow_add-next
 overflow_add-next c =
-    let known : c.gate_at-x.result.kind ≤ 5 = (let R = c.requires.0 in
-    let sound = sound_at _ _ _ (passed_sound_gates _ (plan_passed R).table) (seek_some c.loop-costs.invariant) in
-    known_byte _ (rw c.gate_at-x.ensures.kind sound.0)) in
-    let costs : c.noted_cost.result ≡ cost (kind_of c.gate_at-x.result.kind) c.args.p.shares = c.noted_cost.ensures ∙ c.note_costs.ensures.1 _ known in
+    let sound = sound_at _ _ _ (passed_sound_gates _ (plan_passed c.requires.0).table) (seek_some c.loop-costs.invariant) in
+    let known : c.gate_at-x.result.kind ≤ 5 = known_byte _ (rw c.gate_at-x.ensures.kind sound.0) in
+    let costs : c.noted_cost.result ≡ cost (kind_of c.gate_at-x.result.kind) c.args.p.shares =
+    c.noted_cost.ensures ∙ c.note_costs.ensures.1 _ known in
     let F = plan_fits c.requires.0 in
     let few = cost_small (kind_of c.gate_at-x.result.kind) c.args.p.shares F.shares in
     record { fits = omega (arith, costs, few, c.loop-costs.invariant.past, c.requires.2, F.wires) }
@@ -50,10 +47,10 @@ overflow_sub-result c = c.loop-costs.invariant.past
 
 pub returns-then-wire-next : goal.returns-then-wire-next
 returns-then-wire-next c =
-    let known : c.gate_at-x.result.kind ≤ 5 = (let R = c.requires.0 in
-    let sound = sound_at _ _ _ (passed_sound_gates _ (plan_passed R).table) (seek_some c.loop-costs.invariant) in
-    known_byte _ (rw c.gate_at-x.ensures.kind sound.0)) in
-    let costs : c.noted_cost.result ≡ cost (kind_of c.gate_at-x.result.kind) c.args.p.shares = c.noted_cost.ensures ∙ c.note_costs.ensures.1 _ known in
+    let sound = sound_at _ _ _ (passed_sound_gates _ (plan_passed c.requires.0).table) (seek_some c.loop-costs.invariant) in
+    let known : c.gate_at-x.result.kind ≤ 5 = known_byte _ (rw c.gate_at-x.ensures.kind sound.0) in
+    let costs : c.noted_cost.result ≡ cost (kind_of c.gate_at-x.result.kind) c.args.p.shares =
+    c.noted_cost.ensures ∙ c.note_costs.ensures.1 _ known in
     seek_end c.loop-costs.invariant c.requires.0.shares c.gate_at-x.ensures.kind costs c.if-wire-next.true
 
 pub overflow_add-g : goal.overflow_add-g
@@ -73,8 +70,8 @@ loop-costs-smaller c = omega (arith, seek_some c.loop-costs.invariant)
 
 pub loop-costs-preserved : goal.loop-costs-preserved
 loop-costs-preserved c =
-    let known : c.gate_at-x.result.kind ≤ 5 = (let R = c.requires.0 in
-    let sound = sound_at _ _ _ (passed_sound_gates _ (plan_passed R).table) (seek_some c.loop-costs.invariant) in
-    known_byte _ (rw c.gate_at-x.ensures.kind sound.0)) in
-    let costs : c.noted_cost.result ≡ cost (kind_of c.gate_at-x.result.kind) c.args.p.shares = c.noted_cost.ensures ∙ c.note_costs.ensures.1 _ known in
+    let sound = sound_at _ _ _ (passed_sound_gates _ (plan_passed c.requires.0).table) (seek_some c.loop-costs.invariant) in
+    let known : c.gate_at-x.result.kind ≤ 5 = known_byte _ (rw c.gate_at-x.ensures.kind sound.0) in
+    let costs : c.noted_cost.result ≡ cost (kind_of c.gate_at-x.result.kind) c.args.p.shares =
+    c.noted_cost.ensures ∙ c.note_costs.ensures.1 _ known in
     seek_turn c.loop-costs.invariant c.gate_at-x.result.kind c.gate_at-x.ensures.kind costs c.if-wire-next.false

@@ -35,10 +35,14 @@ returns-then-kind-eq2 c =
 
 pub or_marks-requires : goal.or_marks-requires
 or_marks-requires c =
-    let other : kind_of c.args.kind ≡ OR = is_or c.args.kind c.args.n c.args.d c.requires.1 c.if-kind-eq0.false c.if-kind.false c.if-kind-eq2.false in
-    let p = c.requires in (p.0, rw other at p.1)
+    let p = c.requires in
+    let other : kind_of c.args.kind ≡ OR =
+    is_or c.args.kind c.args.n c.args.d p.1 c.if-kind-eq0.false c.if-kind.false c.if-kind-eq2.false in
+    (p.0, rw other at p.1)
 
 pub returns : goal.returns
 returns c =
-    let other : kind_of c.args.kind ≡ OR = is_or c.args.kind c.args.n c.args.d c.requires.1 c.if-kind-eq0.false c.if-kind.false c.if-kind-eq2.false in
-    or_marks c.args.kind c.args.n c.args.d c.requires.1 other c.or_marks.ensures
+    let p = c.requires in
+    let other : kind_of c.args.kind ≡ OR =
+    is_or c.args.kind c.args.n c.args.d p.1 c.if-kind-eq0.false c.if-kind.false c.if-kind-eq2.false in
+    or_marks c.args.kind c.args.n c.args.d p.1 other c.or_marks.ensures

@@ -1,7 +1,7 @@
--- `origins::pair_of` meets its contract. The invariant, `PairLeft`, says where the pair stands among the pairs left to pass.
+-- `origins::pair_of` meets its contract.
 -- Assumes nothing.
 use native.Mathlib.Omega.{arith}
-use Rattle.origins.proofs.Finding.{PairLeft, pair_start, pair_some, pair_turn, pair_end}
+use Rattle.origins.proofs.Finding.{pair_start, pair_some, pair_turn, pair_end}
 use Rattle.origins.proofs.pair_of.Goals as goal
 
 pub overflow_sub-after : goal.overflow_sub-after

@@ -1,7 +1,6 @@
 -- `origins::part_marks` meets its contract: a wire of a pair by its place in the form, a row's by its row.
 -- Assumes nothing.
 use native.Mathlib.Omega.{arith}
-use borrow.Author.Rules.{rules}
 use Rattle.origins.proofs.Carrying.{pair_among, alone_marks, cross_marks, own_among, own_marks, sum_among, sum_marks}
 use Rattle.origins.proofs.part_marks.Goals as goal
 

@@ -22,8 +22,9 @@ returns-then-kind-eq4 c =
 
 pub overflow_add-result-2 : goal.overflow_add-result-2
 overflow_add-result-2 c =
-    let is_or : c.args.kind ≡ 5 = (let p = c.requires in omega (arith, p.0, p.1.0, c.if-kind-eq4.false)) in
-    let fits : c.args.w + cost OR c.args.n ≤ 65535 = rw is_or at c.requires.4 in
+    let p = c.requires in
+    let is_or : c.args.kind ≡ 5 = omega (arith, p.0, p.1.0, c.if-kind-eq4.false) in
+    let fits : c.args.w + cost OR c.args.n ≤ 65535 = rw is_or at p.4 in
     omega (arith, fits)
 
 pub and_cost-requires : goal.and_cost-requires
@@ -31,32 +32,37 @@ and_cost-requires c = c.requires.3
 
 pub overflow_add-result-3 : goal.overflow_add-result-3
 overflow_add-result-3 c =
-    let is_or : c.args.kind ≡ 5 = (let p = c.requires in omega (arith, p.0, p.1.0, c.if-kind-eq4.false)) in
-    let fits : c.args.w + cost OR c.args.n ≤ 65535 = rw is_or at c.requires.4 in
+    let p = c.requires in
+    let is_or : c.args.kind ≡ 5 = omega (arith, p.0, p.1.0, c.if-kind-eq4.false) in
+    let fits : c.args.w + cost OR c.args.n ≤ 65535 = rw is_or at p.4 in
     omega (arith, fits, c.and_cost.ensures)
 
 pub overflow_add-w : goal.overflow_add-w
 overflow_add-w c =
-    let is_or : c.args.kind ≡ 5 = (let p = c.requires in omega (arith, p.0, p.1.0, c.if-kind-eq4.false)) in
-    let fits : c.args.w + cost OR c.args.n ≤ 65535 = rw is_or at c.requires.4 in
+    let p = c.requires in
+    let is_or : c.args.kind ≡ 5 = omega (arith, p.0, p.1.0, c.if-kind-eq4.false) in
+    let fits : c.args.w + cost OR c.args.n ≤ 65535 = rw is_or at p.4 in
     omega (arith, fits)
 
 pub and_first-requires : goal.and_first-requires
 and_first-requires c =
-    let is_or : c.args.kind ≡ 5 = (let p = c.requires in omega (arith, p.0, p.1.0, c.if-kind-eq4.false)) in
-    let fits : c.args.w + cost OR c.args.n ≤ 65535 = rw is_or at c.requires.4 in
-    let p = c.requires in (p.2, p.3, omega (arith, fits))
+    let p = c.requires in
+    let is_or : c.args.kind ≡ 5 = omega (arith, p.0, p.1.0, c.if-kind-eq4.false) in
+    let fits : c.args.w + cost OR c.args.n ≤ 65535 = rw is_or at p.4 in
+    (p.2, p.3, omega (arith, fits))
 
 pub overflow_add-result-4 : goal.overflow_add-result-4
 overflow_add-result-4 c =
-    let is_or : c.args.kind ≡ 5 = (let p = c.requires in omega (arith, p.0, p.1.0, c.if-kind-eq4.false)) in
-    let fits : c.args.w + cost OR c.args.n ≤ 65535 = rw is_or at c.requires.4 in
-    omega (arith, fits, c.and_first.ensures.1, c.requires.3, tri_small c.args.n c.requires.3)
+    let p = c.requires in
+    let is_or : c.args.kind ≡ 5 = omega (arith, p.0, p.1.0, c.if-kind-eq4.false) in
+    let fits : c.args.w + cost OR c.args.n ≤ 65535 = rw is_or at p.4 in
+    omega (arith, fits, c.and_first.ensures.1, p.3, tri_small c.args.n p.3)
 
 pub returns : goal.returns
 returns c =
-    let is_or : c.args.kind ≡ 5 = (let p = c.requires in omega (arith, p.0, p.1.0, c.if-kind-eq4.false)) in
-    let fits : c.args.w + cost OR c.args.n ≤ 65535 = rw is_or at c.requires.4 in
+    let p = c.requires in
+    let is_or : c.args.kind ≡ 5 = omega (arith, p.0, p.1.0, c.if-kind-eq4.false) in
+    let fits : c.args.w + cost OR c.args.n ≤ 65535 = rw is_or at p.4 in
     rw is_or
-    (or_places_are c.args.n c.args.w c.requires.2 c.requires.3 fits
+    (or_places_are c.args.n c.args.w p.2 p.3 fits
     c.and_first.ensures.1 c.and_cost.ensures)

@@ -8,7 +8,6 @@ use Rattle.construction.proofs.Sum.{up_length}
 use Rattle.share_places.proofs.Located.{all_shares_length}
 use Rattle.share_places.proofs.Turns.{plan_sized}
 use Rattle.share_places.proofs.Placing.{noted_room, noted_both}
-use borrow.Author.Rules.{rules}
 use Rattle.share_places.proofs.locate.Goals as goal
 
 pub place_inputs-requires : goal.place_inputs-requires

@@ -1,9 +1,9 @@
--- `share_places::place_inputs` meets its contract: the inputs before number i are noted, and the next one begins at wire n·i.
+-- `share_places::place_inputs` meets its contract.
 -- Assumes nothing.
-use Prim.Native.Nat.{◌+◌, ◌-◌, ◌≤◌}
+use Prim.Native.Nat.{◌+◌, ◌≤◌}
 use native.Mathlib.Omega.{arith}
 use Rattle.share_places.specs.Located.{Room}
-use Rattle.share_places.proofs.Placing.{Inputs, inputs_start, inputs_fit, inputs_turn, inputs_end, noted_room}
+use Rattle.share_places.proofs.Placing.{inputs_start, inputs_fit, inputs_turn, inputs_end, noted_room}
 use Rattle.share_places.proofs.place_inputs.Goals as goal
 
 pub loop-i-init : goal.loop-i-init
@@ -16,10 +16,10 @@ overflow_add-a c =
 
 pub put_places-requires : goal.put_places-requires
 put_places-requires c =
-    let fit : c.loop-i.w + c.args.p.shares ≤ 65535 = inputs_fit c.loop-i.invariant c.loop-i-test.true c.requires.1 in
-    let room : Room (c.loop-i.i + 1) c.loop-i.head c.loop-i.base c.loop-i.step = noted_room c.requires.2 c.loop-i.invariant.noted (omega (arith, c.loop-i-test.true)) in
+    let l = c.loop-i in
+    let fit : l.w + c.args.p.shares ≤ 65535 = inputs_fit l.invariant c.loop-i-test.true c.requires.1 in
+    let room : Room (l.i + 1) l.head l.base l.step = noted_room c.requires.2 l.invariant.noted (omega (arith, c.loop-i-test.true)) in
     let some = c.requires.0 in
-    let few = fit in
     (room, record { head = omega arith; base = omega (arith, some); step = omega arith })
 
 pub overflow_add-w : goal.overflow_add-w
@@ -29,7 +29,8 @@ overflow_add-w c =
 
 pub overflow_add-i : goal.overflow_add-i
 overflow_add-i c =
-    let room : Room (c.loop-i.i + 1) c.loop-i.head c.loop-i.base c.loop-i.step = noted_room c.requires.2 c.loop-i.invariant.noted (omega (arith, c.loop-i-test.true)) in
+    let l = c.loop-i in
+    let room : Room (l.i + 1) l.head l.base l.step = noted_room c.requires.2 l.invariant.noted (omega (arith, c.loop-i-test.true)) in
     omega (arith, room.heads)
 
 pub loop-i-smaller : goal.loop-i-smaller
@@ -37,9 +38,9 @@ loop-i-smaller c = omega (arith, c.loop-i-test.true)
 
 pub loop-i-preserved : goal.loop-i-preserved
 loop-i-preserved c =
-    let room : Room (c.loop-i.i + 1) c.loop-i.head c.loop-i.base c.loop-i.step = noted_room c.requires.2 c.loop-i.invariant.noted (omega (arith, c.loop-i-test.true)) in
-    let put = c.put_places.ensures in
-    inputs_turn c.loop-i.invariant c.loop-i-test.true c.requires.0 room put
+    let l = c.loop-i in
+    let room : Room (l.i + 1) l.head l.base l.step = noted_room c.requires.2 l.invariant.noted (omega (arith, c.loop-i-test.true)) in
+    inputs_turn l.invariant c.loop-i-test.true c.requires.0 room c.put_places.ensures
 
 pub shape_of-head : goal.shape_of-head
 shape_of-head c = c.loop-i.invariant.noted.heads

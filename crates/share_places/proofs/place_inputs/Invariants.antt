@@ -1,9 +1,7 @@
--- `share_places::place_inputs` meets its contract: the inputs before number i are noted, and the next one begins at wire n·i.
+-- The loop's invariant in `share_places::place_inputs`: the inputs before number i are noted, and the next one begins at wire n·i.
 -- Assumes nothing.
-use Prim.Native.Nat.{◌+◌, ◌-◌, ◌≤◌}
-use native.Mathlib.Omega.{arith}
-use Rattle.share_places.specs.Located.{Room}
-use Rattle.share_places.proofs.Placing.{Inputs, inputs_start, inputs_fit, inputs_turn, inputs_end, noted_room}
+use Prim.Native.Nat.{◌-◌}
+use Rattle.share_places.proofs.Placing.{Inputs}
 use Rattle.share_places.proofs.place_inputs.Given as goal
 
 abbrev pub invariant-loop-i : goal.invariant-loop-i

@@ -1,7 +1,6 @@
 -- `share_places::places_at` meets its contract: an element of a 16-bit array is below 65,536.
 -- Assumes nothing.
 use mathlib.Core.Path.{refl}
-use borrow.Author.Rules.{rules}
 use native.Mathlib.Omega.{arith}
 use Rattle.share_places.proofs.places_at.Goals as goal
 
