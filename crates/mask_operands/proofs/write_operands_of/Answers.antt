@@ -2,7 +2,6 @@
 -- Assumes nothing.
 use mathlib.Core.Path.{◌≡◌}
 use native.Mathlib.Omega.{arith}
-use borrow.Author.Rules.{rules}
 use Rattle.tables.specs.Tables.{pair_bytes}
 use Rattle.construction.specs.Gadgets.{gadget_of}
 use Rattle.construction.specs.Wires.{and_part}
@@ -52,8 +51,7 @@ places_at-b-requires c = c.requires.1
 
 pub write_xor-requires : goal.write_xor-requires
 write_xor-requires c =
-    let R = room_where c.requires.2
-    c.places_at-a.ensures.0 c.places_at-b.ensures.0 in
+    let R = room_where c.requires.2 c.places_at-a.ensures.0 c.places_at-b.ensures.0 in
     (R.shares, rw c.if-kind-eq1.true at R.room)
 
 pub returns-then-kind-eq1 : goal.returns-then-kind-eq1
@@ -68,8 +66,7 @@ returns-then-kind-eq1 c g =
 
 pub write_and-requires : goal.write_and-requires
 write_and-requires c =
-    let R = room_where c.requires.2
-    c.places_at-a.ensures.0 c.places_at-b.ensures.0 in
+    let R = room_where c.requires.2 c.places_at-a.ensures.0 c.places_at-b.ensures.0 in
     let is = c.if-kind-eq2.true in
     (R.shares, rw is at R.wires, rw is at R.room)
 
@@ -85,17 +82,17 @@ returns-then-kind-eq2 c g =
 
 pub write_or-requires : goal.write_or-requires
 write_or-requires c =
-    let is_or : c.args.kind ≡ 5 = (let plain = c.requires.2.plain in
-    omega (arith, plain.0, plain.1, c.if-kind-eq0.false, c.if-kind-eq4.false, c.if-kind-eq1.false, c.if-kind-eq2.false)) in
-    let R = room_where c.requires.2
-    c.places_at-a.ensures.0 c.places_at-b.ensures.0 in
-    let is = is_or in
-    (R.some, R.shares, rw is at R.wires, rw is at R.room)
+    let plain = c.requires.2.plain in
+    let is_or : c.args.kind ≡ 5 =
+    omega (arith, plain.0, plain.1, c.if-kind-eq0.false, c.if-kind-eq4.false, c.if-kind-eq1.false, c.if-kind-eq2.false) in
+    let R = room_where c.requires.2 c.places_at-a.ensures.0 c.places_at-b.ensures.0 in
+    (R.some, R.shares, rw is_or at R.wires, rw is_or at R.room)
 
 pub returns : goal.returns
 returns c g =
-    let is_or : c.args.kind ≡ 5 = (let plain = c.requires.2.plain in
-    omega (arith, plain.0, plain.1, c.if-kind-eq0.false, c.if-kind-eq4.false, c.if-kind-eq1.false, c.if-kind-eq2.false)) in
+    let plain = c.requires.2.plain in
+    let is_or : c.args.kind ≡ 5 =
+    omega (arith, plain.0, plain.1, c.if-kind-eq0.false, c.if-kind-eq4.false, c.if-kind-eq1.false, c.if-kind-eq2.false) in
     let n = c.args.n in
     written_where (gadget_of c.args.and) c.args.kind c.args.left n g c.args.w c.args.at
     c.args.ops.now (or_gates (gadget_of c.args.and) n c.args.w)

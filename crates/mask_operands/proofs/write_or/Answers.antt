@@ -3,7 +3,6 @@
 use Prim.Native.Nat.{◌+◌, ◌<◌}
 use native.Mathlib.Nat.{mul-le-mul_left}
 use native.Mathlib.Omega.{arith}
-use borrow.Author.Rules.{rules}
 use Rattle.construction.specs.Gadgets.{gadget_of}
 use Rattle.layout.specs.Layout.{share_wires}
 use Rattle.layout.proofs.ShareWires.{first_each}

@@ -1,13 +1,12 @@
--- `mask_operands::write_xor` meets its contract. The invariant: s shares are written, the others follow them.
+-- `mask_operands::write_xor` meets its contract.
 -- Assumes nothing.
 use mathlib.Core.Path.{refl, ap₂}
 use mathlib.Core.List.{◌++◌}
-use Prim.Native.Nat.{ℕ, ◌+◌, ◌-◌, ◌*◌}
+use Prim.Native.Nat.{ℕ}
 use native.Mathlib.Omega.{arith}
 use Rattle.tables.specs.Tables.{two, pair_bytes}
-use Rattle.layout.specs.Layout.{share_wires, xor_gates}
 use Rattle.layout.proofs.ShareWires.{share_low}
-use Rattle.layout.proofs.Bytes.{pairs_pieces, PutPieces, put_pieces_start, put_pieces_turn, put_pieces_end}
+use Rattle.layout.proofs.Bytes.{pairs_pieces, put_pieces_start, put_pieces_turn, put_pieces_end}
 use Rattle.mask_operands.proofs.write_xor.Goals as goal
 
 pub loop-s-init : goal.loop-s-init

@@ -1,13 +1,9 @@
--- `mask_operands::write_xor` meets its contract. The invariant: s shares are written, the others follow them.
+-- The loop's invariant in `mask_operands::write_xor`: s shares are written, the others follow them.
 -- Assumes nothing.
-use mathlib.Core.Path.{refl, ap₂}
-use mathlib.Core.List.{◌++◌}
-use Prim.Native.Nat.{ℕ, ◌+◌, ◌-◌, ◌*◌}
-use native.Mathlib.Omega.{arith}
-use Rattle.tables.specs.Tables.{two, pair_bytes}
+use Prim.Native.Nat.{◌+◌, ◌-◌, ◌*◌}
+use Rattle.tables.specs.Tables.{pair_bytes}
 use Rattle.layout.specs.Layout.{share_wires, xor_gates}
-use Rattle.layout.proofs.ShareWires.{share_low}
-use Rattle.layout.proofs.Bytes.{pairs_pieces, PutPieces, put_pieces_start, put_pieces_turn, put_pieces_end}
+use Rattle.layout.proofs.Bytes.{PutPieces}
 use Rattle.mask_operands.proofs.write_xor.Given as goal
 
 abbrev pub invariant-loop-s : goal.invariant-loop-s

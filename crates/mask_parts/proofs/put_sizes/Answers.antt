@@ -3,7 +3,6 @@
 use mathlib.Core.Path.{refl}
 use mathlib.Core.List.{◌++◌}
 use native.Mathlib.Omega.{arith}
-use borrow.Author.Rules.{rules}
 use Rattle.tables.specs.Tables.{two}
 use Rattle.tables.proofs.Put.{put_then}
 use Rattle.mask_parts.proofs.put_sizes.Goals as goal

@@ -1,17 +1,14 @@
--- `mask_parts::write_kinds` meets its contract: the kinds from gate g on are left to write, over those of XOR gates.
+-- `mask_parts::write_kinds` meets its contract.
 -- Assumes nothing.
 use mathlib.Core.Path.{◌≡◌, refl, ◌∙◌}
-use Prim.Native.Nat.{◌+◌, ◌-◌, ◌≤◌}
+use Prim.Native.Nat.{◌+◌, ◌≤◌}
 use native.Mathlib.Omega.{arith}
-use borrow.Author.Rules.{rules}
 use lib.ListN.{length}
 use Rattle.tables.specs.Inside.{PlainByte}
-use Rattle.tables.specs.Tables.{kind_of, table_of}
+use Rattle.tables.specs.Tables.{kind_of}
 use Rattle.construction.specs.Wires.{cost}
-use Rattle.mask_kinds.specs.Kinds.{gate_kinds}
 use Rattle.share_places.proofs.Turns.{turn, plan_sized}
-use Rattle.mask_parts.specs.Stretch.{stretch}
-use Rattle.mask_parts.proofs.Stretches.{Kinds, kinds_start, kinds_room, kinds_turn, kinds_end}
+use Rattle.mask_parts.proofs.Stretches.{kinds_start, kinds_room, kinds_turn, kinds_end}
 use Rattle.mask_parts.proofs.write_kinds.Goals as goal
 
 pub note_costs-requires : goal.note_costs-requires
@@ -28,28 +25,34 @@ gate_at-x-requires c =
 
 pub write_kinds_of-requires : goal.write_kinds_of-requires
 write_kinds_of-requires c =
-    let few : c.loop-g.g + 1 ≤ c.args.p.gates = omega (arith, c.loop-g-test.true, c.requires.2) in
-    let room : (let l = c.loop-g in
-    l.at + cost (kind_of c.gate_at-x.result.kind) c.args.p.shares ≤ length l.kinds) = (let p = c.requires in
-    kinds_room c.loop-g.invariant c.loop-g-test.true (omega (arith, p.2, p.0.gates)) c.gate_at-x.ensures) in
-    let plain : PlainByte c.gate_at-x.result.kind = (turn c.requires.0 {g = c.loop-g.g} (omega (arith, few)) refl c.gate_at-x.ensures).kind in
+    let l = c.loop-g in
+    let p = c.requires in
+    let few : l.g + 1 ≤ c.args.p.gates = omega (arith, c.loop-g-test.true, p.2) in
+    let room : l.at + cost (kind_of c.gate_at-x.result.kind) c.args.p.shares ≤ length l.kinds =
+    kinds_room l.invariant c.loop-g-test.true (omega (arith, p.2, p.0.gates)) c.gate_at-x.ensures in
+    let plain : PlainByte c.gate_at-x.result.kind =
+    (turn c.requires.0 {g = c.loop-g.g} (omega (arith, few)) refl c.gate_at-x.ensures).kind in
     let z = plan_sized c.requires.0 in
     (plain, omega (arith, z.some), z.few, room, c.loop-g.invariant.xors)
 
 pub noted_cost-at-requires : goal.noted_cost-at-requires
 noted_cost-at-requires c =
     let few : c.loop-g.g + 1 ≤ c.args.p.gates = omega (arith, c.loop-g-test.true, c.requires.2) in
-    let plain : PlainByte c.gate_at-x.result.kind = (turn c.requires.0 {g = c.loop-g.g} (omega (arith, few)) refl c.gate_at-x.ensures).kind in
+    let plain : PlainByte c.gate_at-x.result.kind =
+    (turn c.requires.0 {g = c.loop-g.g} (omega (arith, few)) refl c.gate_at-x.ensures).kind in
     (plain.0, c.note_costs.ensures.0)
 
 pub overflow_add-at : goal.overflow_add-at
 overflow_add-at c =
-    let few : c.loop-g.g + 1 ≤ c.args.p.gates = omega (arith, c.loop-g-test.true, c.requires.2) in
-    let room : (let l = c.loop-g in
-    l.at + cost (kind_of c.gate_at-x.result.kind) c.args.p.shares ≤ length l.kinds) = (let p = c.requires in
-    kinds_room c.loop-g.invariant c.loop-g-test.true (omega (arith, p.2, p.0.gates)) c.gate_at-x.ensures) in
-    let plain : PlainByte c.gate_at-x.result.kind = (turn c.requires.0 {g = c.loop-g.g} (omega (arith, few)) refl c.gate_at-x.ensures).kind in
-    let costs : c.noted_cost-at.result ≡ cost (kind_of c.gate_at-x.result.kind) c.args.p.shares = c.noted_cost-at.ensures ∙ c.note_costs.ensures.1 _ plain.0 in
+    let l = c.loop-g in
+    let p = c.requires in
+    let few : l.g + 1 ≤ c.args.p.gates = omega (arith, c.loop-g-test.true, p.2) in
+    let room : l.at + cost (kind_of c.gate_at-x.result.kind) c.args.p.shares ≤ length l.kinds =
+    kinds_room l.invariant c.loop-g-test.true (omega (arith, p.2, p.0.gates)) c.gate_at-x.ensures in
+    let plain : PlainByte c.gate_at-x.result.kind =
+    (turn c.requires.0 {g = c.loop-g.g} (omega (arith, few)) refl c.gate_at-x.ensures).kind in
+    let costs : c.noted_cost-at.result ≡ cost (kind_of c.gate_at-x.result.kind) c.args.p.shares =
+    c.noted_cost-at.ensures ∙ c.note_costs.ensures.1 _ plain.0 in
     omega (arith, room, costs, c.loop-g.invariant.long)
 
 pub overflow_add-g : goal.overflow_add-g
@@ -63,8 +66,10 @@ loop-g-smaller c = omega (arith, c.loop-g-test.true)
 pub loop-g-preserved : goal.loop-g-preserved
 loop-g-preserved c =
     let few : c.loop-g.g + 1 ≤ c.args.p.gates = omega (arith, c.loop-g-test.true, c.requires.2) in
-    let plain : PlainByte c.gate_at-x.result.kind = (turn c.requires.0 {g = c.loop-g.g} (omega (arith, few)) refl c.gate_at-x.ensures).kind in
-    let costs : c.noted_cost-at.result ≡ cost (kind_of c.gate_at-x.result.kind) c.args.p.shares = c.noted_cost-at.ensures ∙ c.note_costs.ensures.1 _ plain.0 in
+    let plain : PlainByte c.gate_at-x.result.kind =
+    (turn c.requires.0 {g = c.loop-g.g} (omega (arith, few)) refl c.gate_at-x.ensures).kind in
+    let costs : c.noted_cost-at.result ≡ cost (kind_of c.gate_at-x.result.kind) c.args.p.shares =
+    c.noted_cost-at.ensures ∙ c.note_costs.ensures.1 _ plain.0 in
     let p = c.requires in
     kinds_turn c.loop-g.invariant c.loop-g-test.true (omega (arith, p.2, p.0.gates)) c.gate_at-x.ensures
     c.write_kinds_of.ensures costs

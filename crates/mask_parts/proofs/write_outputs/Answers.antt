@@ -1,16 +1,15 @@
--- `mask_parts::write_outputs` meets its contract: the wires of o outputs are written, the others follow them.
+-- `mask_parts::write_outputs` meets its contract.
 -- Assumes nothing.
 use mathlib.Core.Path.{◌∙◌}
-use Prim.Native.Nat.{suc, ◌+◌, ◌-◌, ◌*◌, ◌≤◌}
+use Prim.Native.Nat.{suc, ◌+◌, ◌*◌, ◌≤◌}
 use native.Mathlib.Nat.{mul-le-mul_left}
 use native.Mathlib.Omega.{arith}
-use borrow.Author.Rules.{rules}
 use lib.ListN.{length}
 use Rattle.tables.specs.Tables.{table_of}
 use Rattle.tables.proofs.Put.{put_zero}
-use Rattle.layout.proofs.Bytes.{PutPieces, put_pieces_start, put_pieces_turn, put_pieces_end}
+use Rattle.layout.proofs.Bytes.{put_pieces_start, put_pieces_turn, put_pieces_end}
 use Rattle.share_places.proofs.Turns.{plan_sized, located_room}
-use Rattle.mask_parts.proofs.Stretches.{output_piece, outputs_pieces, output_below, output_long, output_piece_lem, read_low}
+use Rattle.mask_parts.proofs.Stretches.{outputs_pieces, output_below, output_long, output_piece_lem, read_low}
 use Rattle.mask_parts.proofs.write_outputs.Goals as goal
 
 pub loop-o-init : goal.loop-o-init
@@ -29,11 +28,11 @@ places_at-a-requires c =
 
 pub write_shares-requires : goal.write_shares-requires
 write_shares-requires c =
-    let within : c.loop-o.at + 2 * c.args.p.shares ≤
-    length c.loop-o.outs = (let a = c.args.p in
-    let W = c.loop-o.invariant in
-    let most : a.shares * suc c.loop-o.o ≤ a.shares * a.outputs = mul-le-mul_left a.shares c.loop-o-test.true in
-    omega (arith, W.place, W.long, c.requires.2)) in
+    let a = c.args.p in
+    let l = c.loop-o in
+    let W = l.invariant in
+    let most : a.shares * suc l.o ≤ a.shares * a.outputs = mul-le-mul_left a.shares c.loop-o-test.true in
+    let within : l.at + 2 * a.shares ≤ length l.outs = omega (arith, most, W.place, W.long, c.requires.2) in
     let p = c.requires in
     let z = plan_sized p.0 in
     let below = output_below p.0 p.1 c.loop-o-test.true in
@@ -46,11 +45,11 @@ overflow_mul-at c = let z = plan_sized c.requires.0
 
 pub overflow_add-at : goal.overflow_add-at
 overflow_add-at c =
-    let within : c.loop-o.at + 2 * c.args.p.shares ≤
-    length c.loop-o.outs = (let a = c.args.p in
-    let W = c.loop-o.invariant in
-    let most : a.shares * suc c.loop-o.o ≤ a.shares * a.outputs = mul-le-mul_left a.shares c.loop-o-test.true in
-    omega (arith, W.place, W.long, c.requires.2)) in
+    let a = c.args.p in
+    let l = c.loop-o in
+    let W = l.invariant in
+    let most : a.shares * suc l.o ≤ a.shares * a.outputs = mul-le-mul_left a.shares c.loop-o-test.true in
+    let within : l.at + 2 * a.shares ≤ length l.outs = omega (arith, most, W.place, W.long, c.requires.2) in
     omega (arith, within)
 
 pub loop-o-smaller : goal.loop-o-smaller

@@ -1,9 +1,7 @@
--- `probes::free_of` meets its contract. The loop's invariant: looking from k on finds what looking from 1 on finds.
+-- `probes::free_of` meets its contract.
 -- Assumes nothing.
-use Prim.Native.Nat.{suc, ◌-◌}
 use native.Mathlib.Numerals.{add-one}
-use Rattle.probes.proofs.Seeing.{Looking, looking_start, looking_turn, looking_found, looking_end}
-use borrow.Author.Rules.{rules}
+use Rattle.probes.proofs.Seeing.{looking_start, looking_turn, looking_found, looking_end}
 use Rattle.probes.proofs.free_of.Goals as goal
 
 pub loop-k-init : goal.loop-k-init
