@@ -1,7 +1,6 @@
 -- `mask_arrays::mask_any` meets its contract: a table of each size.
 -- Assumes nothing.
 use native.Mathlib.Omega.{arith}
-use borrow.Author.Rules.{rules}
 use Rattle.share_places.proofs.Turns.{plan_sized}
 use Rattle.mask_arrays.proofs.mask_any.Goals as goal
 

@@ -4,7 +4,6 @@ use mathlib.Core.Path.{sym}
 use Prim.Native.Nat.{ℕ}
 use native.Mathlib.Omega.{arith}
 use lib.ListN.{length-replicate}
-use borrow.Author.Rules.{rules}
 use Rattle.share_places.proofs.Turns.{plan_sized}
 use Rattle.share_places.proofs.Placing.{room_of}
 use Rattle.mask_arrays.proofs.mask_large.Goals as goal
@@ -19,15 +18,9 @@ pub slice_bounds-mask_with-end-3 : goal.slice_bounds-mask_with-end-3
 slice_bounds-mask_with-end-3 c = sym (length-replicate {A = ℕ} 65536 0)
 
 pub mask_with-requires : goal.mask_with-requires
-mask_with-requires c = let pre = c.requires in (
-  pre.0,
-  room_of _ 65536 (omega (
-    arith,
-    (plan_sized
-        pre.0).plain,
-  )),
-  pre.1,
-)
+mask_with-requires c =
+    let pre = c.requires in
+    (pre.0, room_of _ 65536 (omega (arith, (plan_sized pre.0).plain)), pre.1)
 
 pub returns : goal.returns
 returns c = c.mask_with.ensures

@@ -1,7 +1,6 @@
 -- `mask_arrays::mask_lean` meets its contract: a tiny table, and any other.
 -- Assumes nothing.
 use native.Mathlib.Omega.{arith}
-use borrow.Author.Rules.{rules}
 use Rattle.share_places.proofs.Turns.{plan_sized}
 use Rattle.mask_arrays.proofs.mask_lean.Goals as goal
 

@@ -3,7 +3,6 @@
 use mathlib.Core.Path.{sym}
 use Prim.Native.Nat.{ℕ}
 use lib.ListN.{length-replicate}
-use borrow.Author.Rules.{rules}
 use Rattle.share_places.proofs.Placing.{room_of}
 use Rattle.mask_arrays.proofs.mask_tiny.Goals as goal
 

@@ -1,7 +1,6 @@
 -- `mask_bytes::mask_gates` meets its contract: three parts of the buffer, each lent to the function that writes it.
 -- Assumes nothing.
 use native.Mathlib.Omega.{arith}
-use borrow.Author.Rules.{rules}
 use Rattle.planning.proofs.Planning.{plan_fits}
 use Rattle.mask_bytes.proofs.Assembled.{parts_start, kinds_asked, kinds_back, operands_asked, operands_back}
 use Rattle.mask_bytes.proofs.Assembled.{outputs_asked, outputs_back}
@@ -35,15 +34,13 @@ pub write_outputs-requires : goal.write_outputs-requires
 write_outputs-requires c =
     let R = c.requires.0 in
     let parts = parts_start c.args.and R c.args.out.now c.requires.2 in
-    let kinds = kinds_back c.args.and R parts
-    c.write_kinds.ensures in
+    let kinds = kinds_back c.args.and R parts c.write_kinds.ensures in
     (R, c.requires.1, outputs_asked c.args.and R (operands_back c.args.and R kinds c.write_operands.ensures))
 
 pub returns : goal.returns
 returns c =
     let R = c.requires.0 in
     let parts = parts_start c.args.and R c.args.out.now c.requires.2 in
-    let kinds = kinds_back c.args.and R parts
-    c.write_kinds.ensures in
+    let kinds = kinds_back c.args.and R parts c.write_kinds.ensures in
     outputs_back c.args.and R
     (operands_back c.args.and R kinds c.write_operands.ensures) c.write_outputs.ensures

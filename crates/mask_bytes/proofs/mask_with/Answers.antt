@@ -1,7 +1,6 @@
 -- `mask_bytes::mask_with` meets its contract: the sizes and what follows them are the masked table.
 -- Assumes nothing.
 use native.Mathlib.Omega.{arith}
-use borrow.Author.Rules.{rules}
 use Rattle.planning.proofs.Planning.{plan_fits}
 use Rattle.share_places.proofs.Placing.{plan_located}
 use Rattle.mask_bytes.proofs.Assembled.{whole_back}
@@ -17,10 +16,7 @@ pub overflow_sub-p : goal.overflow_sub-p
 overflow_sub-p c = (plan_fits c.requires.0).inputs
 
 pub overflow_mul-p : goal.overflow_mul-p
-overflow_mul-p c = omega (
-  arith,
-  (plan_fits c.requires.0).outputs,
-)
+overflow_mul-p c = omega (arith, (plan_fits c.requires.0).outputs)
 
 pub put_sizes-requires : goal.put_sizes-requires
 put_sizes-requires c =
@@ -33,11 +29,7 @@ mask_gates-requires c =
     let pre = c.requires in (
       pre.0,
       plan_located pre.0 pre.1 c.locate.ensures,
-      omega (
-        arith,
-        pre.2,
-        c.put_sizes.auto.out,
-      ),
+      omega (arith, pre.2, c.put_sizes.auto.out),
     )
 
 pub returns : goal.returns

@@ -1,9 +1,6 @@
 -- `masking::mask_input` meets its contract: no input, or a byte that names the AND, an order byte and a table.
 -- Assumes nothing.
 use Rattle.masking.proofs.Masked.{mask_none, mask_part}
-use borrow.Author.Rules.{rules}
-use Rattle.masking.proofs.and_of.Reads as and-of-reads
-use Rattle.masking.proofs.mask_ordered.Reads as mask-ordered-reads
 use Rattle.masking.proofs.mask_input.Goals as goal
 
 pub returns-then-input-eq0 : goal.returns-then-input-eq0

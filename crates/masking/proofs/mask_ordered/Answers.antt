@@ -2,8 +2,6 @@
 -- Assumes nothing.
 use Rattle.construction.specs.Gadgets.{gadget_of}
 use Rattle.masking.proofs.Masked.{ordered_none, ordered_part}
-use borrow.Author.Rules.{rules}
-use Rattle.masking.proofs.mask_table.Reads as mask-table-reads
 use Rattle.masking.proofs.mask_ordered.Goals as goal
 
 pub returns-then-input-eq0 : goal.returns-then-input-eq0
