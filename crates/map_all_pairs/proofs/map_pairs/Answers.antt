@@ -1,12 +1,12 @@
--- `map_all_pairs::map_pairs` meets its contract. The invariant: the pairs from share i on are left.
+-- `map_all_pairs::map_pairs` meets its contract.
 -- Assumes nothing.
-use mathlib.Core.Path.{◌≡◌, refl}
+use mathlib.Core.Path.{refl}
 use Prim.Native.Nat.{suc, ◌+◌, ◌-◌, ◌*◌, ◌≤◌}
 use native.Mathlib.Nat.{sub-zero}
 use native.Mathlib.Omega.{arith}
 use Rattle.tables.specs.Packing.{unpacked}
 use Rattle.tables.proofs.Packing.{bytes_long}
-use Rattle.construction.specs.Shares.{pair_of, pairs_from, pairs, tri}
+use Rattle.construction.specs.Shares.{pair_of, pairs}
 use Rattle.construction.specs.Gadgets.{gadget_of}
 use Rattle.construction.proofs.Sum.{up_length}
 use Rattle.construction.proofs.Rows.{pairs_length}
@@ -15,7 +15,7 @@ use Rattle.layout.specs.Layout.{share_wires}
 use Rattle.map_values.proofs.Before.{before_later}
 use Rattle.secrecy.proofs.Both.{both_less}
 use Rattle.map_all_pairs.specs.Pairing.{share_pairs}
-use Rattle.map_all_pairs.proofs.Pairs.{PairsGoing, going_start, going_ready, going_more, going_long, going_end}
+use Rattle.map_all_pairs.proofs.Pairs.{going_start, going_ready, going_more, going_long, going_end}
 use Rattle.map_all_pairs.proofs.Pairs.{pairs_next, pairs_none, share_inside, pairs_count}
 use Rattle.map_all_pairs.proofs.map_pairs.Goals as goal
 
@@ -52,25 +52,21 @@ overflow_mul-v c =
 
 pub overflow_add-v : goal.overflow_add-v
 overflow_add-v c =
-    let turn : (let n = c.args.n in
-    let i = c.loop-i.i in
-    (c.loop-i.v + 5 * (n - 1 - i) ≤ 65535) × (n - 1 - i ≤ 30)) = (let inv = c.loop-i.invariant in
-    let count = pairs_count c.args.n c.loop-i.i c.loop-i-test.true in
-    (omega (arith, inv.3, count, c.requires.1), omega (arith, c.requires.0.few))) in
+    let n = c.args.n in
+    let l = c.loop-i in
+    let count = pairs_count n l.i c.loop-i-test.true in
+    let turn : (l.v + 5 * (n - 1 - l.i) ≤ 65535) × (n - 1 - l.i ≤ 30) =
+    (omega (arith, l.invariant.3, count, c.requires.1), omega (arith, c.requires.0.few)) in
     omega (arith, turn)
 
 pub overflow_add-next : goal.overflow_add-next
 overflow_add-next c =
-    let turn : (let n = c.args.n in
-    let i = c.loop-i.i in
-    (c.loop-i.v + 5 * (n - 1 - i) ≤ 65535) × (n - 1 - i ≤ 30)) = (let inv = c.loop-i.invariant in
-    let count = pairs_count c.args.n c.loop-i.i c.loop-i-test.true in
-    (omega (arith, inv.3, count, c.requires.1), omega (arith, c.requires.0.few))) in
-    omega (
-  arith,
-  turn,
-  (going_ready c.loop-i.invariant.0).room,
-)
+    let n = c.args.n in
+    let l = c.loop-i in
+    let count = pairs_count n l.i c.loop-i-test.true in
+    let turn : (l.v + 5 * (n - 1 - l.i) ≤ 65535) × (n - 1 - l.i ≤ 30) =
+    (omega (arith, l.invariant.3, count, c.requires.1), omega (arith, c.requires.0.few)) in
+    omega (arith, turn, (going_ready l.invariant.0).room)
 
 pub overflow_add-i : goal.overflow_add-i
 overflow_add-i c = omega (arith, c.loop-i-test.true)

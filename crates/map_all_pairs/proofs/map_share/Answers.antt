@@ -1,13 +1,12 @@
--- `map_all_pairs::map_share` meets its contract. The invariant: c pairs have run on, and the others are left.
+-- `map_all_pairs::map_share` meets its contract.
 -- Assumes nothing.
-use mathlib.Core.Path.{◌≡◌}
 use mathlib.Core.List.{[], ◌∷◌}
 use Prim.Native.Nat.{suc, ◌+◌, ◌-◌, ◌*◌, ◌≤◌, ◌<◌}
 use native.Mathlib.Nat.{add-zero, sub-zero}
 use native.Mathlib.Omega.{arith}
 use Rattle.tables.specs.Packing.{unpacked}
 use Rattle.tables.proofs.Packing.{bytes_long}
-use Rattle.construction.specs.Shares.{up_from, pair_of}
+use Rattle.construction.specs.Shares.{pair_of}
 use Rattle.construction.specs.Gadgets.{gadget_of}
 use Rattle.construction.proofs.Sum.{up_length}
 use Rattle.construction.proofs.Lawful.{lawful}
@@ -15,9 +14,8 @@ use Rattle.layout.specs.Layout.{share_wires}
 use Rattle.map_values.proofs.Before.{left_low, right_low, left_before, right_before}
 use Rattle.secrecy.proofs.Both.{both_less}
 use Rattle.map_all_pairs.specs.Pairing.{share_pairs}
-use Rattle.map_all_pairs.proofs.Pairs.{PairsGoing, going_start, going_ready, going_more, going_long}
+use Rattle.map_all_pairs.proofs.Pairs.{going_start, going_ready, going_more, going_long}
 use Rattle.map_all_pairs.proofs.Pairs.{going_end, one_pair, pair_inside, share_next, share_none}
-use borrow.Author.Rules.{rules}
 use Rattle.map_all_pairs.proofs.map_share.Goals as goal
 
 pub share_wire-ai-requires : goal.share_wire-ai-requires

@@ -4,7 +4,6 @@ use native.Mathlib.Omega.{arith}
 use Rattle.construction.proofs.Lawful.{lawful}
 use Rattle.secrecy.proofs.Both.{both_less}
 use Rattle.map_gates.proofs.And.{rows_ready, and_ran}
-use borrow.Author.Rules.{rules}
 use Rattle.map_gates.proofs.map_and.Goals as goal
 
 pub pair_count-requires : goal.pair_count-requires

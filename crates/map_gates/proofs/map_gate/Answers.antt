@@ -2,7 +2,6 @@
 -- Assumes nothing.
 use mathlib.Core.Path.{refl}
 use native.Mathlib.Omega.{arith}
-use borrow.Author.Rules.{rules}
 use Rattle.tables.specs.Packing.{unpacked}
 use Rattle.construction.specs.Gadgets.{gadget_of}
 use Rattle.map_gates.proofs.ByKind.{constant_ready, not_ready, xor_ready, product_ready, ready_where, ran_where}

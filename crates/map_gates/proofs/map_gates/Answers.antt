@@ -1,20 +1,16 @@
--- `map_gates::map_gates` meets its contract. The invariant: the gates from g on are left.
+-- `map_gates::map_gates` meets its contract.
 -- Assumes nothing.
 use mathlib.Core.Path.{◌≡◌, refl, sym, ◌∙◌}
-use Prim.Native.Nat.{◌-◌}
 use native.Mathlib.Omega.{arith}
-use lib.ListN.{length}
-use borrow.Author.Rules.{rules}
 use Rattle.tables.specs.Packing.{unpacked}
 use Rattle.tables.proofs.Packing.{bytes_long}
-use Rattle.tables.specs.Tables.{kind_of, table_of}
-use Rattle.construction.specs.Gadgets.{gadget_of}
+use Rattle.tables.specs.Tables.{kind_of}
 use Rattle.construction.specs.Wires.{cost}
 use Rattle.construction.proofs.Lawful.{lawful}
 use Rattle.share_places.specs.Located.{places_at}
 use Rattle.share_places.proofs.Turns.{plan_sized}
 use Rattle.map_gates.specs.Steps.{StepReady}
-use Rattle.map_gates.proofs.AllGates.{Going, steps_start, step_room, step_ready, step_turn, steps_end, steps_long}
+use Rattle.map_gates.proofs.AllGates.{steps_start, step_room, step_ready, step_turn, steps_end, steps_long}
 use Rattle.map_gates.proofs.map_gates.Goals as goal
 
 pub note_costs-requires : goal.note_costs-requires
@@ -35,34 +31,38 @@ gate_at-x-requires c =
 
 pub map_gate-requires : goal.map_gate-requires
 map_gate-requires c =
-    let ready : (let s = c.args in
+    let s = c.args in
     let x = c.gate_at-x.result in
     let l = c.loop-g in
     let at = places_at s.head.now s.base.now s.step.now in
-    StepReady x.kind x.left s.p.shares l.w (at x.left) (at x.right)
-    (unpacked s.tape.now) l.next (unpacked l.mapped) l.one l.other) = step_ready (lawful c.args.and) c.requires.0 c.loop-g.invariant c.loop-g-test.true c.gate_at-x.ensures c.requires.1 in
-    let room = step_room (lawful c.args.and) c.requires.0 c.loop-g.invariant c.loop-g-test.true c.gate_at-x.ensures c.requires.1 in
+    let ready : StepReady x.kind x.left s.p.shares l.w (at x.left) (at x.right) (unpacked s.tape.now) l.next
+    (unpacked l.mapped) l.one l.other =
+    step_ready (lawful s.and) c.requires.0 l.invariant c.loop-g-test.true c.gate_at-x.ensures c.requires.1 in
+    let room = step_room (lawful s.and) c.requires.0 l.invariant c.loop-g-test.true c.gate_at-x.ensures c.requires.1 in
     (room.0, room.1, ready)
 
 pub noted_cost-w-requires : goal.noted_cost-w-requires
 noted_cost-w-requires c =
-    let ready : (let s = c.args in
+    let s = c.args in
     let x = c.gate_at-x.result in
     let l = c.loop-g in
     let at = places_at s.head.now s.base.now s.step.now in
-    StepReady x.kind x.left s.p.shares l.w (at x.left) (at x.right)
-    (unpacked s.tape.now) l.next (unpacked l.mapped) l.one l.other) = step_ready (lawful c.args.and) c.requires.0 c.loop-g.invariant c.loop-g-test.true c.gate_at-x.ensures c.requires.1 in
+    let ready : StepReady x.kind x.left s.p.shares l.w (at x.left) (at x.right) (unpacked s.tape.now) l.next
+    (unpacked l.mapped) l.one l.other =
+    step_ready (lawful s.and) c.requires.0 l.invariant c.loop-g-test.true c.gate_at-x.ensures c.requires.1 in
     (ready.plain.0, c.note_costs.ensures.0)
 
 pub overflow_add-w : goal.overflow_add-w
 overflow_add-w c =
-    let ready : (let s = c.args in
+    let s = c.args in
     let x = c.gate_at-x.result in
     let l = c.loop-g in
     let at = places_at s.head.now s.base.now s.step.now in
-    StepReady x.kind x.left s.p.shares l.w (at x.left) (at x.right)
-    (unpacked s.tape.now) l.next (unpacked l.mapped) l.one l.other) = step_ready (lawful c.args.and) c.requires.0 c.loop-g.invariant c.loop-g-test.true c.gate_at-x.ensures c.requires.1 in
-    let costs : c.noted_cost-w.result ≡ cost (kind_of c.gate_at-x.result.kind) c.args.p.shares = c.noted_cost-w.ensures ∙ c.note_costs.ensures.1 _ ready.plain.0 in
+    let ready : StepReady x.kind x.left s.p.shares l.w (at x.left) (at x.right) (unpacked s.tape.now) l.next
+    (unpacked l.mapped) l.one l.other =
+    step_ready (lawful s.and) c.requires.0 l.invariant c.loop-g-test.true c.gate_at-x.ensures c.requires.1 in
+    let costs : c.noted_cost-w.result ≡ cost (kind_of x.kind) s.p.shares =
+    c.noted_cost-w.ensures ∙ c.note_costs.ensures.1 _ ready.plain.0 in
     omega (arith, ready.wires, costs)
 
 pub gate_draws-next-requires : goal.gate_draws-next-requires
@@ -70,12 +70,13 @@ gate_draws-next-requires c = (plan_sized c.requires.0).few
 
 pub overflow_add-next : goal.overflow_add-next
 overflow_add-next c =
-    let ready : (let s = c.args in
+    let s = c.args in
     let x = c.gate_at-x.result in
     let l = c.loop-g in
     let at = places_at s.head.now s.base.now s.step.now in
-    StepReady x.kind x.left s.p.shares l.w (at x.left) (at x.right)
-    (unpacked s.tape.now) l.next (unpacked l.mapped) l.one l.other) = step_ready (lawful c.args.and) c.requires.0 c.loop-g.invariant c.loop-g-test.true c.gate_at-x.ensures c.requires.1 in
+    let ready : StepReady x.kind x.left s.p.shares l.w (at x.left) (at x.right) (unpacked s.tape.now) l.next
+    (unpacked l.mapped) l.one l.other =
+    step_ready (lawful s.and) c.requires.0 l.invariant c.loop-g-test.true c.gate_at-x.ensures c.requires.1 in
     omega (arith, ready.both.few, c.gate_draws-next.ensures)
 
 pub overflow_add-g : goal.overflow_add-g
@@ -87,48 +88,41 @@ loop-g-smaller c = omega (arith, c.loop-g-test.true)
 
 pub loop-g-preserved : goal.loop-g-preserved
 loop-g-preserved c =
-    let ready : (let s = c.args in
+    let s = c.args in
     let x = c.gate_at-x.result in
     let l = c.loop-g in
     let at = places_at s.head.now s.base.now s.step.now in
-    StepReady x.kind x.left s.p.shares l.w (at x.left) (at x.right)
-    (unpacked s.tape.now) l.next (unpacked l.mapped) l.one l.other) = step_ready (lawful c.args.and) c.requires.0 c.loop-g.invariant c.loop-g-test.true c.gate_at-x.ensures c.requires.1 in
-    let costs : c.noted_cost-w.result ≡ cost (kind_of c.gate_at-x.result.kind) c.args.p.shares = c.noted_cost-w.ensures ∙ c.note_costs.ensures.1 _ ready.plain.0 in
-    step_turn (lawful c.args.and) c.requires.0 c.loop-g.invariant c.loop-g-test.true c.gate_at-x.ensures c.requires.1
-    (c.map_gate.ensures c.loop-g.g)
+    let ready : StepReady x.kind x.left s.p.shares l.w (at x.left) (at x.right) (unpacked s.tape.now) l.next
+    (unpacked l.mapped) l.one l.other =
+    step_ready (lawful s.and) c.requires.0 l.invariant c.loop-g-test.true c.gate_at-x.ensures c.requires.1 in
+    let costs : c.noted_cost-w.result ≡ cost (kind_of x.kind) s.p.shares =
+    c.noted_cost-w.ensures ∙ c.note_costs.ensures.1 _ ready.plain.0 in
+    step_turn (lawful s.and) c.requires.0 l.invariant c.loop-g-test.true c.gate_at-x.ensures c.requires.1
+    (c.map_gate.ensures l.g)
     (omega arith)
     costs
     c.gate_draws-next.ensures
 
 pub shape_of-mapped : goal.shape_of-mapped
 shape_of-mapped c =
-    let long : (let l = c.loop-g in
-    (length l.mapped ≡ length c.args.mapped.now)
-    × (length l.one ≡ length c.args.one.now)
-    × (length l.other ≡ length c.args.other.now)) = (let now = steps_long c.loop-g.invariant in
-    let first = steps_long (steps_start (lawful c.args.and) c.args.k {at = c.args.at} c.requires.0 refl c.requires.2) in
-    (bytes_long c.loop-g.mapped c.args.mapped.now (now.0 ∙ sym first.0), now.1 ∙ sym first.1, now.2 ∙ sym first.2)) in
-    long.0
+    let s = c.args in
+    let now = steps_long c.loop-g.invariant in
+    let first = steps_long (steps_start (lawful s.and) s.k {at = s.at} c.requires.0 refl c.requires.2) in
+    bytes_long c.loop-g.mapped s.mapped.now (now.0 ∙ sym first.0)
 
 pub shape_of-one : goal.shape_of-one
 shape_of-one c =
-    let long : (let l = c.loop-g in
-    (length l.mapped ≡ length c.args.mapped.now)
-    × (length l.one ≡ length c.args.one.now)
-    × (length l.other ≡ length c.args.other.now)) = (let now = steps_long c.loop-g.invariant in
-    let first = steps_long (steps_start (lawful c.args.and) c.args.k {at = c.args.at} c.requires.0 refl c.requires.2) in
-    (bytes_long c.loop-g.mapped c.args.mapped.now (now.0 ∙ sym first.0), now.1 ∙ sym first.1, now.2 ∙ sym first.2)) in
-    long.1
+    let s = c.args in
+    let now = steps_long c.loop-g.invariant in
+    let first = steps_long (steps_start (lawful s.and) s.k {at = s.at} c.requires.0 refl c.requires.2) in
+    now.1 ∙ sym first.1
 
 pub shape_of-other : goal.shape_of-other
 shape_of-other c =
-    let long : (let l = c.loop-g in
-    (length l.mapped ≡ length c.args.mapped.now)
-    × (length l.one ≡ length c.args.one.now)
-    × (length l.other ≡ length c.args.other.now)) = (let now = steps_long c.loop-g.invariant in
-    let first = steps_long (steps_start (lawful c.args.and) c.args.k {at = c.args.at} c.requires.0 refl c.requires.2) in
-    (bytes_long c.loop-g.mapped c.args.mapped.now (now.0 ∙ sym first.0), now.1 ∙ sym first.1, now.2 ∙ sym first.2)) in
-    long.2
+    let s = c.args in
+    let now = steps_long c.loop-g.invariant in
+    let first = steps_long (steps_start (lawful s.and) s.k {at = s.at} c.requires.0 refl c.requires.2) in
+    now.2 ∙ sym first.2
 
 pub returns : goal.returns
 returns c =

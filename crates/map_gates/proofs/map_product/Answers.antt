@@ -4,7 +4,6 @@ use mathlib.Core.Path.{ap, ◌∙◌}
 use mathlib.Core.List.{List}
 use Prim.Native.Nat.{ℕ}
 use native.Mathlib.Omega.{arith}
-use borrow.Author.Rules.{rules}
 use Rattle.construction.specs.Wires.{first_on}
 use Rattle.construction.proofs.Lawful.{lawful}
 use Rattle.layout.specs.declared.Places as DPlaces
@@ -39,51 +38,48 @@ run_first_nots-requires c =
 
 pub map_and-requires : goal.map_and-requires
 map_and-requires c =
-    let begun : (let s = c.args in
-    Begun s.or s.n s.w s.a s.b c.first_on-x.result c.first_on-y.result c.either-v.result
-    s.one.now s.other.now c.run_first_nots.new.one c.run_first_nots.new.other) = (let s = c.args in
+    let s = c.args in
     let n = s.n in
     let on : DPlaces.Places → ℕ → List ℕ = λ a h. first_on h (share_wires n a) in
-    record {
+    let begun : Begun s.or n s.w s.a s.b c.first_on-x.result c.first_on-y.result c.either-v.result
+    s.one.now s.other.now c.run_first_nots.new.one c.run_first_nots.new.other = record {
       wire = c.either-v.ensures;
       left = c.first_on-x.ensures n ∙ ap {A = ℕ} {B = List ℕ} (on s.a) c.either.ensures;
       right = c.first_on-y.ensures n ∙ ap {A = ℕ} {B = List ℕ} (on s.b) c.either-2.ensures;
       one = c.run_first_nots.ensures.0;
       other = c.run_first_nots.ensures.1;
-    }) in
-    product_and_ready c.args.or c.requires begun
+    } in
+    product_and_ready s.or c.requires begun
 
 -- there is room for the last NOT, whichever share is free
 pub run_last_not-requires : goal.run_last_not-requires
 run_last_not-requires c =
-    let begun : (let s = c.args in
-    Begun s.or s.n s.w s.a s.b c.first_on-x.result c.first_on-y.result c.either-v.result
-    s.one.now s.other.now c.run_first_nots.new.one c.run_first_nots.new.other) = (let s = c.args in
+    let s = c.args in
     let n = s.n in
     let on : DPlaces.Places → ℕ → List ℕ = λ a h. first_on h (share_wires n a) in
-    record {
+    let begun : Begun s.or n s.w s.a s.b c.first_on-x.result c.first_on-y.result c.either-v.result
+    s.one.now s.other.now c.run_first_nots.new.one c.run_first_nots.new.other = record {
       wire = c.either-v.ensures;
       left = c.first_on-x.ensures n ∙ ap {A = ℕ} {B = List ℕ} (on s.a) c.either.ensures;
       right = c.first_on-y.ensures n ∙ ap {A = ℕ} {B = List ℕ} (on s.b) c.either-2.ensures;
       one = c.run_first_nots.ensures.0;
       other = c.run_first_nots.ensures.1;
-    }) in
-    product_last_ready (lawful c.args.and) c.args.or _ c.requires begun c.map_and.ensures
+    } in
+    product_last_ready (lawful s.and) s.or _ c.requires begun c.map_and.ensures
 
 pub returns : goal.returns
 returns c =
-    let begun : (let s = c.args in
-    Begun s.or s.n s.w s.a s.b c.first_on-x.result c.first_on-y.result c.either-v.result
-    s.one.now s.other.now c.run_first_nots.new.one c.run_first_nots.new.other) = (let s = c.args in
+    let s = c.args in
     let n = s.n in
     let on : DPlaces.Places → ℕ → List ℕ = λ a h. first_on h (share_wires n a) in
-    record {
+    let begun : Begun s.or n s.w s.a s.b c.first_on-x.result c.first_on-y.result c.either-v.result
+    s.one.now s.other.now c.run_first_nots.new.one c.run_first_nots.new.other = record {
       wire = c.either-v.ensures;
       left = c.first_on-x.ensures n ∙ ap {A = ℕ} {B = List ℕ} (on s.a) c.either.ensures;
       right = c.first_on-y.ensures n ∙ ap {A = ℕ} {B = List ℕ} (on s.b) c.either-2.ensures;
       one = c.run_first_nots.ensures.0;
       other = c.run_first_nots.ensures.1;
-    }) in
-    product_ran (lawful c.args.and) c.args.or c.args.k c.requires begun c.map_and.ensures
+    } in
+    product_ran (lawful s.and) s.or s.k c.requires begun c.map_and.ensures
     c.run_last_not.ensures.0
     c.run_last_not.ensures.1

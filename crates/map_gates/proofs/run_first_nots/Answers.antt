@@ -1,7 +1,6 @@
 -- `map_gates::run_first_nots` meets its contract: two NOTs in each run, or nothing.
 -- Assumes nothing.
 use mathlib.Core.Path.{refl}
-use borrow.Author.Rules.{rules}
 use Rattle.map_gates.proofs.run_first_nots.Goals as goal
 
 pub run_nots-requires : goal.run_nots-requires

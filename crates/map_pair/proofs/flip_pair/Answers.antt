@@ -12,7 +12,6 @@ use Rattle.tables.proofs.Tests.{and_true}
 use Rattle.tables.proofs.Packing.{unpacked_bits}
 use Rattle.construction.specs.Gadgets.{gadget_of}
 use Rattle.map_pair.specs.Crossing.{wires_differ}
-use borrow.Author.Rules.{rules}
 use Rattle.map_pair.proofs.flip_pair.Goals as goal
 
 pub upper_flipped-requires : goal.upper_flipped-requires

@@ -10,7 +10,6 @@ use Rattle.tables.proofs.Run.{bit_xor_lem}
 use Rattle.construction.specs.Gadgets.{all_five, differs, gadget_of}
 use Rattle.secrecy.proofs.Both.{both_one}
 use Rattle.map_pair.proofs.Five.{pair_bits}
-use borrow.Author.Rules.{rules}
 use Rattle.map_pair.proofs.map_pair.Goals as goal
 
 pub tape_bit-bit-requires : goal.tape_bit-bit-requires

@@ -4,7 +4,6 @@ use mathlib.Core.Path.{ap₂, ◌∙◌}
 use native.Mathlib.Omega.{arith}
 use lib.Bits.{bit_xor}
 use Rattle.tables.proofs.Run.{bit_mul, bit_xor_lem, bit_and_lem}
-use borrow.Author.Rules.{rules}
 use Rattle.map_pair.proofs.product_differs.Goals as goal
 
 pub returns : goal.returns

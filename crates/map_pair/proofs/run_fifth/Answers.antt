@@ -8,7 +8,6 @@ use lib.ListN.{get_or, set}
 use Rattle.tables.specs.Runs.{xor}
 use Rattle.tables.proofs.Run.{bit_mul, bit_xor_lem, bit_and_lem}
 use Rattle.tables.proofs.Ran.{runs_bit}
-use borrow.Author.Rules.{rules}
 use Rattle.map_pair.proofs.run_fifth.Goals as goal
 
 pub bounds-run-w : goal.bounds-run-w

@@ -6,7 +6,6 @@ use native.Mathlib.Omega.{arith}
 use Rattle.tables.proofs.Ran.{Ran, runs_less}
 use Rattle.construction.specs.Gadgets.{all_five, gadget_of}
 use Rattle.map_pair.proofs.Five.{ready_2, ready_3, ready_4, ready_5, five_ran}
-use borrow.Author.Rules.{rules}
 use Rattle.map_pair.proofs.run_pair.Goals as goal
 
 pub pair_form-form-requires : goal.pair_form-form-requires
@@ -40,16 +39,20 @@ run_fifth-requires c =
 
 pub shape_of-run : goal.shape_of-run
 shape_of-run c =
-    let five : (let s = c.args in
-    Ran (map ((gadget_of s.and).gates s.w s.ai s.bj s.aj s.bi) all_five) (s.bit ∷ []) s.w s.run.now
-    (s.w + 5) 0 c.run_fifth.new.run) = (five_ran c.pair_form-form.ensures c.requires.0 c.requires.1 c.requires.2 c.run_random.ensures c.run_and.ensures
-    c.run_xor.ensures c.run_and-2.ensures c.run_fifth.ensures) in
+    let s = c.args in
+    let p = c.requires in
+    let five : Ran (map ((gadget_of s.and).gates s.w s.ai s.bj s.aj s.bi) all_five) (s.bit ∷ []) s.w s.run.now
+    (s.w + 5) 0 c.run_fifth.new.run =
+    five_ran c.pair_form-form.ensures p.0 p.1 p.2 c.run_random.ensures c.run_and.ensures c.run_xor.ensures
+    c.run_and-2.ensures c.run_fifth.ensures in
     five.long
 
 pub returns : goal.returns
 returns c =
-    let five : (let s = c.args in
-    Ran (map ((gadget_of s.and).gates s.w s.ai s.bj s.aj s.bi) all_five) (s.bit ∷ []) s.w s.run.now
-    (s.w + 5) 0 c.run_fifth.new.run) = (five_ran c.pair_form-form.ensures c.requires.0 c.requires.1 c.requires.2 c.run_random.ensures c.run_and.ensures
-    c.run_xor.ensures c.run_and-2.ensures c.run_fifth.ensures) in
+    let s = c.args in
+    let p = c.requires in
+    let five : Ran (map ((gadget_of s.and).gates s.w s.ai s.bj s.aj s.bi) all_five) (s.bit ∷ []) s.w s.run.now
+    (s.w + 5) 0 c.run_fifth.new.run =
+    five_ran c.pair_form-form.ensures p.0 p.1 p.2 c.run_random.ensures c.run_and.ensures c.run_xor.ensures
+    c.run_and-2.ensures c.run_fifth.ensures in
     five.is
