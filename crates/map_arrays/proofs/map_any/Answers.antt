@@ -2,7 +2,6 @@
 -- Assumes nothing.
 use native.Mathlib.Omega.{arith}
 use Rattle.share_places.proofs.Turns.{plan_sized}
-use borrow.Author.Rules.{rules}
 use Rattle.map_arrays.proofs.map_any.Goals as goal
 
 pub overflow_add-p : goal.overflow_add-p

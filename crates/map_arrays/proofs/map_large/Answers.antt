@@ -6,7 +6,6 @@ use native.Mathlib.Omega.{arith}
 use lib.ListN.{length-replicate}
 use Rattle.share_places.proofs.Placing.{room_of}
 use Rattle.share_places.proofs.Turns.{plan_sized}
-use borrow.Author.Rules.{rules}
 use Rattle.map_arrays.proofs.map_large.Goals as goal
 
 pub slice_bounds-map_with-end : goal.slice_bounds-map_with-end

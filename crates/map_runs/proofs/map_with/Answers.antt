@@ -4,7 +4,6 @@ use native.Mathlib.Omega.{arith}
 use Rattle.planning.proofs.Planning.{plan_fits}
 use Rattle.share_places.proofs.Placing.{plan_located}
 use Rattle.map_runs.proofs.Working.{split_fits, begin_ready, gates_ready, work_done}
-use borrow.Author.Rules.{rules}
 use Rattle.map_runs.proofs.map_with.Goals as goal
 
 pub overflow_mul-split : goal.overflow_mul-split

@@ -2,7 +2,6 @@
 -- Assumes nothing.
 use mathlib.Core.Path.{refl}
 use native.Mathlib.Omega.{arith}
-use borrow.Author.Rules.{rules}
 use Rattle.mapping.proofs.Mapping.{map_refused, free_ready, free_small, work_ready, map_done}
 use Rattle.mapping.proofs.map_tape.Goals as goal
 
