@@ -8,22 +8,13 @@ pub overflow_add-p : goal.overflow_add-p
 overflow_add-p c = omega (arith, (plan_sized c.requires.0).plain)
 
 pub mask_small-requires : goal.mask_small-requires
-mask_small-requires c = let pre = c.requires in (pre.0, c.if-p-le2048.true, pre.1)
-
-pub returns-then-p-le2048 : goal.returns-then-p-le2048
-returns-then-p-le2048 c = c.mask_small.ensures
+mask_small-requires c = let pre = c.requires in (pre.0, omega arith, pre.1)
 
 pub overflow_add-p-2 : goal.overflow_add-p-2
 overflow_add-p-2 c = omega (arith, (plan_sized c.requires.0).plain)
 
 pub mask_middle-requires : goal.mask_middle-requires
-mask_middle-requires c = let pre = c.requires in (pre.0, c.if-p-le16384.true, pre.1)
-
-pub returns-then-p-le16384 : goal.returns-then-p-le16384
-returns-then-p-le16384 c = c.mask_middle.ensures
+mask_middle-requires c = let pre = c.requires in (pre.0, omega arith, pre.1)
 
 pub mask_large-requires : goal.mask_large-requires
 mask_large-requires c = let pre = c.requires in (pre.0, pre.1)
-
-pub returns : goal.returns
-returns c = c.mask_large.ensures

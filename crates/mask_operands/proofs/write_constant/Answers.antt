@@ -40,9 +40,10 @@ loop-s-smaller c = omega arith
 pub loop-s-preserved : goal.loop-s-preserved
 unfolding pair_bytes
 loop-s-preserved c =
-    let piece = ap {A = ℕ} {B = List ℕ} (λ y. two y ++ two 0) c.loop-s.invariant.1 in (
+    let piece = ap {A = ℕ} {B = List ℕ} (λ y. two y ++ two 0) c.loop-s.invariant.1 in
+    let later : cond (eqb (c.loop-s.s + 1) 0) c.args.value 0 ≡ 0 = rw (ne_eqb (c.loop-s.s + 1) 0 (λ e. omega (arith, e))) in (
       put_pieces_turn c.loop-s.invariant.0 _ _ (omega arith) refl piece c.put_gate.ensures (omega arith),
-      rw (ne_eqb (c.loop-s.s + 1) 0 (λ e. omega (arith, e))),
+      omega (arith, later),
     )
 
 pub shape_of-ops : goal.shape_of-ops

@@ -24,7 +24,8 @@ pub put_gate-requires : goal.put_gate-requires
 put_gate-requires c =
     let R = c.requires.2 in
     let first = R.shares.left 0 R.some in
-    (omega (arith, R.some, rw c.if-kind-eq0.true at R.room), omega (arith, first), omega (arith, first))
+    let is_not : c.args.kind ≡ 0 = omega arith in
+    (omega (arith, R.some, rw is_not at R.room), omega (arith, first), omega (arith, first))
 
 pub returns-then-kind-eq0 : goal.returns-then-kind-eq0
 unfolding pair_bytes

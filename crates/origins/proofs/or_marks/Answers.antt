@@ -19,17 +19,17 @@ overflow_add-and_cost c =
 pub returns-then-d-and_cost : goal.returns-then-d-and_cost
 returns-then-d-and_cost c =
     let last : 2 + c.and_cost.result ≡ 2 + and_cost c.args.n = omega (arith, c.and_cost.ensures) in
-    or_not_marks _ _ last c.if-d-and_cost.true
+    or_not_marks c.args.n c.args.d last c.if-d-and_cost.true
 
 pub overflow_sub-d : goal.overflow_sub-d
 overflow_sub-d c =
     let last : 2 + c.and_cost.result ≡ 2 + and_cost c.args.n = omega (arith, c.and_cost.ensures) in
-    (inner _ _ last c.if-d-and_cost.false c.requires.1).0
+    (inner c.args.n c.args.d last c.if-d-and_cost.false c.requires.1).0
 
 pub and_part-requires : goal.and_part-requires
 and_part-requires c =
     let last : 2 + c.and_cost.result ≡ 2 + and_cost c.args.n = omega (arith, c.and_cost.ensures) in
-    let i = inner _ _ last c.if-d-and_cost.false c.requires.1 in
+    let i = inner c.args.n c.args.d last c.if-d-and_cost.false c.requires.1 in
     (c.requires.0, omega (arith, i.0, i.1))
 
 pub part_marks-requires : goal.part_marks-requires
@@ -39,4 +39,4 @@ part_marks-requires c =
 pub returns : goal.returns
 returns c =
     let last : 2 + c.and_cost.result ≡ 2 + and_cost c.args.n = omega (arith, c.and_cost.ensures) in
-    or_and_marks _ _ last c.if-d-and_cost.false c.requires.1 c.and_part.ensures c.part_marks.ensures
+    or_and_marks c.args.n c.args.d last c.if-d-and_cost.false c.requires.1 c.and_part.ensures c.part_marks.ensures
