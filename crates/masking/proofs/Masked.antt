@@ -1,6 +1,6 @@
 -- From a plan to masking's answer: the plan's refusal, 9, or the masked table written.
 -- Assumes nothing.
-use mathlib.Core.Path.{◌≡◌, refl, sym, ap, subst, ◌∙◌}
+use mathlib.Core.Path.{◌≡◌, sym, ap, subst, ◌∙◌}
 use mathlib.Core.Bool.{false}
 use mathlib.Core.List.{List, [], ◌∷◌}
 use Prim.Native.Nat.{ℕ, zero, suc, ◌-◌, ◌≤◌, ◌<◌}
@@ -18,7 +18,7 @@ use Rattle.tables.proofs.Tests.{first_refused}
 use Rattle.tables.proofs.Answers.{first_of, writes_refused, writes_done}
 use Rattle.tables.proofs.Cut.{cut_fault, cut_refused, input_empty, input_part}
 use Rattle.construction.specs.declared.And as DAnd
-use Rattle.construction.specs.declared.And.TheVariants.{Isw, Dom}
+use Rattle.construction.specs.declared.And.TheVariants.{Isw}
 use Rattle.construction.specs.Gadgets.{Gadget, gadget_of}
 use Rattle.construction.specs.Says.{plain_fault, masked_bytes, mask_fault, MaskSays}
 use Rattle.planning.specs.declared.Plan as DPlan
@@ -70,15 +70,6 @@ pub ordered_part :
     (G : Gadget) (s : List ℕ) {b b' : List ℕ} {r : DAnswer.Answer} → MaskSays G (take (length s - 1) (drop 1 s)) (get_or s 0 0) b b' r
     → OrderedSays G s b b' r
 ordered_part G s {b} {b'} {r} M = input_part (λ t o. MaskSays G t o b b' r) s M
-
--- the AND that a byte names
-pub and_zero : (b : ℕ) → b ≡ 0 → Isw ≡ and_of b
-and_zero zero e = refl
-and_zero (suc b) e = absurd (omega arith)
-
-pub and_other : (b : ℕ) → (b ≡ 0 → ⊥) → Dom ≡ and_of b
-and_other zero e = absurd (e refl)
-and_other (suc b) e = refl
 
 -- no input, and a byte that names the AND with what follows it
 pub mask_none :
