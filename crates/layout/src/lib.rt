@@ -16,6 +16,22 @@ pub struct Places {
     pub step: usize,
 }
 
+// Where the shares of both operands of a gate are.
+#[derive(Clone, Copy)]
+pub struct Operands {
+    pub left: Places,
+    pub right: Places,
+}
+
+// The wires that the products of a pair of shares i < j read: shares i and j of the left operand, a, and of the right one, b.
+#[derive(Clone, Copy)]
+pub struct PairShares {
+    pub ai: usize,
+    pub bj: usize,
+    pub aj: usize,
+    pub bi: usize,
+}
+
 // The wire of share i, counted from 0, for a share that is not the first.
 pub fn later_wire(a: Places, i: usize) -> usize
     requires { (1 ≤ i) × (share (share_wires (suc i) a) i < 65536) }
