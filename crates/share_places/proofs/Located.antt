@@ -13,15 +13,19 @@ use borrow.Author.Tests.{eqb-true, eqb-false}
 use Rattle.tables.specs.Tables.{Kind, OR, kind_of, Gate, no_gate, Table, wires, gate_of, total}
 use Rattle.tables.proofs.Run.{total_append}
 use Rattle.layout.specs.declared.Places as DPlaces
+use Rattle.share_places.specs.declared.KeptPlaces as DKeptPlaces
 use Rattle.construction.specs.Shares.{up_from, tri}
 use Rattle.construction.specs.Wires.{first_on, and_cost, cost, new_shares, input_shares, shares_after}
 use Rattle.layout.specs.Layout.{share_wires}
-use Rattle.share_places.specs.Located.{places_at, Small, Room, Put, Holds, Noted, shares_to, all_shares, Located, gate_wire}
+use Rattle.share_places.specs.Located.{kept, places_at, Small, Room, Put, Holds, Noted, shares_to, all_shares, Located, gate_wire}
 use Rattle.construction.proofs.Sum.{up_length, up_plus, up_shift, up_cong}
 use Rattle.construction.proofs.Placed.{shares_after_length}
 
-abbrev pub places_of : ℕ → ℕ → ℕ → DPlaces.Places
-places_of h b t = record { head = h; base = b; step = t }
+abbrev no_places : DKeptPlaces.KeptPlaces
+no_places = record { head = 0; base = 0; step = 0 }
+
+abbrev pub with_places : ℕ → ℕ → ℕ → DPlaces.Places
+with_places h b t = record { head = h; base = b; step = t }
 
 shares_suc : (m : ℕ) (a : DPlaces.Places) → share_wires (suc m) a ≡ a.head ∷ up_from m 0 (λ s. a.base + s * a.step)
 shares_suc m a =
@@ -31,18 +35,18 @@ pub shares_length : (n : ℕ) (a : DPlaces.Places) → 1 ≤ n → length (share
 shares_length n a h = omega (arith, up_length (n - 1) 0 (λ s. a.base + s * a.step))
 
 -- neighbouring wires
-pub shares_run : (n w : ℕ) → 1 ≤ n → share_wires n (places_of w (w + 1) 1) ≡ up_from n w (λ s. s)
+pub shares_run : (n w : ℕ) → 1 ≤ n → share_wires n (with_places w (w + 1) 1) ≡ up_from n w (λ s. s)
 unfolding up_from
 shares_run zero w h = absurd (omega arith)
 shares_run (suc m) w h =
     let moved : up_from m (suc w) (λ s. s) ≡ up_from m 0 (λ s. suc w + s) = rw add-zero at (up_plus m (suc w) 0 (λ s. s)) in
     let same : up_from m 0 (λ s. w + 1 + s * 1) ≡ up_from m 0 (λ s. suc w + s) =
     up_cong m 0 (λ s. w + 1 + s * 1) (λ s. suc w + s) (λ i _ _. omega arith) in
-    shares_suc m (places_of w (w + 1) 1) ∙ ap {A = List ℕ} {B = List ℕ} (λ y. w ∷ y) (same ∙ sym moved)
+    shares_suc m (with_places w (w + 1) 1) ∙ ap {A = List ℕ} {B = List ℕ} (λ y. w ∷ y) (same ∙ sym moved)
 
 -- the last wires of n rows of n wires
 shares_rows :
-    (n v e : ℕ) → 1 ≤ n → e ≡ v + (n - 1) → share_wires n (places_of e (e + n) n) ≡ up_from n 0 (λ i. v + n * i + (n - 1))
+    (n v e : ℕ) → 1 ≤ n → e ≡ v + (n - 1) → share_wires n (with_places e (e + n) n) ≡ up_from n 0 (λ i. v + n * i + (n - 1))
 unfolding up_from
 shares_rows zero v e h k = absurd (omega arith)
 shares_rows (suc m) v e h k =
@@ -50,7 +54,7 @@ shares_rows (suc m) v e h k =
     let first : e ≡ v + n * 0 + (n - 1) = omega arith in
     let same : up_from m 0 (λ s. e + n + s * n) ≡ up_from m 0 (λ i. v + n * suc i + (n - 1)) =
     up_cong m 0 _ _ (λ i _ _. omega arith) in
-    shares_suc m (places_of e (e + n) n)
+    shares_suc m (with_places e (e + n) n)
     ∙ ap₂ {A = ℕ} {B = List ℕ} {C = List ℕ} (λ x y. x ∷ y) first (same ∙ sym (up_shift m 0 _))
 
 square_more : (n : ℕ) → n + n ≤ n * n + 1
@@ -63,7 +67,7 @@ pub new_places_are :
     → w + cost (kind_of k) n ≤ 65535 → Small a → first ≡ w + 5 * tri n + (n - 1) → other-base ≡ cond (eqb k 1) (w + 1) (first + n)
     → other_step ≡ cond (eqb k 1) 1 n → head ≡ cond (eqb k 2) first w → base ≡ cond (eqb k 0) a.base other-base
     → step ≡ cond (eqb k 0) a.step other_step
-    → (share_wires n (places_of head base step) ≡ new_shares (kind_of k) n w (share_wires n a)) × Small (places_of head base step)
+    → (share_wires n (with_places head base step) ≡ new_shares (kind_of k) n w (share_wires n a)) × Small (with_places head base step)
 new_places_are zero n w a h some few fits small e p q f b t =
     rw (f, b, t) (refl, record { head = omega arith; base = small.base; step = small.step })
 new_places_are (suc zero) n w a h some few fits small e p q f b t =
@@ -78,8 +82,8 @@ new_places_are (suc (suc (suc k))) n w a h some few fits small e p q f b t = abs
 -- an OR's shares: those of its AND, with share 1 on its last wire
 pub or_places_are :
     {first cost-of : ℕ} (n w : ℕ) → 1 ≤ n → n ≤ 31 → w + cost OR n ≤ 65535 → first ≡ w + 2 + 5 * tri n + (n - 1) → cost-of ≡ and_cost n
-    → ((a : List ℕ) → share_wires n (places_of (w + 2 + cost-of) (first + n) n) ≡ new_shares OR n w a)
-    × Small (places_of (w + 2 + cost-of) (first + n) n)
+    → ((a : List ℕ) → share_wires n (with_places (w + 2 + cost-of) (first + n) n) ≡ new_shares OR n w a)
+    × Small (with_places (w + 2 + cost-of) (first + n) n)
 or_places_are n w some few fits e c =
     let v = suc (suc w) in
     let same : w + 2 ≡ v = omega arith in
@@ -88,37 +92,26 @@ or_places_are n w some few fits e c =
       record { head = omega arith; base = omega (arith, square_more n); step = omega arith },
     )
 
--- the numbers of one wire written: there, and everywhere else
-module _ {p : ℕ} {a : DPlaces.Places} {H B T H' B' T' : List ℕ} (W : Put p a H B T H' B' T') where
-  put_same : (n : ℕ) → Room (p + 1) H B T → share_wires n (places_at H' B' T' p) ≡ share_wires n a
-  put_same n r =
-      let h : get_or H' p 0 ≡ a.head = rw W.heads (get_or-set_same H p a.head 0 (omega (arith, r.heads))) in
-      let b : get_or B' p 0 ≡ a.base = rw W.bases (get_or-set_same B p a.base 0 (omega (arith, r.bases))) in
-      let t : get_or T' p 0 ≡ a.step = rw W.steps (get_or-set_same T p a.step 0 (omega (arith, r.steps))) in
-      rw (h, b, t) refl
+-- the places of one wire written: there, and everywhere else
+module _ {p : ℕ} {a : DPlaces.Places} {L L' : List DKeptPlaces.KeptPlaces} (W : Put p a L L') where
+  put_same : Room (p + 1) L → places_at L' p ≡ a
+  put_same r = rw (W.written, get_or-set_same L p (kept a) no_places (omega arith)) refl
 
-  put_other : (q : ℕ) → (q ≡ p → ⊥) → places_at H' B' T' q ≡ places_at H B T q
-  put_other q e =
-      let h : get_or H' q 0 ≡ get_or H q 0 = rw W.heads (get_or-set_other H p q a.head 0 e) in
-      let b : get_or B' q 0 ≡ get_or B q 0 = rw W.bases (get_or-set_other B p q a.base 0 e) in
-      let t : get_or T' q 0 ≡ get_or T q 0 = rw W.steps (get_or-set_other T p q a.step 0 e) in
-      rw (h, b, t) refl
+  put_other : (q : ℕ) → (q ≡ p → ⊥) → places_at L' q ≡ places_at L q
+  put_other q e = rw (W.written, get_or-set_other L p q (kept a) no_places e) refl
 
-pub noted_start : {n : ℕ} {S : List (List ℕ)} {H B T : List ℕ} → Holds n S H B T → Noted n S H B T H B T
-noted_start h = record { holds = h; past = λ q _. refl; heads = refl; bases = refl; steps = refl }
+pub noted_start : {n : ℕ} {S : List (List ℕ)} {L : List DKeptPlaces.KeptPlaces} → Holds n S L → Noted n S L L
+noted_start h = record { holds = h; past = λ q _. refl; room = refl }
 
 -- one plain wire more
 pub noted_next :
-    {n p : ℕ} {S : List (List ℕ)} {a : DPlaces.Places} {H₀ B₀ T₀ H B T H' B' T' : List ℕ} → Noted n S H₀ B₀ T₀ H B T
-    → p ≡ length S → Room (p + 1) H B T → Put p a H B T H' B' T'
-    → Noted n (S ++ (share_wires n a ∷ [])) H₀ B₀ T₀ H' B' T'
-noted_next {n} {p} {S} {a} {H₀} {B₀} {T₀} {H} {B} {T} {H'} {B'} {T'} N e r W =
+    {n p : ℕ} {S : List (List ℕ)} {a : DPlaces.Places} {L₀ L L' : List DKeptPlaces.KeptPlaces} → Noted n S L₀ L
+    → p ≡ length S → Room (p + 1) L → Put p a L L' → Noted n (S ++ (share_wires n a ∷ [])) L₀ L'
+noted_next {n} {p} {S} {a} {L₀} {L} {L'} N e r W =
     record {
       holds = λ q h. here q (omega (arith, long)) (eqb q p) refl;
       past = λ q h. put_other W q (λ z. omega (arith, long)) ∙ N.past q (omega (arith, long));
-      heads = rw (W.heads, length-set H p a.head) N.heads;
-      bases = rw (W.bases, length-set B p a.base) N.bases;
-      steps = rw (W.steps, length-set T p a.step) N.steps;
+      room = rw (W.written, length-set L p (kept a)) N.room;
     }
   where
     long : length (S ++ (share_wires n a ∷ [])) ≡ suc (length S)
@@ -126,9 +119,10 @@ noted_next {n} {p} {S} {a} {H₀} {B₀} {T₀} {H} {B} {T} {H'} {B'} {T'} N e r
 
     here :
         (q : ℕ) → q ≤ length S → (t : Bool) → eqb q p ≡ t
-        → share_wires n (places_at H' B' T' q) ≡ get_or (S ++ (share_wires n a ∷ [])) q []
+        → share_wires n (places_at L' q) ≡ get_or (S ++ (share_wires n a ∷ [])) q []
     here q h true t =
-        let at : share_wires n (places_at H' B' T' q) ≡ share_wires n a = rw (eqb-true q p t) (put_same W n r) in
+        let at : share_wires n (places_at L' q) ≡ share_wires n a =
+        rw (eqb-true q p t) (ap {A = DPlaces.Places} {B = List ℕ} (share_wires n) (put_same W r)) in
         let last : get_or (S ++ (share_wires n a ∷ [])) q [] ≡ share_wires n a =
         rw (eqb-true q p t, e) (get_or-append_seam S (share_wires n a) [] []) in
         at ∙ sym last
@@ -218,8 +212,8 @@ module _ (n : ℕ) (t : Table) where
           (take-suc t.gates g no_gate h)
           ∙ after_append n (n * t.inputs) (input_shares n t.inputs) (take g t.gates) (gate_of t g ∷ [])
 
--- the arrays hold the shares so far
-module _ {t : Table} {n : ℕ} {H B T : List ℕ} (L : Located t n H B T) where
+-- the array holds the shares so far
+module _ {t : Table} {n : ℕ} {places : List DKeptPlaces.KeptPlaces} (L : Located t n places) where
   pub located_at :
-      (g q : ℕ) → g ≤ length t.gates → q < t.inputs + g → get_or (shares_to n t g) q [] ≡ share_wires n (places_at H B T q)
+      (g q : ℕ) → g ≤ length t.gates → q < t.inputs + g → get_or (shares_to n t g) q [] ≡ share_wires n (places_at places q)
   located_at g q h k = sym (L.holds q (omega (arith, all_shares_length n t)) ∙ shares_to_at n t g h q k)

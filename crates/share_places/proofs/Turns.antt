@@ -26,6 +26,7 @@ use Rattle.planning.specs.declared.Plan as DPlan
 use Rattle.planning.specs.Plans.{PlanReady}
 use Rattle.planning.proofs.Planning.{plan_passed, plan_fits}
 use Rattle.layout.specs.Layout.{LowShares}
+use Rattle.share_places.specs.declared.KeptPlaces as DKeptPlaces
 use Rattle.share_places.specs.Located.{places_at, Room, Located, all_shares, gate_wire}
 use Rattle.share_places.proofs.Located.{all_shares_length, gate_wire_left, gate_wire_next}
 
@@ -124,9 +125,9 @@ module _ {s : List ℕ} {p : DPlan.Plan} (R : PlanReady s p) where
 
   -- the wires of a plain wire's shares are 16-bit numbers
   pub located_low :
-      {H B T : List ℕ} → Located (table_of s) p.shares H B T → (q : ℕ) → q < p.inputs + p.gates
-      → LowShares p.shares (places_at H B T q)
-  located_low {H} {B} {T} L q h i k =
+      {places : List DKeptPlaces.KeptPlaces} → Located (table_of s) p.shares places → (q : ℕ) → q < p.inputs + p.gates
+      → LowShares p.shares (places_at places q)
+  located_low L q h i k =
       let t = table_of s in
       let n = p.shares in
       let inside : q < length (all_shares n t) = omega (arith, all_shares_length n t, R.inputs, R.gates) in
@@ -137,13 +138,8 @@ module _ {s : List ℕ} {p : DPlan.Plan} (R : PlanReady s p) where
       let below = share_below n _ _ (placed_at n _ (all_shares n t) q placed inside) i k in
       omega (arith, plan_wires, (plan_fits R).wires, rw (← L.holds q inside) at below)
 
-  -- the arrays have the numbers of a plain wire
+  -- the array has the places of a plain wire
   pub located_room :
-      {H B T : List ℕ} → Located (table_of s) p.shares H B T → {q : ℕ} → q < p.inputs + p.gates → Room (q + 1) H B T
-  located_room L h =
-      let room = L.room in
-      record {
-        heads = omega (arith, room.heads, R.inputs, R.gates);
-        bases = omega (arith, room.bases, R.inputs, R.gates);
-        steps = omega (arith, room.steps, R.inputs, R.gates);
-      }
+      {places : List DKeptPlaces.KeptPlaces} → Located (table_of s) p.shares places → {q : ℕ} → q < p.inputs + p.gates
+      → Room (q + 1) places
+  located_room L h = omega (arith, L.room, R.inputs, R.gates)

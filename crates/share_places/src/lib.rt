@@ -7,18 +7,35 @@ ghost use Rattle.tables.specs.Inside.{PlainByte};
 ghost use Rattle.construction.specs.Wires.{cost, new_shares, input_shares};
 ghost use Rattle.layout.specs.Layout.{share_wires};
 ghost use Rattle.planning.specs.Plans.{PlanReady};
-ghost use Rattle.share_places.specs.Located.{places_at, Small, Room, Put, Holds, Noted, all_shares};
+ghost use Rattle.share_places.specs.Located.{places_of, places_at, Small, Room, Put, Holds, Noted, all_shares};
+
+// Where the shares of a plain wire are, as an array of all wires keeps it: 6 bytes a wire.
+#[derive(Clone, Copy)]
+pub struct KeptPlaces {
+    pub head: u16,
+    pub base: u16,
+    pub step: u16,
+}
+
+impl From<KeptPlaces> for layout::Places {
+    ghost from_gives = { λ kept r. (r ≡ places_of kept) × Small r };
+
+    // The same places.
+    fn from(kept: KeptPlaces) -> layout::Places {
+        layout::Places {
+            head: kept.head as usize,
+            base: kept.base as usize,
+            step: kept.step as usize,
+        }
+    }
+}
 
 // Where the shares of plain wire p are.
-pub fn places_at(head: &[u16], base: &[u16], step: &[u16], p: usize) -> layout::Places
-    requires { Room (p + 1) head.now base.now step.now }
-    ensures { (result ≡ places_at head.now base.now step.now p) × Small result }
+pub fn places_at(places: &[KeptPlaces], p: usize) -> layout::Places
+    requires { Room (p + 1) places.now }
+    ensures { (result ≡ places_at places.now p) × Small result }
 {
-    layout::Places {
-        head: head[p] as usize,
-        base: base[p] as usize,
-        step: step[p] as usize,
-    }
+    layout::Places::from(places[p])
 }
 
 // Where the shares of the result of a constant or an OR are, where its first wire is w.
@@ -59,50 +76,40 @@ fn new_places(kind: u8, n: usize, w: usize, a: layout::Places) -> layout::Places
 }
 
 // Notes where the shares of plain wire p are.
-fn put_places(head: &mut [u16], base: &mut [u16], step: &mut [u16], p: usize, a: layout::Places)
-    requires { Room (p + 1) head.old base.old step.old × Small a }
-    ensures { Put p a head.old base.old step.old head.new base.new
-        step.new }
+fn put_places(places: &mut [KeptPlaces], p: usize, a: layout::Places)
+    requires { Room (p + 1) places.old × Small a }
+    ensures { Put p a places.old places.new }
 {
-    head[p] = a.head as u16;
-    base[p] = a.base as u16;
-    step[p] = a.step as u16;
+    places[p] = KeptPlaces {
+        head: a.head as u16,
+        base: a.base as u16,
+        step: a.step as u16,
+    };
 }
 
 // Share s of input i is on wire n·i + s − 1.
-fn place_inputs(p: planning::Plan, head: &mut [u16], base: &mut [u16], step: &mut [u16])
-    requires { (1 ≤ p.shares) × (p.shares * p.inputs ≤ 65535) × Room p.inputs head.old base.old step.old }
-    ensures { Noted p.shares (input_shares p.shares p.inputs) head.old base.old
-        step.old head.new base.new step.new }
+fn place_inputs(p: planning::Plan, places: &mut [KeptPlaces])
+    requires { (1 ≤ p.shares) × (p.shares * p.inputs ≤ 65535) × Room p.inputs places.old }
+    ensures { Noted p.shares (input_shares p.shares p.inputs) places.old places.new }
 {
     let n = p.shares;
-    let inputs = p.inputs;
     let mut w = 0;
-    let mut i = 0;
-    while i < inputs {
+    for i in 0..p.inputs {
         let a = layout::Places {
             head: w,
             base: w + 1,
             step: 1,
         };
-        put_places(head, base, step, i, a);
+        put_places(places, i, a);
         w += n;
-        i += 1;
     }
 }
 
 // Where the shares of every gate's result are, gate by gate, where the inputs are noted already.
-fn place_gates(
-    table: &[u8],
-    p: planning::Plan,
-    head: &mut [u16],
-    base: &mut [u16],
-    step: &mut [u16],
-)
-    requires { PlanReady table.now p × Room (p.inputs + p.gates) head.old base.old step.old
-        × Holds p.shares (input_shares p.shares p.inputs) head.old base.old step.old }
-    ensures { Noted p.shares (all_shares p.shares (table_of table.now)) head.old base.old
-        step.old head.new base.new step.new }
+fn place_gates(table: &[u8], p: planning::Plan, places: &mut [KeptPlaces])
+    requires { PlanReady table.now p × Room (p.inputs + p.gates) places.old
+        × Holds p.shares (input_shares p.shares p.inputs) places.old }
+    ensures { Noted p.shares (all_shares p.shares (table_of table.now)) places.old places.new }
 {
     let n = p.shares;
     let inputs = p.inputs;
@@ -110,23 +117,20 @@ fn place_gates(
     let mut costs = [0u16; 6];
     gate_costs::note_costs(n, &mut costs);
     let mut w = n * inputs;
-    let mut g = 0;
-    while g < gates {
+    for g in 0..gates {
         let x = fields::gate_at(table, gates, g);
-        let a = places_at(head, base, step, x.left);
+        let a = places_at(places, x.left);
         let r = new_places(x.kind, n, w, a);
-        put_places(head, base, step, inputs + g, r);
+        put_places(places, inputs + g, r);
         w += gate_costs::noted_cost(&costs, x.kind);
-        g += 1;
     }
 }
 
-// Notes where the shares of every plain wire are, and changes nothing else in the three arrays.
-pub fn locate(table: &[u8], p: planning::Plan, head: &mut [u16], base: &mut [u16], step: &mut [u16])
-    requires { PlanReady table.now p × Room (p.inputs + p.gates) head.old base.old step.old }
-    ensures { Noted p.shares (all_shares p.shares (table_of table.now)) head.old base.old
-        step.old head.new base.new step.new }
+// Notes where the shares of every plain wire are, and changes nothing else in the array.
+pub fn locate(table: &[u8], p: planning::Plan, places: &mut [KeptPlaces])
+    requires { PlanReady table.now p × Room (p.inputs + p.gates) places.old }
+    ensures { Noted p.shares (all_shares p.shares (table_of table.now)) places.old places.new }
 {
-    place_inputs(p, head, base, step);
-    place_gates(table, p, head, base, step);
+    place_inputs(p, places);
+    place_gates(table, p, places);
 }

@@ -7,29 +7,22 @@ use Rattle.construction.specs.Shares.{up_from}
 use Rattle.construction.proofs.Sum.{up_length}
 use Rattle.share_places.proofs.Located.{all_shares_length}
 use Rattle.share_places.proofs.Turns.{plan_sized}
-use Rattle.share_places.proofs.Placing.{noted_room, noted_both}
+use Rattle.share_places.proofs.Placing.{noted_both}
 use Rattle.share_places.proofs.locate.Goals as goal
 
 pub place_inputs-requires : goal.place_inputs-requires
 place_inputs-requires c =
-    let pre = c.requires in
-    let z = plan_sized pre.0 in
-    let r = pre.1 in (
-      omega (arith, z.some),
-      z.inputs,
-      record { heads = omega (arith, r.heads); bases = omega (arith, r.bases); steps = omega (arith, r.steps) },
-    )
-
-pub place_gates-requires : goal.place_gates-requires
-place_gates-requires c =
-    let pre = c.requires in
-    let N = c.place_inputs.ensures in
-    (pre.0, noted_room pre.1 N (omega arith), N.holds)
+    let z = plan_sized c.requires.0 in
+    (omega (arith, z.some), z.inputs, omega (arith, c.requires.1))
 
 pub returns : goal.returns
 returns c =
     let p = c.args.p in
     let R = c.requires.0 in
-    let t = table_of c.args.table.now in
     noted_both c.place_inputs.ensures c.place_gates.ensures
-    (omega (arith, up_length p.inputs 0 (λ i. up_from p.shares (p.shares * i) (λ w. w)), all_shares_length p.shares t, R.inputs))
+    (omega (
+      arith,
+      up_length p.inputs 0 (λ i. up_from p.shares (p.shares * i) (λ w. w)),
+      all_shares_length p.shares (table_of c.args.table.now),
+      R.inputs,
+    ))

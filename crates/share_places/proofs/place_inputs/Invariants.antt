@@ -1,11 +1,7 @@
 -- The loop's invariant in `share_places::place_inputs`: the inputs before number i are noted, and the next one begins at wire n·i.
 -- Assumes nothing.
-use Prim.Native.Nat.{◌-◌}
 use Rattle.share_places.proofs.Placing.{Inputs}
 use Rattle.share_places.proofs.place_inputs.Given as goal
 
 abbrev pub invariant-loop-i : goal.invariant-loop-i
-invariant-loop-i l = Inputs l.n l.inputs l.initial.head l.initial.base l.initial.step l.head l.base l.step l.i l.w
-
-abbrev pub decreases-loop-i : goal.decreases-loop-i
-decreases-loop-i l = l.inputs - l.i
+invariant-loop-i l = Inputs l.n l.initial.places l.places l.i l.w
