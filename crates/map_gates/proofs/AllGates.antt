@@ -1,4 +1,4 @@
--- All gates in both runs: the gates from g on are left, their shares are where the arrays say.
+-- All gates in both runs: the gates from g on are left, their shares are where the array says.
 -- Assumes nothing.
 use mathlib.Core.Path.{◌≡◌, sym, ap, ◌∙◌, subst, subst₂}
 use mathlib.Core.List.{List, [], ◌∷◌, ◌++◌, map}
@@ -27,6 +27,7 @@ use Rattle.secrecy.proofs.Both.{left_long}
 use Rattle.secrecy.proofs.MapGates.{GatesLeft, gates_start, gates_ready, gates_more, gates_end}
 use Rattle.layout.specs.declared.Places as DPlaces
 use Rattle.layout.specs.Layout.{share_wires}
+use Rattle.share_places.specs.declared.KeptPlaces as DKeptPlaces
 use Rattle.share_places.specs.Located.{places_at, Room, Located, shares_to, gate_wire}
 use Rattle.share_places.proofs.Located.{gate_wire_next, shares_to_next, shares_to_length, located_at}
 use Rattle.share_places.proofs.Turns.{Turn, turn, turn_early, turn_value, plan_sized, located_room}
@@ -34,7 +35,6 @@ use Rattle.map_gates.specs.Steps.{StepReady, GateRan}
 
 -- the gates from g on are left, from wire w and from a place of the tape on; then the buffers are M, A and B
 pub record Stepping (G : Gadget) (t : Table) (n k : ℕ) (ts M A B : List ℕ) (g w at : ℕ) (m x y : List ℕ) : Type 0 where
-  pub within : g ≤ length t.gates
   pub wire : w ≡ gate_wire n t g
   pub left : GatesLeft G n k g w (shares_to n t g) (drop g t.gates) ts at M A B m x y
 
@@ -70,7 +70,6 @@ steps_start L {s} {p} k {w} R e both =
     let wire : w ≡ n * t.inputs = e ∙ ap (λ (i : ℕ). n * i) R.inputs in
     rw wire
     (record {
-      within = omega arith;
       wire = omega arith;
       left =
           gates_start L n k 0 (n * t.inputs) (input_shares n t.inputs) t.gates both
@@ -79,15 +78,15 @@ steps_start L {s} {p} k {w} R e both =
           (placed_inputs n t.inputs);
     })
 
--- at gate g, whose fields are r, where the arrays say where its operands' shares are
+-- at gate g, whose fields are r, where the array says where its operands' shares are
 module _ {G : Gadget} (L : Lawful G) {s : List ℕ} {p : DPlan.Plan} {k : ℕ} {ts M A B : List ℕ}
     {g w at : ℕ} {m x y : List ℕ} {r : DGateFields.GateFields}
-    {H D T : List ℕ}
+    {places : List DKeptPlaces.KeptPlaces}
     (R : PlanReady s p)
     (P : Stepping G (table_of s) p.shares k ts M A B g w at m x y)
     (h : g < p.gates)
     (is : GateIs (gate_of (table_of s) g) r)
-    (Z : Located (table_of s) p.shares H D T) where
+    (Z : Located (table_of s) p.shares places) where
   abbrev t : Table
   t = table_of s
 
@@ -95,10 +94,10 @@ module _ {G : Gadget} (L : Lawful G) {s : List ℕ} {p : DPlan.Plan} {k : ℕ} {
   n = p.shares
 
   abbrev a : DPlaces.Places
-  a = places_at H D T r.left
+  a = places_at places r.left
 
   abbrev b : DPlaces.Places
-  b = places_at H D T r.right
+  b = places_at places r.right
 
   abbrev this : Gate
   this = gate_of t g
@@ -128,8 +127,8 @@ module _ {G : Gadget} (L : Lawful G) {s : List ℕ} {p : DPlan.Plan} {k : ℕ} {
       share_below n w (get_or S q [])
       (placed_at n w S q here.placed (omega (arith, shares_to_length n t g (omega (arith, inside)), R.inputs))) i l
 
-  -- the arrays have both operands
-  pub step_room : Room (r.left + 1) H D T × Room (r.right + 1) H D T
+  -- the array has both operands
+  pub step_room : Room (r.left + 1) places × Room (r.right + 1) places
   step_room = (
     located_room R Z (omega (arith, facts.left)),
     located_room R Z (omega (arith, facts.right)),
@@ -180,7 +179,6 @@ module _ {G : Gadget} (L : Lawful G) {s : List ℕ} {p : DPlan.Plan} {k : ℕ} {
       rw P.wire (sym (shares_to_next n t g inside)) in
       rw (add-one, size, bits, is.kind)
       (record {
-        within = inside;
         wire = omega (arith, P.wire, gate_wire_next n t g inside);
         left =
             subst

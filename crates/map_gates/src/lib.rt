@@ -108,7 +108,7 @@ fn map_product(
     run_last_not(or, n, v, one, other);
 }
 
-// A plain gate in both runs, from wire w and from a place of the tape on, where three arrays say where its operands' shares are.
+// A plain gate in both runs, from wire w and from a place of the tape on, where an array says where its operands' shares are.
 fn map_gate(
     and: construction::And,
     kind: u8,
@@ -117,21 +117,19 @@ fn map_gate(
     k: usize,
     n: usize,
     w: usize,
-    head: &[u16],
-    base: &[u16],
-    step: &[u16],
+    places: &[share_places::KeptPlaces],
     tape: &[u8],
     at: usize,
     mapped: &mut [u8],
     one: &mut [u8],
     other: &mut [u8],
 )
-    requires { Room (left + 1) head.now base.now step.now × Room (right + 1) head.now base.now step.now
-        × StepReady kind left n w (places_at head.now base.now step.now left) (places_at head.now base.now step.now right)
+    requires { Room (left + 1) places.now × Room (right + 1) places.now
+        × StepReady kind left n w (places_at places.now left) (places_at places.now right)
         (unpacked tape.now) at (unpacked mapped.old) one.old other.old }
     ensures { (g : ℕ) → GateRan (gadget_of and) kind left n k g w
-        (places_at head.now base.now step.now left)
-        (places_at head.now base.now step.now right)
+        (places_at places.now left)
+        (places_at places.now right)
         (unpacked tape.now) at
         (unpacked mapped.old) (unpacked mapped.new) one.old
         one.new other.old other.new }
@@ -141,13 +139,13 @@ fn map_gate(
         map_values::run_constants(other, w, n, left as u8);
         return;
     }
-    let a = share_places::places_at(head, base, step, left);
+    let a = share_places::places_at(places, left);
     if kind == 0 {
         map_values::run_not(one, w, a.head);
         map_values::run_not(other, w, a.head);
         return;
     }
-    let b = share_places::places_at(head, base, step, right);
+    let b = share_places::places_at(places, right);
     if kind == 1 {
         map_values::run_xors(one, w, n, a, b);
         map_values::run_xors(other, w, n, a, b);
@@ -163,16 +161,14 @@ pub fn map_gates(
     table: &[u8],
     p: planning::Plan,
     k: usize,
-    head: &[u16],
-    base: &[u16],
-    step: &[u16],
+    places: &[share_places::KeptPlaces],
     tape: &[u8],
     at: usize,
     mapped: &mut [u8],
     one: &mut [u8],
     other: &mut [u8],
 )
-    requires { PlanReady table.now p × Located (table_of table.now) p.shares head.now base.now step.now
+    requires { PlanReady table.now p × Located (table_of table.now) p.shares places.now
         × BothReady (p.shares * (table_of table.now).inputs) (total (λ kd. cost kd p.shares) (table_of table.now).gates) at
         (total (λ kd. draws kd p.shares) (table_of table.now).gates) (unpacked tape.now) (unpacked mapped.old) one.old other.old }
     ensures { GatesRan (gadget_of and) p.shares k (table_of table.now) (unpacked tape.now) at
@@ -185,14 +181,12 @@ pub fn map_gates(
     gate_costs::note_costs(n, &mut costs);
     let mut w = n * p.inputs;
     let mut next = at;
-    let mut g = 0;
-    while g < gates {
+    for g in 0..gates {
         let x = fields::gate_at(table, gates, g);
         map_gate(
-            and, x.kind, x.left, x.right, k, n, w, head, base, step, tape, next, mapped, one, other,
+            and, x.kind, x.left, x.right, k, n, w, places, tape, next, mapped, one, other,
         );
         w += gate_costs::noted_cost(&costs, x.kind);
         next += gate_costs::gate_draws(x.kind, n);
-        g += 1;
     }
 }

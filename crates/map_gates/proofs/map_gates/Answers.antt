@@ -34,7 +34,7 @@ map_gate-requires c =
     let s = c.args in
     let x = c.gate_at-x.result in
     let l = c.loop-g in
-    let at = places_at s.head.now s.base.now s.step.now in
+    let at = places_at s.places.now in
     let ready : StepReady x.kind x.left s.p.shares l.w (at x.left) (at x.right) (unpacked s.tape.now) l.next
     (unpacked l.mapped) l.one l.other =
     step_ready (lawful s.and) c.requires.0 l.invariant c.loop-g-test.true c.gate_at-x.ensures c.requires.1 in
@@ -46,7 +46,7 @@ noted_cost-w-requires c =
     let s = c.args in
     let x = c.gate_at-x.result in
     let l = c.loop-g in
-    let at = places_at s.head.now s.base.now s.step.now in
+    let at = places_at s.places.now in
     let ready : StepReady x.kind x.left s.p.shares l.w (at x.left) (at x.right) (unpacked s.tape.now) l.next
     (unpacked l.mapped) l.one l.other =
     step_ready (lawful s.and) c.requires.0 l.invariant c.loop-g-test.true c.gate_at-x.ensures c.requires.1 in
@@ -57,7 +57,7 @@ overflow_add-w c =
     let s = c.args in
     let x = c.gate_at-x.result in
     let l = c.loop-g in
-    let at = places_at s.head.now s.base.now s.step.now in
+    let at = places_at s.places.now in
     let ready : StepReady x.kind x.left s.p.shares l.w (at x.left) (at x.right) (unpacked s.tape.now) l.next
     (unpacked l.mapped) l.one l.other =
     step_ready (lawful s.and) c.requires.0 l.invariant c.loop-g-test.true c.gate_at-x.ensures c.requires.1 in
@@ -73,25 +73,18 @@ overflow_add-next c =
     let s = c.args in
     let x = c.gate_at-x.result in
     let l = c.loop-g in
-    let at = places_at s.head.now s.base.now s.step.now in
+    let at = places_at s.places.now in
     let ready : StepReady x.kind x.left s.p.shares l.w (at x.left) (at x.right) (unpacked s.tape.now) l.next
     (unpacked l.mapped) l.one l.other =
     step_ready (lawful s.and) c.requires.0 l.invariant c.loop-g-test.true c.gate_at-x.ensures c.requires.1 in
     omega (arith, ready.both.few, c.gate_draws-next.ensures)
-
-pub overflow_add-g : goal.overflow_add-g
-overflow_add-g c =
-    omega (arith, c.loop-g-test.true, (plan_sized c.requires.0).plain)
-
-pub loop-g-smaller : goal.loop-g-smaller
-loop-g-smaller c = omega (arith, c.loop-g-test.true)
 
 pub loop-g-preserved : goal.loop-g-preserved
 loop-g-preserved c =
     let s = c.args in
     let x = c.gate_at-x.result in
     let l = c.loop-g in
-    let at = places_at s.head.now s.base.now s.step.now in
+    let at = places_at s.places.now in
     let ready : StepReady x.kind x.left s.p.shares l.w (at x.left) (at x.right) (unpacked s.tape.now) l.next
     (unpacked l.mapped) l.one l.other =
     step_ready (lawful s.and) c.requires.0 l.invariant c.loop-g-test.true c.gate_at-x.ensures c.requires.1 in
@@ -126,5 +119,5 @@ shape_of-other c =
 
 pub returns : goal.returns
 returns c =
-    let end = steps_end c.loop-g.invariant (omega (arith, c.loop-g-test.false, c.requires.0.gates)) in
+    let end = steps_end c.loop-g.invariant (omega (arith, c.requires.0.gates)) in
     record { mapped = end.0; one = end.1; other = end.2 }

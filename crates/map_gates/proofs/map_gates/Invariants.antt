@@ -1,6 +1,5 @@
 -- The loop's invariant in `map_gates::map_gates`: the gates from g on are left.
 -- Assumes nothing.
-use Prim.Native.Nat.{◌-◌}
 use Rattle.tables.specs.Packing.{unpacked}
 use Rattle.tables.specs.Tables.{table_of}
 use Rattle.construction.specs.Gadgets.{gadget_of}
@@ -12,7 +11,3 @@ invariant-loop-g l =
     Going (gadget_of l.and) (table_of l.table) l.n l.k (unpacked l.tape) l.at
     (unpacked l.initial.mapped) l.initial.one l.initial.other
     l.g l.w l.next (unpacked l.mapped) l.one l.other
-
-abbrev pub decreases-loop-g : goal.decreases-loop-g
-decreases-loop-g l =
-    l.gates - l.g
