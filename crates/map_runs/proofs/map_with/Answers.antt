@@ -16,10 +16,6 @@ overflow_mul-split-2 c =
     let W = c.requires.0 in
     omega (arith, split_fits c.args.and W, W.tape, (plan_fits W.plan).tape, (plan_fits W.plan).wires)
 
-pub locate-requires : goal.locate-requires
-locate-requires c =
-    let pre = c.requires in (pre.0.plan, pre.1)
-
 pub begin_runs-requires : goal.begin_runs-requires
 begin_runs-requires c =
     begin_ready c.args.and c.requires.0
@@ -35,6 +31,6 @@ map_gates-requires c =
 pub returns : goal.returns
 returns c =
     work_done c.args.and c.requires.0 c.begin_runs.ensures _ c.map_gates.ensures
-    (λ i. omega (arith, c.shared_slice_known-4-1.given i))
-    (λ i. omega (arith, c.slice_known-4-1.given i))
-    (λ i. omega (arith, c.slice_known-13-1.given i))
+    (λ i. omega (arith, c.type_inv.tape i))
+    (λ i. grind arith)
+    (λ i. omega (arith, c.type_inv.mapped i))
