@@ -1,9 +1,11 @@
 -- For contracts inside the library only: no promise of a call cites this.
 -- Assumes nothing.
-use Rattle.std.specs.Prelude.{◌≡◌, List, ◌++◌, ℕ, ◌+◌, ◌*◌, ◌≤◌, ◌<◌, length, get_or, take, drop}
+use Rattle.std.specs.Prelude.{◌≡◌, Result, Ok, Err, MatchResult, List, ◌++◌, ℕ, ◌+◌, ◌*◌, ◌≤◌, ◌<◌, length, get_or, take, drop}
+use Rattle.tables.specs.declared.Answer as DAnswer
 use Rattle.tables.specs.declared.GateFields as DGateFields
 use Rattle.tables.specs.declared.Refusal as DRefusal
-use Rattle.tables.specs.Refusals.{Fault}
+use Rattle.tables.specs.Refusals.{Fault, none}
+use Rattle.tables.specs.Refusing.{fault_of}
 use Rattle.tables.specs.Tables.{kind_of, Gate, word}
 use Rattle.tables.specs.Runs.{run_from}
 use Rattle.tables.specs.Says.{over}
@@ -12,10 +14,18 @@ use Rattle.tables.specs.Says.{over}
 abbrev pub Bits : List ℕ → Type 0
 Bits vs = (i : ℕ) → get_or vs i 0 ≤ 1
 
--- number and place are the fault's
-pub record Refused (f : Fault) (r : DRefusal.Refusal) : Type 0 where
-  pub number : r.number ≡ f.number
-  pub place : r.place ≡ f.place
+-- a check passes where there is no fault; a refusal has the fault's number and place
+abbrev pub Refused : {A : Type 0} → Fault → Result A DRefusal.Refusal → Type 0
+Refused f r = MatchResult r (λ _. f ≡ none) (λ e. f ≡ fault_of e)
+
+-- the same of a check that gives a value where there is no fault, of which P holds
+abbrev pub Outcome : {A : Type 0} → Fault → (A → Type 0) → Result A DRefusal.Refusal → Type 0
+Outcome f P r = MatchResult r (λ x. (f ≡ none) × P x) (λ e. f ≡ fault_of e)
+
+-- what C is told of a call: a refusal's number and place, or 0, 0 and the value
+abbrev pub answer_of : Result ℕ DRefusal.Refusal → DAnswer.Answer
+answer_of (Ok v) = record { number = 0; place = 0; value = v }
+answer_of (Err e) = record { number = (fault_of e).number; place = (fault_of e).place; value = 0 }
 
 -- xs at a place of ys
 unfoldable pub put_at : ℕ → List ℕ → List ℕ → List ℕ
