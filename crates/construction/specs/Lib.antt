@@ -5,5 +5,6 @@ pub mod Gadgets
 pub mod Wires
 pub mod Codes
 pub mod Says
+pub mod Told
 pub mod Counts
 pub mod PinMarks

@@ -22,7 +22,7 @@ pub enum Kind {
 }
 
 // A byte that states no kind.
-#[derive(Clone, Copy, PartialEq, Eq)]
+#[derive(Clone, Copy)]
 pub struct UnknownKind(pub u8);
 
 impl TryFrom<u8> for Kind {
