@@ -30,6 +30,14 @@ impl From<KeptPlaces> for layout::Places {
     }
 }
 
+// How many plain wires there are: a call keeps places of so many.
+pub fn plain_wires(table: &[u8], p: planning::Plan) -> usize
+    requires { PlanReady table.now p }
+    ensures { (result ≡ p.inputs + p.gates) × (result ≤ 65535) }
+{
+    p.inputs + p.gates
+}
+
 // Where the shares of plain wire p are.
 pub fn places_at(places: &[KeptPlaces], p: usize) -> layout::Places
     requires { Room (p + 1) places.now }
