@@ -1,12 +1,12 @@
-// The mapped tape and both runs, with arrays of the size that a table needs, in which it is noted where shares are.
+// The mapped tape and both runs, with an array of the size that a table needs, in which it is noted where shares are.
 #![tactic(auto)]
 
 ghost use Rattle.std.specs.Prelude.{◌+◌, ◌≤◌};
 ghost use Rattle.construction.specs.Gadgets.{gadget_of};
 ghost use Rattle.map_runs.specs.Working.{WorkReady, WorkSays};
 
-// Maps with a table of at most 256 wires.
-fn map_tiny(
+// Maps with a table of at most N wires.
+fn map_sized<const N: usize>(
     and: construction::And,
     table: &[u8],
     p: planning::Plan,
@@ -19,92 +19,28 @@ fn map_tiny(
     other: &mut [u8],
 )
     requires { WorkReady table.now p k first.now second.now tape.now mapped.old one.old other.old
-        × (p.inputs + p.gates ≤ 256) }
+        × (p.inputs + p.gates ≤ N) × (N ≤ 65536) }
     ensures { WorkSays (gadget_of and) table.now p.order k first.now second.now tape.now
         mapped.old mapped.new one.old one.new other.old other.new }
 {
-    let mut head = [0u16; 256];
-    let mut base = [0u16; 256];
-    let mut step = [0u16; 256];
+    let none = share_places::KeptPlaces {
+        head: 0,
+        base: 0,
+        step: 0,
+    };
+    let mut places = [none; N];
     map_runs::map_with(
-        and, table, p, k, first, second, tape, &mut head, &mut base, &mut step, mapped, one, other,
-    );
-}
-
-// Maps with a table of at most 2,048 wires.
-fn map_small(
-    and: construction::And,
-    table: &[u8],
-    p: planning::Plan,
-    k: usize,
-    first: &[u8],
-    second: &[u8],
-    tape: &[u8],
-    mapped: &mut [u8],
-    one: &mut [u8],
-    other: &mut [u8],
-)
-    requires { WorkReady table.now p k first.now second.now tape.now mapped.old one.old other.old
-        × (p.inputs + p.gates ≤ 2048) }
-    ensures { WorkSays (gadget_of and) table.now p.order k first.now second.now tape.now
-        mapped.old mapped.new one.old one.new other.old other.new }
-{
-    let mut head = [0u16; 2048];
-    let mut base = [0u16; 2048];
-    let mut step = [0u16; 2048];
-    map_runs::map_with(
-        and, table, p, k, first, second, tape, &mut head, &mut base, &mut step, mapped, one, other,
-    );
-}
-
-// Maps with a table of at most 16,384 wires.
-fn map_middle(
-    and: construction::And,
-    table: &[u8],
-    p: planning::Plan,
-    k: usize,
-    first: &[u8],
-    second: &[u8],
-    tape: &[u8],
-    mapped: &mut [u8],
-    one: &mut [u8],
-    other: &mut [u8],
-)
-    requires { WorkReady table.now p k first.now second.now tape.now mapped.old one.old other.old
-        × (p.inputs + p.gates ≤ 16384) }
-    ensures { WorkSays (gadget_of and) table.now p.order k first.now second.now tape.now
-        mapped.old mapped.new one.old one.new other.old other.new }
-{
-    let mut head = [0u16; 16384];
-    let mut base = [0u16; 16384];
-    let mut step = [0u16; 16384];
-    map_runs::map_with(
-        and, table, p, k, first, second, tape, &mut head, &mut base, &mut step, mapped, one, other,
-    );
-}
-
-// Maps with a table of any number of wires.
-fn map_large(
-    and: construction::And,
-    table: &[u8],
-    p: planning::Plan,
-    k: usize,
-    first: &[u8],
-    second: &[u8],
-    tape: &[u8],
-    mapped: &mut [u8],
-    one: &mut [u8],
-    other: &mut [u8],
-)
-    requires { WorkReady table.now p k first.now second.now tape.now mapped.old one.old other.old }
-    ensures { WorkSays (gadget_of and) table.now p.order k first.now second.now tape.now
-        mapped.old mapped.new one.old one.new other.old other.new }
-{
-    let mut head = [0u16; 65536];
-    let mut base = [0u16; 65536];
-    let mut step = [0u16; 65536];
-    map_runs::map_with(
-        and, table, p, k, first, second, tape, &mut head, &mut base, &mut step, mapped, one, other,
+        and,
+        table,
+        p,
+        k,
+        first,
+        second,
+        tape,
+        &mut places,
+        mapped,
+        one,
+        other,
     );
 }
 
@@ -125,15 +61,15 @@ fn map_any(
     ensures { WorkSays (gadget_of and) table.now p.order k first.now second.now tape.now
         mapped.old mapped.new one.old one.new other.old other.new }
 {
-    if p.inputs + p.gates <= 2048 {
-        map_small(and, table, p, k, first, second, tape, mapped, one, other);
+    if share_places::plain_wires(table, p) <= 2048 {
+        map_sized::<2048>(and, table, p, k, first, second, tape, mapped, one, other);
         return;
     }
-    if p.inputs + p.gates <= 16384 {
-        map_middle(and, table, p, k, first, second, tape, mapped, one, other);
+    if share_places::plain_wires(table, p) <= 16384 {
+        map_sized::<16384>(and, table, p, k, first, second, tape, mapped, one, other);
         return;
     }
-    map_large(and, table, p, k, first, second, tape, mapped, one, other);
+    map_sized::<65536>(and, table, p, k, first, second, tape, mapped, one, other);
 }
 
 // Maps with little stack where the table is tiny: to reserve that of a large one takes time even where it is not used.
@@ -153,8 +89,8 @@ fn map_lean(
     ensures { WorkSays (gadget_of and) table.now p.order k first.now second.now tape.now
         mapped.old mapped.new one.old one.new other.old other.new }
 {
-    if p.inputs + p.gates <= 256 {
-        map_tiny(and, table, p, k, first, second, tape, mapped, one, other);
+    if share_places::plain_wires(table, p) <= 256 {
+        map_sized::<256>(and, table, p, k, first, second, tape, mapped, one, other);
         return;
     }
     map_any(and, table, p, k, first, second, tape, mapped, one, other);
@@ -178,7 +114,7 @@ pub fn map_work(
     ensures { WorkSays (gadget_of and) table.now p.order k first.now second.now tape.now
         mapped.old mapped.new one.old one.new other.old other.new }
 {
-    if p.inputs + p.gates <= 2048 {
+    if share_places::plain_wires(table, p) <= 2048 {
         map_lean(and, table, p, k, first, second, tape, mapped, one, other);
         return;
     }
