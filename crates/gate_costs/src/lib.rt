@@ -1,13 +1,17 @@
 // What a gate costs once it is masked, in wires and in random bits.
 #![tactic(auto)]
 
-ghost use Rattle.std.specs.Prelude.{◌≡◌, ◌≤◌, ℕ, length, get_or};
+ghost use Rattle.std.specs.Prelude.{◌≡◌, ◌≤◌, ℕ, get_or};
 ghost use Rattle.tables.specs.Tables.{kind_of};
+ghost use Rattle.tables.specs.Kinds.{kind_is};
 ghost use Rattle.construction.specs.Shares.{tri};
 ghost use Rattle.construction.specs.Wires.{and_cost, cost};
 ghost use Rattle.construction.specs.Counts.{draws};
 
+use tables::Kind;
+
 // How many pairs n shares have.
+#[tactic(auto, using(construction::proofs::Rows::tri_closed))]
 pub fn pair_count(n: usize) -> usize
     requires { n ≤ 31 }
     ensures { result ≡ tri n }
@@ -16,6 +20,7 @@ pub fn pair_count(n: usize) -> usize
 }
 
 // How many masked wires an AND costs.
+#[tactic(auto, using(crate::proofs::Figures::tri_small, crate::proofs::Figures::square_small))]
 pub fn and_cost(n: usize) -> usize
     requires { n ≤ 31 }
     ensures { result ≡ and_cost n }
@@ -24,59 +29,63 @@ pub fn and_cost(n: usize) -> usize
 }
 
 // How many masked wires a plain gate costs.
-pub fn gate_cost(kind: u8, n: usize) -> usize
-    requires { (kind ≤ 5) × (n ≤ 31) }
-    ensures { result ≡ cost (kind_of kind) n }
+#[tactic(auto, using(crate::proofs::Figures::tri_small, crate::proofs::Figures::square_small))]
+pub fn gate_cost(kind: Kind, n: usize) -> usize
+    requires { n ≤ 31 }
+    ensures { result ≡ cost (kind_is kind) n }
 {
-    if kind == 0 {
-        return 1;
-    }
-    if kind == 2 {
-        return and_cost(n);
-    }
-    if kind == 3 {
-        return 0;
-    }
-    if kind == 5 {
-        return and_cost(n) + 3;
-    }
-    n
-}
-
-// Notes what a gate of each kind costs, by the kind's byte, so that a loop over gates has no branch where it adds costs up.
-pub fn note_costs(n: usize, costs: &mut [u16])
-    requires { (n ≤ 31) × (length costs.old ≡ 6) }
-    ensures { (length costs.new ≡ 6) × ((k : ℕ) → k ≤ 5 → get_or costs.new k 0 ≡ cost (kind_of k) n) }
-{
-    let mut kind: u8 = 0;
-    while kind < 6 {
-        costs[kind as usize] = gate_cost(kind, n) as u16;
-        kind += 1;
+    match kind {
+        Kind::Not => 1,
+        Kind::Xor | Kind::Constant => n,
+        Kind::And => and_cost(n),
+        Kind::Random => 0,
+        Kind::Or => and_cost(n) + 3,
     }
 }
 
-// A noted cost as a number of wires.
-fn wide(cost: u16) -> usize
-    ensures { result ≡ cost }
-{
-    cost as usize
+// What a gate of each kind costs at so many shares, by the kind's byte, so that a loop over gates has no branch where it adds costs up.
+#[derive(Clone, Copy)]
+pub struct GateCosts {
+    pub shares: usize,
+    costs: [u16; 6],
+    ghost noted: { (k : ℕ) → k ≤ 5 → get_or costs k 0 ≡ cost (kind_of k) shares },
 }
 
-// What was noted of a kind.
-pub fn noted_cost(costs: &[u16], kind: u8) -> usize
-    requires { (kind ≤ 5) × (length costs.now ≡ 6) }
-    ensures { result ≡ get_or costs.now kind 0 }
-{
-    wide(costs[kind as usize])
+impl GateCosts {
+    // The costs at n shares.
+    #[tactic(auto, using(crate::proofs::Figures::tri_small, crate::proofs::Figures::square_small))]
+    pub fn new(n: usize) -> GateCosts
+        requires { n ≤ 31 }
+        ensures { result.shares ≡ n }
+    {
+        GateCosts {
+            shares: n,
+            costs: [
+                gate_cost(Kind::Not, n) as u16,
+                gate_cost(Kind::Xor, n) as u16,
+                gate_cost(Kind::And, n) as u16,
+                gate_cost(Kind::Random, n) as u16,
+                gate_cost(Kind::Constant, n) as u16,
+                gate_cost(Kind::Or, n) as u16,
+            ],
+        }
+    }
+
+    // What a gate of a kind costs.
+    pub fn of(&self, kind: Kind) -> usize
+        ensures { result ≡ cost (kind_is kind) self.now.shares }
+    {
+        self.costs[kind as usize] as usize
+    }
 }
 
 // How many random bits a plain gate draws once it is masked.
-pub fn gate_draws(kind: u8, n: usize) -> usize
+pub fn gate_draws(kind: Kind, n: usize) -> usize
     requires { n ≤ 31 }
-    ensures { result ≡ draws (kind_of kind) n }
+    ensures { result ≡ draws (kind_is kind) n }
 {
-    if (kind == 2) | (kind == 5) {
-        return pair_count(n);
+    match kind {
+        Kind::And | Kind::Or => pair_count(n),
+        _ => 0,
     }
-    0
 }
