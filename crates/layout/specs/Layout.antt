@@ -1,9 +1,12 @@
 -- For contracts inside the library only: no promise of a call cites this. How the code keeps the wires of a plain wire's
 -- shares, the new wires of a plain gate as gates in pieces one after another, as the loops go over them, and their operands' bytes.
 -- Assumes nothing.
-use Rattle.std.specs.Prelude.{cond, List, [], ◌∷◌, ◌++◌, map, ℕ, zero, suc, ◌+◌, ◌-◌, ◌*◌, ◌<◌, ◌≤◌, eqb}
+use Rattle.std.specs.Prelude.{◌≡◌, cond, List, [], ◌∷◌, ◌++◌, map, ℕ, zero, suc, ◌+◌, ◌-◌, ◌*◌, ◌<◌, ◌≤◌, eqb}
 use Rattle.tables.specs.Tables.{NOT, XOR, AND, CONSTANT, Gate, gate, pair_bytes}
 use Rattle.layout.specs.declared.Places as DPlaces
+use Rattle.layout.specs.declared.Operands as DOperands
+use Rattle.layout.specs.declared.PairShares as DPairShares
+use Rattle.construction.specs.declared.SharePair as DSharePair
 use Rattle.construction.specs.Shares.{up_from, in_turn, Pair, pairs, tri, pair_at}
 use Rattle.construction.specs.Gadgets.{all_five, Gadget}
 use Rattle.construction.specs.Wires.{Wire, driver_of, share, first_on, pair_wire, and_shares}
@@ -76,7 +79,21 @@ or_gates G n w a b =
     ++ (gate NOT (share (and_shares n (suc (suc w))) 0) 0 ∷ []))
 
 -- the wires of both operands' n shares are below 65,536
-pub record ReadsShares (n : ℕ) (a b : DPlaces.Places) : Type 0 where
+pub record ReadsShares (n : ℕ) (o : DOperands.Operands) : Type 0 where
   pub few : n ≤ 31
-  pub left : LowShares n a
-  pub right : LowShares n b
+  pub left : LowShares n o.left
+  pub right : LowShares n o.right
+
+-- the wires that the products of a pair of shares read, where the operands' shares are on the wires a and b
+pub record PairReads (a b : List ℕ) (p : DSharePair.SharePair) (x : DPairShares.PairShares) : Type 0 where
+  pub ai : x.ai ≡ share a p.lower
+  pub bj : x.bj ≡ share b p.upper
+  pub aj : x.aj ≡ share a p.upper
+  pub bi : x.bi ≡ share b p.lower
+
+-- they are below 65,536
+pub record LowPair (x : DPairShares.PairShares) : Type 0 where
+  pub ai : x.ai < 65536
+  pub bj : x.bj < 65536
+  pub aj : x.aj < 65536
+  pub bi : x.bi < 65536

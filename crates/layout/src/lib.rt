@@ -4,7 +4,7 @@
 ghost use Rattle.std.specs.Prelude.{◌≡◌, cond, ◌+◌, ◌-◌, ◌*◌, ◌≤◌, ◌<◌, ℕ, suc, ◌++◌, length};
 ghost use Rattle.construction.specs.Shares.{tri};
 ghost use Rattle.construction.specs.Wires.{share, first_on, and_shares};
-ghost use Rattle.layout.specs.Layout.{share_wires};
+ghost use Rattle.layout.specs.Layout.{share_wires, LowShares, PairReads, LowPair};
 ghost use Rattle.tables.specs.Inside.{put_at};
 ghost use Rattle.tables.specs.Tables.{two};
 
@@ -32,7 +32,24 @@ pub struct PairShares {
     pub bi: usize,
 }
 
+impl Operands {
+    // The wires that the products of a pair of shares read.
+    pub fn pair(self, p: construction::SharePair) -> PairShares
+        requires { (p.lower < p.upper) × LowShares (suc p.upper) self.left × LowShares (suc p.upper) self.right }
+        ensures { LowPair result
+            × ((n : ℕ) → p.upper < n → PairReads (share_wires n self.left) (share_wires n self.right) p result) }
+    {
+        PairShares {
+            ai: share_wire(self.left, p.lower),
+            bj: later_wire(self.right, p.upper),
+            aj: later_wire(self.left, p.upper),
+            bi: share_wire(self.right, p.lower),
+        }
+    }
+}
+
 // The wire of share i, counted from 0, for a share that is not the first.
+#[tactic(auto, using(crate::proofs::ShareWires::shares_later))]
 pub fn later_wire(a: Places, i: usize) -> usize
     requires { (1 ≤ i) × (share (share_wires (suc i) a) i < 65536) }
     ensures { (result < 65536) × ((n : ℕ) → i < n → result ≡ share (share_wires n a) i) }
@@ -63,6 +80,7 @@ pub fn first_on(w: usize, a: Places) -> Places
 }
 
 // The wire of share 1 of the result of an AND whose first wire is w: the last wire of its first row.
+#[tactic(auto, using(gate_costs::proofs::Figures::tri_small, construction::proofs::Sum::up_at))]
 pub fn and_first(n: usize, w: usize) -> usize
     requires { (1 ≤ n) × (n ≤ 31) × (w ≤ 65535) }
     ensures { (result ≡ share (and_shares n w) 0) × (result ≡ w + 5 * tri n + (n - 1)) }
@@ -71,6 +89,7 @@ pub fn and_first(n: usize, w: usize) -> usize
 }
 
 // Writes one gate's operands: two fields.
+#[tactic(auto, using(tables::proofs::Put::put_then))]
 pub fn put_gate(ops: &mut [u8], at: usize, left: usize, right: usize)
     requires { (at + 4 ≤ length ops.old) × (left < 65536) × (right < 65536) }
     ensures { ops.new ≡ put_at at (two left ++ two right) ops.old }

@@ -13,6 +13,6 @@ pub record OperandRoom (kind value n w : ℕ) (a b : DPlaces.Places) (at : ℕ) 
   pub plain : PlainByte kind
   pub small : value < 65536
   pub some : 1 ≤ n
-  pub shares : ReadsShares n a b
+  pub shares : ReadsShares n (record { left = a; right = b })
   pub wires : w + cost (kind_of kind) n ≤ 65536
   pub room : at + 4 * cost (kind_of kind) n ≤ length ops

@@ -12,16 +12,15 @@ ghost use Rattle.layout.specs.Layout.{constant_gates, and_gates, or_gates};
 ghost use Rattle.share_places.specs.Located.{places_at, Room};
 
 // Writes the operands of an XOR's wires, share by share.
-fn write_xor(ops: &mut [u8], at: usize, n: usize, a: layout::Places, b: layout::Places)
-    requires { ReadsShares n a b × (at + 4 * n ≤ length ops.old) }
-    ensures { ops.new ≡ put_at at (pair_bytes (pieces_from n 0 (xor_gates (share_wires n a) (share_wires n b)))) ops.old }
+fn write_xor(ops: &mut [u8], at: usize, n: usize, operands: layout::Operands)
+    requires { ReadsShares n operands × (at + 4 * n ≤ length ops.old) }
+    ensures { ops.new
+        ≡ put_at at (pair_bytes (pieces_from n 0 (xor_gates (share_wires n operands.left) (share_wires n operands.right)))) ops.old }
 {
-    let mut s = 0;
-    while s < n {
-        let left = layout::share_wire(a, s);
-        let right = layout::share_wire(b, s);
+    for s in 0..n {
+        let left = layout::share_wire(operands.left, s);
+        let right = layout::share_wire(operands.right, s);
         layout::put_gate(ops, at + 4 * s, left, right);
-        s += 1;
     }
 }
 
@@ -30,12 +29,9 @@ fn write_constant(ops: &mut [u8], at: usize, n: usize, value: usize)
     requires { (at + 4 * n ≤ length ops.old) × (value < 65536) }
     ensures { ops.new ≡ put_at at (pair_bytes (pieces_from n 0 (constant_gates value))) ops.old }
 {
-    let mut left = value;
-    let mut s = 0;
-    while s < n {
+    for s in 0..n {
+        let left = if s == 0 { value } else { 0 };
         layout::put_gate(ops, at + 4 * s, left, 0);
-        left = 0;
-        s += 1;
     }
 }
 
@@ -46,15 +42,14 @@ fn write_and(
     at: usize,
     w: usize,
     n: usize,
-    a: layout::Places,
-    b: layout::Places,
+    operands: layout::Operands,
 )
-    requires { ReadsShares n a b × (w + cost AND n ≤ 65536) × (at + 4 * cost AND n ≤ length ops.old) }
+    requires { ReadsShares n operands × (w + cost AND n ≤ 65536) × (at + 4 * cost AND n ≤ length ops.old) }
     ensures { ops.new
-        ≡ put_at at (pair_bytes (and_gates (gadget_of and) n w (share_wires n a) (share_wires n b))) ops.old }
+        ≡ put_at at (pair_bytes (and_gates (gadget_of and) n w (share_wires n operands.left) (share_wires n operands.right))) ops.old }
 {
-    let v = mask_pairs::write_pairs(and, ops, at, w, n, a, b);
-    mask_rows::write_rows(and, ops, at + 4 * (v - w), v, w, n, a, b);
+    let v = mask_pairs::write_pairs(and, ops, at, w, n, operands);
+    mask_rows::write_rows(and, ops, at + 4 * (v - w), v, w, n, operands);
 }
 
 // Writes the operands of an OR's wires, from wire w on: the NOTs of both first shares, the AND, the NOT of its first share.
@@ -64,20 +59,21 @@ fn write_or(
     at: usize,
     w: usize,
     n: usize,
-    a: layout::Places,
-    b: layout::Places,
+    operands: layout::Operands,
 )
-    requires { (1 ≤ n) × ReadsShares n a b × (w + cost OR n ≤ 65536) × (at + 4 * cost OR n ≤ length ops.old) }
+    requires { (1 ≤ n) × ReadsShares n operands × (w + cost OR n ≤ 65536) × (at + 4 * cost OR n ≤ length ops.old) }
     ensures { ops.new
-        ≡ put_at at (pair_bytes (or_gates (gadget_of and) n w (share_wires n a) (share_wires n b))) ops.old }
+        ≡ put_at at (pair_bytes (or_gates (gadget_of and) n w (share_wires n operands.left) (share_wires n operands.right))) ops.old }
 {
     let last = layout::and_first(n, w + 2);
     let end = at + 8 + 4 * gate_costs::and_cost(n);
-    let x = layout::first_on(w, a);
-    let y = layout::first_on(w + 1, b);
-    layout::put_gate(ops, at, a.head, 0);
-    layout::put_gate(ops, at + 4, b.head, 0);
-    write_and(and, ops, at + 8, w + 2, n, x, y);
+    let inverted = layout::Operands {
+        left: layout::first_on(w, operands.left),
+        right: layout::first_on(w + 1, operands.right),
+    };
+    layout::put_gate(ops, at, operands.left.head, 0);
+    layout::put_gate(ops, at + 4, operands.right.head, 0);
+    write_and(and, ops, at + 8, w + 2, n, inverted);
     layout::put_gate(ops, end, last, 0);
 }
 
@@ -112,15 +108,17 @@ pub fn write_operands_of(
         write_constant(ops, at, n, left);
         return;
     }
-    let a = share_places::places_at(head, base, step, left);
-    let b = share_places::places_at(head, base, step, right);
+    let operands = layout::Operands {
+        left: share_places::places_at(head, base, step, left),
+        right: share_places::places_at(head, base, step, right),
+    };
     if kind == 1 {
-        write_xor(ops, at, n, a, b);
+        write_xor(ops, at, n, operands);
         return;
     }
     if kind == 2 {
-        write_and(and, ops, at, w, n, a, b);
+        write_and(and, ops, at, w, n, operands);
         return;
     }
-    write_or(and, ops, at, w, n, a, b);
+    write_or(and, ops, at, w, n, operands);
 }

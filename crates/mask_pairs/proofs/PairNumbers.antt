@@ -6,22 +6,21 @@ use Prim.Native.Nat.{ℕ, zero, suc, ◌+◌, ◌-◌, ◌≤◌, ◌<◌}
 use native.Mathlib.Omega.{arith}
 use Rattle.construction.specs.Shares.{pair_of, tri, pair_at}
 use Rattle.construction.specs.Gadgets.{Gadget, all_five}
-use Rattle.construction.specs.Wires.{share}
 use Rattle.construction.proofs.Rows.{pair_at_lem, tri_closed, pair_closed}
-use Rattle.layout.specs.Layout.{pair_gates}
+use Rattle.layout.specs.Layout.{pair_gates, PairReads}
+use Rattle.layout.specs.declared.PairShares as DPairShares
 use Rattle.layout.proofs.Pieces.{pair_number}
 use Rattle.construction.specs.declared.SharePair as DSharePair
 use Rattle.mask_pairs.specs.PairRoom.{PairNo}
 
 -- a pair's gates from the wires that are its operands
 pub pair_piece :
-    {ai bj aj bi n c : ℕ} {p : DSharePair.SharePair} (G : Gadget) (w : ℕ) (a b : List ℕ) → PairNo n c p → ai ≡ share a p.lower
-    → bj ≡ share b p.upper → aj ≡ share a p.upper → bi ≡ share b p.lower
-    → map (G.gates w ai bj aj bi) all_five ≡ pair_gates G a b w (pair_number n c)
-pair_piece {n = n} {c = c} {p = p} G w a b P q r s t =
+    {x : DPairShares.PairShares} {n c : ℕ} {p : DSharePair.SharePair} (G : Gadget) (w : ℕ) (a b : List ℕ) → PairNo n c p → PairReads a b p x
+    → map (G.gates w x.ai x.bj x.aj x.bi) all_five ≡ pair_gates G a b w (pair_number n c)
+pair_piece {n = n} {c = c} {p = p} G w a b P R =
     let d = pair_of 0 0 in
     let here : pair_number n c ≡ pair_of p.lower p.upper = rw P.place (pair_at_lem n p.lower p.upper d P.rising P.inside).1 in
-    rw (here, q, r, s, t) refl
+    rw (here, R.ai, R.bj, R.aj, R.bi) refl
 
 -- the pairs one after another: those of share i, then those of the next share
 pub pair_first : (n : ℕ) → 0 < tri n → PairNo n 0 (record { lower = 0; upper = 1 })

@@ -4,12 +4,13 @@
 use Rattle.std.specs.Prelude.{◌≡◌, List, ℕ, ◌+◌, ◌≤◌, ◌<◌, length}
 use Rattle.construction.specs.Shares.{pair_at}
 use Rattle.construction.specs.declared.SharePair as DSharePair
+use Rattle.layout.specs.declared.PairShares as DPairShares
+use Rattle.layout.specs.Layout.{LowPair}
 
 -- what writing the operands of a pair's five wires takes
-pub record PairRoom (w ai bj aj bi at : ℕ) (ops : List ℕ) : Type 0 where
+pub record PairRoom (w : ℕ) (x : DPairShares.PairShares) (at : ℕ) (ops : List ℕ) : Type 0 where
   pub wires : w + 5 ≤ 65536
-  pub cross : (ai < 65536) × (bj < 65536)
-  pub back : (aj < 65536) × (bi < 65536)
+  pub low : LowPair x
   pub room : at + 20 ≤ length ops
 
 -- a pair of shares i < j is number c of the pairs of n shares

@@ -10,49 +10,31 @@ ghost use Rattle.mask_pairs.specs.PairRoom.{PairRoom, PairNo};
 ghost use Rattle.layout.specs.Layout.{share_wires, ReadsShares, pair_gates};
 
 // Writes the operands of a pair's five wires, from wire w on.
-fn write_five(
-    and: construction::And,
-    ops: &mut [u8],
-    at: usize,
-    w: usize,
-    ai: usize,
-    bj: usize,
-    aj: usize,
-    bi: usize,
-)
-    requires { PairRoom w ai bj aj bi at ops.old }
+fn write_five(and: construction::And, ops: &mut [u8], at: usize, w: usize, x: layout::PairShares)
+    requires { PairRoom w x at ops.old }
     ensures { ops.new
-        ≡ put_at at (pair_bytes (map ((gadget_of and).gates w ai bj aj bi) all_five)) ops.old }
+        ≡ put_at at (pair_bytes (map ((gadget_of and).gates w x.ai x.bj x.aj x.bi) all_five)) ops.old }
 {
     let form = ands::pair_form(and);
     layout::put_gate(ops, at, 0, 0);
-    layout::put_gate(ops, at + 4, ai, bj);
+    layout::put_gate(ops, at + 4, x.ai, x.bj);
     layout::put_gate(ops, at + 8, w + form.third.left, w + form.third.right);
-    layout::put_gate(ops, at + 12, aj, bi);
+    layout::put_gate(ops, at + 12, x.aj, x.bi);
     layout::put_gate(ops, at + 16, w + form.fifth.left, w + form.fifth.right);
 }
 
 // The same. Each AND has its own call, so that the compiler knows the form where it writes.
-fn write_pair(
-    and: construction::And,
-    ops: &mut [u8],
-    at: usize,
-    w: usize,
-    ai: usize,
-    bj: usize,
-    aj: usize,
-    bi: usize,
-)
-    requires { PairRoom w ai bj aj bi at ops.old }
+fn write_pair(and: construction::And, ops: &mut [u8], at: usize, w: usize, x: layout::PairShares)
+    requires { PairRoom w x at ops.old }
     ensures { ops.new
-        ≡ put_at at (pair_bytes (map ((gadget_of and).gates w ai bj aj bi) all_five)) ops.old }
+        ≡ put_at at (pair_bytes (map ((gadget_of and).gates w x.ai x.bj x.aj x.bi) all_five)) ops.old }
 {
     match and {
         construction::And::Isw => {
-            write_five(construction::And::Isw, ops, at, w, ai, bj, aj, bi);
+            write_five(construction::And::Isw, ops, at, w, x);
         }
         construction::And::Dom => {
-            write_five(construction::And::Dom, ops, at, w, ai, bj, aj, bi);
+            write_five(construction::And::Dom, ops, at, w, x);
         }
     }
 }
@@ -81,25 +63,20 @@ pub fn write_pairs(
     at: usize,
     w: usize,
     n: usize,
-    a: layout::Places,
-    b: layout::Places,
+    operands: layout::Operands,
 ) -> usize
-    requires { ReadsShares n a b × (w + 5 * tri n ≤ 65536) × (at + 20 * tri n ≤ length ops.old) }
+    requires { ReadsShares n operands × (w + 5 * tri n ≤ 65536) × (at + 20 * tri n ≤ length ops.old) }
     ensures { (result ≡ w + 5 * tri n)
         × (ops.new
-        ≡ put_at at (pair_bytes (in_turn 5 w (pairs n) (pair_gates (gadget_of and) (share_wires n a) (share_wires n b)))) ops.old) }
+        ≡ put_at at (pair_bytes (in_turn 5 w (pairs n)
+        (pair_gates (gadget_of and) (share_wires n operands.left) (share_wires n operands.right)))) ops.old) }
 {
     let m = gate_costs::pair_count(n);
     let mut p = construction::SharePair { lower: 0, upper: 1 };
-    let mut c = 0;
-    while c < m {
-        let ai = layout::share_wire(a, p.lower);
-        let bi = layout::share_wire(b, p.lower);
-        let aj = layout::later_wire(a, p.upper);
-        let bj = layout::later_wire(b, p.upper);
-        write_pair(and, ops, at + 20 * c, w + 5 * c, ai, bj, aj, bi);
+    for c in 0..m {
+        let x = operands.pair(p);
+        write_pair(and, ops, at + 20 * c, w + 5 * c, x);
         p = next_pair(p, n);
-        c += 1;
     }
     w + 5 * m
 }

@@ -23,10 +23,8 @@ fn write_low_sums(
     ensures { ops.new ≡ put_at at (pair_bytes (low_gates (gadget_of and) z last m)) ops.old }
 {
     let form = ands::pair_form(and);
-    let mut c = 0;
-    while c < m {
+    for c in 0..m {
         layout::put_gate(ops, at + 4 * c, last + c, z + 5 * c + form.low);
-        c += 1;
     }
 }
 
@@ -47,11 +45,9 @@ fn write_high_sums(
 {
     let form = ands::pair_form(and);
     let mut z = w + 5 * i;
-    let mut j = 0;
-    while j < i {
+    for j in 0..i {
         layout::put_gate(ops, at + 4 * j, last + j, z - 5 + form.high);
         z += 5 * (n - 2 - j);
-        j += 1;
     }
     z
 }
@@ -65,14 +61,14 @@ fn write_row(
     w: usize,
     n: usize,
     i: usize,
-    a: layout::Places,
-    b: layout::Places,
+    operands: layout::Operands,
 )
-    requires { ReadsShares n a b × (i < n) × (v + n ≤ 65536) × (w + 5 * tri n ≤ 65536) × (at + 4 * n ≤ length ops.old) }
-    ensures { ops.new ≡ put_at at (pair_bytes (row_gates (gadget_of and) n w v (share_wires n a) (share_wires n b) i)) ops.old }
+    requires { ReadsShares n operands × (i < n) × (v + n ≤ 65536) × (w + 5 * tri n ≤ 65536) × (at + 4 * n ≤ length ops.old) }
+    ensures { ops.new
+        ≡ put_at at (pair_bytes (row_gates (gadget_of and) n w v (share_wires n operands.left) (share_wires n operands.right) i)) ops.old }
 {
-    let ai = layout::share_wire(a, i);
-    let bi = layout::share_wire(b, i);
+    let ai = layout::share_wire(operands.left, i);
+    let bi = layout::share_wire(operands.right, i);
     layout::put_gate(ops, at, ai, bi);
     let z = write_high_sums(and, ops, at + 4, v, w, n, i);
     write_low_sums(and, ops, at + 4 + 4 * i, v + i, z, n - 1 - i);
@@ -86,22 +82,16 @@ pub fn write_rows(
     v: usize,
     w: usize,
     n: usize,
-    a: layout::Places,
-    b: layout::Places,
+    operands: layout::Operands,
 )
-    requires { ReadsShares n a b
+    requires { ReadsShares n operands
         × (v + n * n ≤ 65536)
         × (w + 5 * tri n ≤ 65536)
         × (at + 4 * (n * n) ≤ length ops.old) }
-    ensures { ops.new ≡ put_at at (pair_bytes (rows_gates (gadget_of and) n w v (share_wires n a) (share_wires n b))) ops.old }
+    ensures { ops.new
+        ≡ put_at at (pair_bytes (rows_gates (gadget_of and) n w v (share_wires n operands.left) (share_wires n operands.right))) ops.old }
 {
-    let mut to = at;
-    let mut from = v;
-    let mut i = 0;
-    while i < n {
-        write_row(and, ops, to, from, w, n, i, a, b);
-        to += 4 * n;
-        from += n;
-        i += 1;
+    for i in 0..n {
+        write_row(and, ops, at + 4 * (n * i), v + n * i, w, n, i, operands);
     }
 }

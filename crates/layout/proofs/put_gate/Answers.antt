@@ -6,15 +6,6 @@ use Rattle.tables.specs.Tables.{two}
 use Rattle.tables.proofs.Put.{put_then}
 use Rattle.layout.proofs.put_gate.Goals as goal
 
-pub put_field-requires : goal.put_field-requires
-put_field-requires c = omega arith
-
-pub overflow_add-at : goal.overflow_add-at
-overflow_add-at c = omega arith
-
-pub put_field-requires-2 : goal.put_field-requires-2
-put_field-requires-2 c = omega arith
-
 pub returns : goal.returns
 returns c =
     put_then c.args.at (two c.args.left) (two c.args.right) c.args.ops.now

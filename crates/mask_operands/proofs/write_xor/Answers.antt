@@ -16,26 +16,11 @@ loop-s-init c =
 
 pub share_wire-left-requires : goal.share_wire-left-requires
 share_wire-left-requires c =
-    share_low c.args.n _ c.args.a c.requires.0.left c.loop-s-test.true
+    share_low c.args.n _ c.args.operands.left c.requires.0.left c.loop-s-test.true
 
 pub share_wire-right-requires : goal.share_wire-right-requires
 share_wire-right-requires c =
-    share_low c.args.n _ c.args.b c.requires.0.right c.loop-s-test.true
-
-pub overflow_mul-s : goal.overflow_mul-s
-overflow_mul-s c = omega arith
-
-pub overflow_add-at : goal.overflow_add-at
-overflow_add-at c = omega arith
-
-pub put_gate-requires : goal.put_gate-requires
-put_gate-requires c = omega arith
-
-pub overflow_add-s : goal.overflow_add-s
-overflow_add-s c = omega arith
-
-pub loop-s-smaller : goal.loop-s-smaller
-loop-s-smaller c = omega arith
+    share_low c.args.n _ c.args.operands.right c.requires.0.right c.loop-s-test.true
 
 pub loop-s-preserved : goal.loop-s-preserved
 unfolding pair_bytes
@@ -45,9 +30,6 @@ loop-s-preserved c =
     (c.share_wire-left.ensures.1 n c.loop-s-test.true)
     (c.share_wire-right.ensures.1 n c.loop-s-test.true) in
     put_pieces_turn c.loop-s.invariant _ _ (omega arith) refl piece c.put_gate.ensures (omega arith)
-
-pub shape_of-ops : goal.shape_of-ops
-shape_of-ops c = c.loop-s.invariant.long
 
 pub returns : goal.returns
 returns c = rw pairs_pieces (put_pieces_end c.loop-s.invariant (omega arith))

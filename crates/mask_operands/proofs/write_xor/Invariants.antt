@@ -1,6 +1,6 @@
 -- The loop's invariant in `mask_operands::write_xor`: s shares are written, the others follow them.
 -- Assumes nothing.
-use Prim.Native.Nat.{◌+◌, ◌-◌, ◌*◌}
+use Prim.Native.Nat.{◌+◌, ◌*◌}
 use Rattle.tables.specs.Tables.{pair_bytes}
 use Rattle.layout.specs.Layout.{share_wires, xor_gates}
 use Rattle.layout.proofs.Bytes.{PutPieces}
@@ -8,7 +8,4 @@ use Rattle.mask_operands.proofs.write_xor.Given as goal
 
 abbrev pub invariant-loop-s : goal.invariant-loop-s
 invariant-loop-s l =
-    PutPieces 4 l.at l.n (λ s. pair_bytes (xor_gates (share_wires l.n l.a) (share_wires l.n l.b) s)) l.initial.ops (l.at + 4 * l.s) l.s l.ops
-
-abbrev pub decreases-loop-s : goal.decreases-loop-s
-decreases-loop-s l = l.n - l.s
+    PutPieces 4 l.at l.n (λ s. pair_bytes (xor_gates (share_wires l.n l.operands.left) (share_wires l.n l.operands.right) s)) l.initial.ops (l.at + 4 * l.s) l.s l.ops

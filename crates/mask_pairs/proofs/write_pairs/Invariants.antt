@@ -1,6 +1,6 @@
 -- The loop's invariant in `mask_pairs::write_pairs`: c pairs are written, and p is the pair that is number c.
 -- Assumes nothing.
-use Prim.Native.Nat.{◌+◌, ◌-◌, ◌*◌, ◌<◌}
+use Prim.Native.Nat.{◌+◌, ◌*◌, ◌<◌}
 use Rattle.tables.specs.Tables.{pair_bytes}
 use Rattle.construction.specs.Shares.{tri}
 use Rattle.construction.specs.Gadgets.{gadget_of}
@@ -12,9 +12,6 @@ use Rattle.mask_pairs.proofs.write_pairs.Given as goal
 
 abbrev pub invariant-loop-c : goal.invariant-loop-c
 invariant-loop-c l =
-    PutPieces 20 l.at (tri l.n) (λ m. pair_bytes (pair_gates (gadget_of l.and) (share_wires l.n l.a) (share_wires l.n l.b) (l.w + 5 * m) (pair_number l.n m))) l.initial.ops
+    PutPieces 20 l.at (tri l.n) (λ m. pair_bytes (pair_gates (gadget_of l.and) (share_wires l.n l.operands.left) (share_wires l.n l.operands.right) (l.w + 5 * m) (pair_number l.n m))) l.initial.ops
     (l.at + 20 * l.c) l.c l.ops
     × (l.c < tri l.n → PairNo l.n l.c l.p)
-
-abbrev pub decreases-loop-c : goal.decreases-loop-c
-decreases-loop-c l = l.m - l.c

@@ -1,7 +1,7 @@
 -- `mask_rows::write_high_sums` meets its contract.
 -- Assumes nothing.
 use mathlib.Core.Path.{refl, ap, ◌∙◌}
-use Prim.Native.Nat.{ℕ, ◌+◌, ◌-◌, ◌*◌, ◌≤◌}
+use Prim.Native.Nat.{ℕ, ◌+◌, ◌-◌, ◌*◌}
 use native.Mathlib.Omega.{arith}
 use mathlib.Core.List.{List, ◌++◌}
 use Rattle.tables.specs.Tables.{two, pair_bytes}
@@ -14,15 +14,6 @@ use Rattle.layout.proofs.Pieces.{upright_start, upright_turn, upright_high, upri
 use Rattle.layout.proofs.Pieces.{upright_low}
 use Rattle.mask_rows.proofs.write_high_sums.Goals as goal
 
-pub pair_form-form-requires : goal.pair_form-form-requires
-pair_form-form-requires c = tt
-
-pub overflow_mul-z : goal.overflow_mul-z
-overflow_mul-z c = omega arith
-
-pub overflow_add-z : goal.overflow_add-z
-overflow_add-z c = omega arith
-
 pub loop-j-init : goal.loop-j-init
 unfolding pair_bytes
 loop-j-init c = (
@@ -30,69 +21,12 @@ loop-j-init c = (
   upright_start c.args.n c.args.w c.args.i,
 )
 
-pub overflow_mul-j : goal.overflow_mul-j
-overflow_mul-j c = omega arith
-
-pub overflow_add-at : goal.overflow_add-at
-overflow_add-at c = omega arith
-
-pub overflow_add-last : goal.overflow_add-last
-overflow_add-last c = omega arith
-
-pub overflow_sub-z : goal.overflow_sub-z
-overflow_sub-z c =
-    let j = c.loop-j.j in
-    let up = c.loop-j.invariant.1 in
-    let after-pair : (5 ≤ c.loop-j.z) × (c.loop-j.z ≤ 65536) = (
-      omega (arith, upright_high _ _ _ j _ (omega arith) c.requires.0 up),
-      omega (arith, upright_within _ _ _ j _ (omega arith) c.requires.0 up, c.requires.2),
-    ) in
-    omega (arith, after-pair.0)
-
-pub overflow_add-z-in-loop-j : goal.overflow_add-z-in-loop-j
-overflow_add-z-in-loop-j c =
-    let j = c.loop-j.j in
-    let up = c.loop-j.invariant.1 in
-    let after-pair : (5 ≤ c.loop-j.z) × (c.loop-j.z ≤ 65536) = (
-      omega (arith, upright_high _ _ _ j _ (omega arith) c.requires.0 up),
-      omega (arith, upright_within _ _ _ j _ (omega arith) c.requires.0 up, c.requires.2),
-    ) in
-    omega (arith, after-pair.1, form_below c.pair_form-form.ensures)
-
 pub put_gate-requires : goal.put_gate-requires
 put_gate-requires c =
-    let j = c.loop-j.j in
     let up = c.loop-j.invariant.1 in
-    let after-pair : (5 ≤ c.loop-j.z) × (c.loop-j.z ≤ 65536) = (
-      omega (arith, upright_high _ _ _ j _ (omega arith) c.requires.0 up),
-      omega (arith, upright_within _ _ _ j _ (omega arith) c.requires.0 up, c.requires.2),
-    ) in
-    omega (arith, after-pair, form_below c.pair_form-form.ensures)
-
-pub overflow_sub-z-in-loop-j : goal.overflow_sub-z-in-loop-j
-overflow_sub-z-in-loop-j c = omega arith
-
-pub overflow_sub-z-in-loop-j-2 : goal.overflow_sub-z-in-loop-j-2
-overflow_sub-z-in-loop-j-2 c = omega arith
-
-pub overflow_mul-z-in-loop-j : goal.overflow_mul-z-in-loop-j
-overflow_mul-z-in-loop-j c = omega arith
-
-pub overflow_add-z-in-loop-j-2 : goal.overflow_add-z-in-loop-j-2
-overflow_add-z-in-loop-j-2 c =
-    let j = c.loop-j.j in
-    let up = c.loop-j.invariant.1 in
-    let after-pair : (5 ≤ c.loop-j.z) × (c.loop-j.z ≤ 65536) = (
-      omega (arith, upright_high _ _ _ j _ (omega arith) c.requires.0 up),
-      omega (arith, upright_within _ _ _ j _ (omega arith) c.requires.0 up, c.requires.2),
-    ) in
-    omega (arith, after-pair.1)
-
-pub overflow_add-j : goal.overflow_add-j
-overflow_add-j c = omega arith
-
-pub loop-j-smaller : goal.loop-j-smaller
-loop-j-smaller c = omega arith
+    let high = upright_high _ _ _ c.loop-j.j _ (omega arith) c.requires.0 up in
+    let within = upright_within _ _ _ c.loop-j.j _ (omega arith) c.requires.0 up in
+    omega (arith, c.requires.2, form_below c.pair_form-form.ensures)
 
 pub loop-j-preserved : goal.loop-j-preserved
 unfolding pair_bytes
@@ -106,9 +40,6 @@ loop-j-preserved c =
       put_pieces_turn c.loop-j.invariant.0 _ _ (omega arith) refl piece c.put_gate.ensures (omega arith),
       upright_turn _ _ _ j _ (omega arith) c.requires.0 up,
     )
-
-pub shape_of-ops : goal.shape_of-ops
-shape_of-ops c = c.loop-j.invariant.0.long
 
 pub returns : goal.returns
 returns c =

@@ -21,33 +21,6 @@ share_wire-ai-requires c = share_low _ _ _ c.requires.0.left c.requires.1
 pub share_wire-bi-requires : goal.share_wire-bi-requires
 share_wire-bi-requires c = share_low _ _ _ c.requires.0.right c.requires.1
 
-pub put_gate-requires : goal.put_gate-requires
-put_gate-requires c = omega arith
-
-pub overflow_add-at : goal.overflow_add-at
-overflow_add-at c = omega arith
-
-pub write_high_sums-z-requires : goal.write_high_sums-z-requires
-write_high_sums-z-requires c = omega arith
-
-pub overflow_add-at-2 : goal.overflow_add-at-2
-overflow_add-at-2 c = omega arith
-
-pub overflow_mul-i : goal.overflow_mul-i
-overflow_mul-i c = omega arith
-
-pub overflow_add-at-3 : goal.overflow_add-at-3
-overflow_add-at-3 c = omega arith
-
-pub overflow_add-v : goal.overflow_add-v
-overflow_add-v c = omega arith
-
-pub overflow_sub-n : goal.overflow_sub-n
-overflow_sub-n c = omega arith
-
-pub overflow_sub-n-2 : goal.overflow_sub-n-2
-overflow_sub-n-2 c = omega arith
-
 pub write_low_sums-requires : goal.write_low_sums-requires
 write_low_sums-requires c =
     let z = c.write_high_sums-z.result in
