@@ -1,3 +1,2 @@
 -- Laws that the proofs of reading bits cite.
 mod Scan
-mod Spare

@@ -1,69 +1,51 @@
--- Looking for the first byte above 1, byte by byte.
+-- Looking for the first byte above 1.
 -- Assumes nothing.
-use mathlib.Core.Path.{◌≡◌, refl, ◌∙◌, subst}
-use mathlib.Core.List.{List}
-use Prim.Native.Nat.{ℕ, suc, ◌+◌, ◌≤◌, ◌<◌}
-use native.Mathlib.Nat.{add-zero, add-suc}
+use mathlib.Core.Path.{◌≡◌, refl}
+use mathlib.Core.List.{List, [], ◌∷◌}
+use Prim.Native.Nat.{ℕ, zero, suc, ◌+◌, ◌≤◌, ◌<◌}
+use native.Mathlib.Nat.{add-zero, add-suc, suc-add}
 use native.Mathlib.Omega.{arith}
 use lib.Bits.{bit_or}
-use lib.ListN.{length, get_or, drop, drop_of_length-le}
-use lib.Seq.{drop-cons}
-use borrow.Author.Tests.{le-leb, lt-leb, lt-ltb, le-ltb}
+use lib.ListN.{length, get_or}
+use borrow.Author.Count.{below_more}
+use borrow.Author.Tests.{le-leb, lt-leb}
+use Rattle.std.specs.Prelude.{Option, Some, None, MatchOption}
+use Rattle.std.specs.List.{AllWithin, HoldsAt}
 use Rattle.tables.specs.Refusals.{fault, none, bad_bit}
 use Rattle.tables.proofs.Bad.{or_covers}
 use Rattle.bits.specs.Scan.{FirstBad}
 
--- the bytes before r are bits
-abbrev pub GoodTo : List ℕ → ℕ → Type 0
-GoodTo bs r = (r ≤ length bs) × ((i : ℕ) → bad_bit i bs ≡ bad_bit (i + r) (drop r bs))
+-- no byte before r is above m
+abbrev pub AtMost : List ℕ → ℕ → ℕ → Type 0
+AtMost bs m r = (k : ℕ) → k < r → get_or bs k 0 ≤ m
 
-pub good_start : (bs : List ℕ) → GoodTo bs 0
-good_start bs = (omega arith, λ i. rw add-zero)
+pub at_most_step :
+    (bs : List ℕ) (m r : ℕ) → AtMost bs m r → AtMost bs (bit_or m (get_or bs r 0)) (r + 1)
+at_most_step bs m r h =
+    let both = or_covers m (get_or bs r 0) (bit_or m (get_or bs r 0)) (omega arith) in
+    below_more (λ k. get_or bs k 0 ≤ bit_or m (get_or bs r 0)) r (λ k q. omega (arith, h k q, both.0)) both.1
 
-pub good_step : (bs : List ℕ) (r : ℕ) → GoodTo bs r → r < length bs → get_or bs r 0 ≤ 1 → GoodTo bs (suc r)
+pub bad_none : (bs : List ℕ) → AtMost bs 1 (length bs) → (i : ℕ) → bad_bit i bs ≡ none
 unfolding bad_bit
-good_step bs r g h k = (
-  omega arith,
-  λ i. g.1 i ∙ rw (drop-cons bs r 0 h, le-leb (get_or bs r 0) 1 k, add-suc) refl,
-)
+bad_none [] h i = refl
+bad_none (b ∷ bs) h i =
+    rw (le-leb b 1 (h 0 (omega arith))) (bad_none bs (λ k q. h (suc k) (omega arith)) (suc i))
 
-pub good_found : (bs : List ℕ) (r : ℕ) → GoodTo bs r → r < length bs → 1 < get_or bs r 0 → FirstBad bs r
+bad_found :
+    (bs : List ℕ) (r : ℕ) → r < length bs → AtMost bs 1 r → 1 < get_or bs r 0 → (i : ℕ)
+    → bad_bit i bs ≡ fault 11 (i + r)
 unfolding bad_bit
-good_found bs r g h k = record {
-  within = omega arith;
-  bad = λ i. g.1 i ∙ rw (drop-cons bs r 0 h, lt-leb (get_or bs r 0) 1 k, lt-ltb r (length bs) h) refl;
-}
+bad_found [] r l h a i = absurd (omega arith)
+bad_found (b ∷ bs) zero l h a i = rw (lt-leb b 1 a, add-zero) refl
+bad_found (b ∷ bs) (suc r) l h a i =
+    rw (le-leb b 1 (h 0 (omega arith)), add-suc, ← suc-add i r)
+    (bad_found bs r (omega arith) (λ k q. h (suc k) (omega arith)) a (suc i))
 
-pub good_end : (bs : List ℕ) (r : ℕ) → GoodTo bs r → length bs ≤ r → FirstBad bs r
-unfolding bad_bit
-good_end bs r g h = record {
-  within = g.0;
-  bad = λ i. g.1 i ∙ rw (drop_of_length-le bs {i = r} h, le-ltb r (length bs) h) refl;
-}
-
--- the `or` of the bytes before r is all: where it is a bit, so are they
-pub record Ored (bs : List ℕ) (all r : ℕ) : Type 0 where
-  pub good : all ≤ 1 → GoodTo bs r
-
-pub ored_start : (bs : List ℕ) → Ored bs 0 0
-ored_start bs = record { good = λ _. good_start bs }
-
-pub ored_step :
-    (bs : List ℕ) (all r : ℕ) → Ored bs all r → r < length bs → Ored bs (bit_or all (get_or bs r 0)) (suc r)
-ored_step bs all r o h = record {
-  good = λ k.
-      let both = or_covers all (get_or bs r 0) 1 k in
-      good_step bs r (o.good both.0) h both.1;
-}
-
-pub ored_end :
-    (bs : List ℕ) (all r : ℕ) → Ored bs all r → length bs ≤ r → all ≤ 1 → FirstBad bs (length bs)
-ored_end bs all r o h k =
-    let e : r ≡ length bs = omega (arith, (o.good k).0) in
-    subst (λ (n : ℕ). FirstBad bs n) e (good_end bs r (o.good k) h)
-
-pub bad_found : (i : ℕ) (bs : List ℕ) (r : ℕ) → FirstBad bs r → r < length bs → bad_bit i bs ≡ fault 11 (i + r)
-bad_found i bs r F h = F.bad i ∙ rw (lt-ltb r (length bs) h)
-
-pub bad_none : (i : ℕ) (bs : List ℕ) (r : ℕ) → FirstBad bs r → length bs ≤ r → bad_bit i bs ≡ none
-bad_none i bs r F h = F.bad i ∙ rw (le-ltb r (length bs) h)
+pub first_found :
+    (bs : List ℕ) (r : Option ℕ)
+    → MatchOption r
+    (AllWithin (λ b. b ≤ 1) bs 0 (length bs))
+    (λ i. (i < length bs) × HoldsAt (λ b. 1 < b) bs i × AllWithin (λ b. b ≤ 1) bs 0 i)
+    → FirstBad bs r
+first_found bs None h = bad_none bs (λ k q. h k 0 (omega arith) q)
+first_found bs (Some r) h = (h.0, bad_found bs r h.0 (λ k q. h.2 k 0 (omega arith) q) (h.1 0))

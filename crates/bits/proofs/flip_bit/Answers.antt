@@ -7,14 +7,8 @@ use lib.Bits.{bit_xor}
 use lib.ListN.{get_or, set}
 use lib.Pow.{shl_exact}
 use Rattle.tables.specs.Packing.{unpacked}
-use Rattle.tables.proofs.Packing.{unpacked_length, bit_flipped}
+use Rattle.tables.proofs.Packing.{bit_flipped}
 use Rattle.bits.proofs.flip_bit.Goals as goal
-
-pub bounds-tape-byte : goal.bounds-tape-byte
-bounds-tape-byte c = omega (arith, c.requires.0, unpacked_length c.args.tape.now)
-
-pub bounds-tape-byte-2 : goal.bounds-tape-byte-2
-bounds-tape-byte-2 c = omega (arith, c.requires.0, unpacked_length c.args.tape.now)
 
 pub returns : goal.returns
 returns c =
