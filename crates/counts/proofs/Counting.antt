@@ -2,19 +2,22 @@
 -- Assumes nothing.
 use mathlib.Core.Path.{◌≡◌, refl, ap, ◌∙◌}
 use mathlib.Core.List.{List, [], ◌∷◌}
-use Prim.Native.Nat.{ℕ, ◌+◌, ◌≤◌, ◌<◌}
+use Prim.Native.Nat.{ℕ, ◌+◌, ◌≤◌, ◌<◌, min}
 use native.Mathlib.Numerals.{add-one}
 use native.Mathlib.Omega.{arith}
 use lib.ListN.{length, get_or, take}
 use lib.Seq.{take_all, length-take-le}
+use Rattle.std.proofs.lemmas.List.{take_min}
 use Rattle.tables.specs.declared.Counts as DCounts
+use Rattle.tables.specs.declared.Kind as DKind
+use Rattle.tables.specs.declared.Kind.TheVariants.{Not, Xor, And, Random, Constant, Or}
 use Rattle.tables.specs.Tables.{Kind, NOT, XOR, AND, RANDOM, CONSTANT, OR, UNKNOWN, Gate, no_gate, table_of, total}
 use Rattle.tables.specs.Counted.{of_kind, counts_of}
 use Rattle.tables.specs.Inside.{HasGates}
 use Rattle.tables.proofs.Accept.{gates_are}
 use Rattle.tables.proofs.Total.{total_take, count_small}
 use Rattle.counts.specs.declared.ThreeKinds as DThreeKinds
-use Rattle.counts.specs.Three.{three_of}
+use Rattle.counts.specs.Three.{byte_of, three_of}
 
 -- the kind with byte b: c gates before number `from` and v from there on make those before number i
 pub record Counting (b : ℕ) (gs : List Gate) (from i c v : ℕ) : Type 0 where
@@ -47,26 +50,27 @@ counting_small {s} {b = b} {i = i} H C h =
     let gs = (table_of s).gates in
     omega (arith, C.sum, count_small b (take i gs), length-take-le i gs (omega (arith, h, gates_are H)), H.few)
 
--- three kinds, the first with byte b
-pub record Block (b : ℕ) (gs : List Gate) (from i : ℕ) (c : DThreeKinds.ThreeKinds) (u v w : ℕ) : Type 0 where
-  pub first : Counting b gs from i c.first u
-  pub second : Counting (b + 1) gs from i c.second v
-  pub third : Counting (b + 2) gs from i c.third w
+-- each of three kinds
+pub record Block (ks : List DKind.Kind) (gs : List Gate) (from i : ℕ) (c : DThreeKinds.ThreeKinds) (u v w : ℕ) : Type 0 where
+  pub first : Counting (byte_of ks 0) gs from i c.first u
+  pub second : Counting (byte_of ks 1) gs from i c.second v
+  pub third : Counting (byte_of ks 2) gs from i c.third w
 
 pub block_start :
-    {b : ℕ} {gs : List Gate} {from : ℕ} {c : DThreeKinds.ThreeKinds} → c ≡ three_of b (take from gs) → Block b gs from from c 0 0 0
+    {ks : List DKind.Kind} {gs : List Gate} {from : ℕ} {c : DThreeKinds.ThreeKinds}
+    → c ≡ three_of ks (take from gs) → Block ks gs from from c 0 0 0
 block_start e = record {
   first = counting_start (ap (λ (x : DThreeKinds.ThreeKinds). x.first) e);
   second = counting_start (ap (λ (x : DThreeKinds.ThreeKinds). x.second) e);
   third = counting_start (ap (λ (x : DThreeKinds.ThreeKinds). x.third) e);
 }
 
-module _ {b : ℕ} {gs : List Gate} {from i : ℕ} {c : DThreeKinds.ThreeKinds} {u v w : ℕ} (B : Block b gs from i c u v w) where
+module _ {ks : List DKind.Kind} {gs : List Gate} {from i : ℕ} {c : DThreeKinds.ThreeKinds} {u v w : ℕ} (B : Block ks gs from i c u v w) where
   -- what one gate adds to each
   pub block_turn :
       {kind : Kind} {u' v' w' : ℕ} → i < length gs → kind ≡ (get_or gs i no_gate).kind
-      → OneIf b kind u' → OneIf (b + 1) kind v' → OneIf (b + 2) kind w'
-      → Block b gs from (i + 1) c (u + u') (v + v') (w + w')
+      → OneIf (byte_of ks 0) kind u' → OneIf (byte_of ks 1) kind v' → OneIf (byte_of ks 2) kind w'
+      → Block ks gs from (i + 1) c (u + u') (v + v') (w + w')
   block_turn h is e₀ e₁ e₂ = record {
     first = counting_turn B.first h is e₀;
     second = counting_turn B.second h is e₁;
@@ -74,24 +78,41 @@ module _ {b : ℕ} {gs : List Gate} {from i : ℕ} {c : DThreeKinds.ThreeKinds} 
   }
 
   pub block_end :
-      record { first = c.first + u; second = c.second + v; third = c.third + w } ≡ three_of b (take i gs)
+      record { first = c.first + u; second = c.second + v; third = c.third + w } ≡ three_of ks (take i gs)
   block_end = λ j. record { first = B.first.sum j; second = B.second.sum j; third = B.third.sum j }
 
 -- no more than the gates of the table
 pub block_small :
-    {s : List ℕ} {g b from i : ℕ} {c : DThreeKinds.ThreeKinds} {u v w : ℕ} → HasGates s g → Block b (table_of s).gates from i c u v w
+    {s : List ℕ} {g from i : ℕ} {ks : List DKind.Kind} {c : DThreeKinds.ThreeKinds} {u v w : ℕ}
+    → HasGates s g → Block ks (table_of s).gates from i c u v w
     → i ≤ g → (c.first + u ≤ 65535) × (c.second + v ≤ 65535) × (c.third + w ≤ 65535)
 block_small H B h = (counting_small H B.first h, counting_small H B.second h, counting_small H B.third h)
 
 -- before the first gate there are none
-pub none_counted : (b : ℕ) (gs : List Gate) → record { first = 0; second = 0; third = 0 } ≡ three_of b (take 0 gs)
+pub none_counted :
+    (ks : List DKind.Kind) (gs : List Gate) → record { first = 0; second = 0; third = 0 } ≡ three_of ks (take 0 gs)
 unfolding total
-none_counted b gs = refl
+none_counted ks gs = refl
+
+-- a block of 224 gates ends where the next begins, or with the gates
+pub next_counted :
+    (ks : List DKind.Kind) (gs : List Gate) (next : ℕ) {g to : ℕ} {c : DThreeKinds.ThreeKinds} → length gs ≡ g → to ≡ min next g
+    → c ≡ three_of ks (take to gs) → c ≡ three_of ks (take next gs)
+next_counted ks gs next e m h =
+    h ∙ ap {A = List Gate} {B = DThreeKinds.ThreeKinds} (three_of ks) (rw (m, ← e) (take_min next gs))
 
 -- where there are no more than i gates, those before number i are all
 pub all_counted :
-    (b : ℕ) (gs : List Gate) (i : ℕ) {c : DThreeKinds.ThreeKinds} → c ≡ three_of b (take i gs) → length gs ≤ i → c ≡ three_of b gs
-all_counted b gs i e h = e ∙ ap {A = List Gate} {B = DThreeKinds.ThreeKinds} (three_of b) (take_all i gs h)
+    (ks : List DKind.Kind) (gs : List Gate) (i : ℕ) {c : DThreeKinds.ThreeKinds}
+    → c ≡ three_of ks (take i gs) → length gs ≤ i → c ≡ three_of ks gs
+all_counted ks gs i e h = e ∙ ap {A = List Gate} {B = DThreeKinds.ThreeKinds} (three_of ks) (take_all i gs h)
+
+-- the first three kinds, and the last three
+abbrev pub low : List DKind.Kind
+low = Not ∷ Xor ∷ And ∷ []
+
+abbrev pub high : List DKind.Kind
+high = Random ∷ Constant ∷ Or ∷ []
 
 -- three kinds and three more
 abbrev pub six_kinds : DThreeKinds.ThreeKinds → DThreeKinds.ThreeKinds → DCounts.Counts
@@ -105,7 +126,7 @@ six_kinds l h = record {
 }
 
 pub six_counted :
-    (gs : List Gate) {l h : DThreeKinds.ThreeKinds} → l ≡ three_of 0 gs → h ≡ three_of 3 gs → six_kinds l h ≡ counts_of gs
+    (gs : List Gate) {l h : DThreeKinds.ThreeKinds} → l ≡ three_of low gs → h ≡ three_of high gs → six_kinds l h ≡ counts_of gs
 six_counted gs e f = λ j. six_kinds (e j) (f j)
 
 -- all of three kinds together
@@ -113,7 +134,7 @@ abbrev pub sum_of : DThreeKinds.ThreeKinds → ℕ
 sum_of c = c.first + c.second + c.third
 
 -- no gate is of two kinds
-sum_small : (gs : List Gate) → sum_of (three_of 0 gs) + sum_of (three_of 3 gs) ≤ length gs
+sum_small : (gs : List Gate) → sum_of (three_of low gs) + sum_of (three_of high gs) ≤ length gs
 unfolding total
 sum_small [] = omega arith
 sum_small (g ∷ gs) = omega (arith, one_kind g.kind, sum_small gs)
@@ -129,15 +150,15 @@ sum_small (g ∷ gs) = omega (arith, one_kind g.kind, sum_small gs)
 
 -- no more than the gates of the table
 pub three_small :
-    {s : List ℕ} {g : ℕ} {c : DThreeKinds.ThreeKinds} → HasGates s g → c ≡ three_of 0 (table_of s).gates → sum_of c ≤ 65535
+    {s : List ℕ} {g : ℕ} {c : DThreeKinds.ThreeKinds} → HasGates s g → c ≡ three_of low (table_of s).gates → sum_of c ≤ 65535
 three_small {s} H e = rw e (omega (arith, sum_small (table_of s).gates, gates_are H, H.few))
 
 -- where the first three kinds are all gates, there are none of the others
 pub none_further :
-    (gs : List Gate) {l : DThreeKinds.ThreeKinds} → l ≡ three_of 0 gs → length gs ≤ sum_of l
-    → record { first = 0; second = 0; third = 0 } ≡ three_of 3 gs
+    (gs : List Gate) {l : DThreeKinds.ThreeKinds} → l ≡ three_of low gs → length gs ≤ sum_of l
+    → record { first = 0; second = 0; third = 0 } ≡ three_of high gs
 none_further gs e all =
-    let full : length gs ≤ sum_of (three_of 0 gs) = rw e at all in
+    let full : length gs ≤ sum_of (three_of low gs) = rw e at all in
     let none₃ : 0 ≡ total (of_kind 3) gs = omega (arith, full, sum_small gs) in
     let none₄ : 0 ≡ total (of_kind 4) gs = omega (arith, full, sum_small gs) in
     let none₅ : 0 ≡ total (of_kind 5) gs = omega (arith, full, sum_small gs) in

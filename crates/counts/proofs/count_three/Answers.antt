@@ -1,31 +1,22 @@
--- `counts::count_three` meets its contract.
+-- `counts::count_three` meets its contract: a block ends where the next begins, or with the gates.
 -- Assumes nothing.
 use native.Mathlib.Omega.{arith}
 use Rattle.tables.specs.Tables.{table_of}
 use Rattle.tables.proofs.Accept.{gates_are}
-use Rattle.counts.proofs.Counting.{none_counted, all_counted}
+use Rattle.counts.proofs.Counting.{none_counted, next_counted, all_counted}
 use Rattle.counts.proofs.count_three.Goals as goal
 
-pub loop-g-init : goal.loop-g-init
-loop-g-init c = (omega arith, none_counted c.args.kind (table_of c.args.table.now).gates)
+pub loop-from-init : goal.loop-from-init
+loop-from-init c = none_counted c.args.kinds (table_of c.args.gates.now.table.now).gates
 
-pub count_block-counts-requires : goal.count_block-counts-requires
-count_block-counts-requires c = (
-  c.requires.0,
-  c.requires.1,
-  c.block_end-next.ensures.0,
-  c.block_end-next.ensures.1,
-  c.block_end-next.ensures.2,
-  c.loop-g.invariant.1,
-)
-
-pub loop-g-smaller : goal.loop-g-smaller
-loop-g-smaller c = omega (arith, c.block_end-next.ensures.0, c.block_end-next.ensures.1)
-
-pub loop-g-preserved : goal.loop-g-preserved
-loop-g-preserved c = (c.block_end-next.ensures.1, c.count_block-counts.ensures)
+pub loop-from-preserved : goal.loop-from-preserved
+loop-from-preserved c =
+    next_counted c.args.kinds _ _ (gates_are c.args.gates.now.all) c.min-to.ensures c.count_block-counts.ensures
 
 pub returns : goal.returns
 returns c =
-    all_counted c.args.kind (table_of c.args.table.now).gates c.loop-g.g c.loop-g.invariant.1
-    (omega (arith, gates_are c.requires.0, c.loop-g-test.false))
+    all_counted c.args.kinds _ c.loop-from.from c.loop-from.invariant
+    (omega (arith, gates_are c.args.gates.now.all, c.loop-from-test.false))
+
+pub returns-2 : goal.returns-2
+returns-2 c = all_counted c.args.kinds _ c.min-to.result c.count_block-counts.ensures (omega (arith, gates_are c.args.gates.now.all))
