@@ -1,139 +1,62 @@
 -- The form of each AND's pairs is that of its gadget.
 -- Assumes nothing.
-use mathlib.Core.Path.{◌≡◌, refl, sym, ap, ◌∙◌}
+use mathlib.Core.Path.{◌≡◌, refl}
 use mathlib.Core.Bool.{Bool, true, false, cond}
-use Prim.Native.Nat.{ℕ, ◌+◌, ◌-◌, ◌*◌, ◌≤◌, ◌<◌}
+use Prim.Native.Nat.{ℕ, ◌+◌, ◌<◌}
 use native.Mathlib.Omega.{arith}
 use lib.Dec.{eqb}
-use borrow.Author.Tests.{eqb-true, eq-eqb, ne_eqb}
 use Rattle.tables.specs.Runs.{xor}
-use Rattle.construction.specs.declared.And as DAnd
-use Rattle.construction.specs.declared.And.TheVariants.{Isw, Dom}
-use Rattle.construction.specs.Gadgets.{Gadget, isw, dom, gadget_of}
+use Rattle.construction.specs.Gadgets.{Gadget, isw, dom}
 use Rattle.construction.proofs.PinMarks.{isw_marks_lem, dom_marks_lem}
 use Rattle.construction.proofs.Placed.{index_small}
 use Rattle.ands.specs.declared.PairForm as DPairForm
-use Rattle.ands.specs.Forms.{form_flip, upper_flipped, FormSays}
+use Rattle.ands.specs.Forms.{form_flip, FormSays}
 
 at_0 : (w : ℕ) → w + 0 ≡ w
 at_0 w = omega arith
 
 abbrev isw_form : DPairForm.PairForm
-isw_form = record { third = record { left = 0; right = 1 }; fifth = record { left = 2; right = 3 }; low = 0; high = 4; both = 1 }
+isw_form = record { third = record { left = 0; right = 1 }; fifth = record { left = 2; right = 3 }; low = 0; high = 4; both = true }
 
 abbrev dom_form : DPairForm.PairForm
-dom_form = record { third = record { left = 1; right = 0 }; fifth = record { left = 3; right = 0 }; low = 2; high = 4; both = 0 }
+dom_form = record { third = record { left = 1; right = 0 }; fifth = record { left = 3; right = 0 }; low = 2; high = 4; both = false }
 
--- the values of the third and the fifth wire
-isw_third : (w : ℕ) (v : ℕ → ℕ) → xor (v (w + 0)) (v (w + 1)) ≡ xor (v w) (v (w + 1))
-isw_third w v = ap (λ (x : ℕ). xor (v x) (v (w + 1))) (at_0 w)
-
-isw_fifth :
-    (w : ℕ) (v : ℕ → ℕ) → v (w + 2) ≡ xor (v w) (v (w + 1)) → xor (v (w + 2)) (v (w + 3)) ≡ xor (xor (v w) (1 * v (w + 1))) (v (w + 3))
-isw_fifth w v e = go (v w) (v (w + 1)) (v (w + 2)) (v (w + 3)) e
+-- what a pair of document 01 flips
+isw_flip : (k i j p q : ℕ) → isw.flip k i j p q ≡ form_flip isw_form k i j p q
+isw_flip k i j p q = go (eqb i k) (eqb j k)
   where
-    go : (r p m q : ℕ) → m ≡ xor r p → xor m q ≡ xor (xor r (1 * p)) q
-    go r p m q e = omega arith
+    go : (t u : Bool) → cond t (xor p q) 0 ≡ cond t (xor p q) (cond u 0 0)
+    go t true = refl
+    go t false = refl
 
-dom_third : (w : ℕ) (v : ℕ → ℕ) → xor (v (w + 1)) (v (w + 0)) ≡ xor (v w) (v (w + 1))
-dom_third w v = ap (λ (x : ℕ). xor (v (w + 1)) (v x)) (at_0 w) ∙ other_way (v (w + 1)) (v w)
-  where
-    other_way : (x y : ℕ) → xor x y ≡ xor y x
-    other_way x y = omega arith
-
-dom_fifth :
-    (w : ℕ) (v : ℕ → ℕ) → v (w + 2) ≡ xor (v w) (v (w + 1)) → xor (v (w + 3)) (v (w + 0)) ≡ xor (xor (v w) (0 * v (w + 1))) (v (w + 3))
-dom_fifth w v e = ap (λ (x : ℕ). xor (v (w + 3)) (v x)) (at_0 w) ∙ go (v w) (v (w + 1)) (v (w + 3))
-  where
-    go : (r p q : ℕ) → xor q r ≡ xor (xor r (0 * p)) q
-    go r p q = omega arith
-
--- what a pair flips
-isw_flip : (k i j p q : ℕ) → q ≤ 1 → isw.flip k i j p q ≡ form_flip isw_form k i j p q
-isw_flip k i j p q h = go (eqb i k) (eqb j k)
-  where
-    go : (t u : Bool) → cond t (xor p q) 0 ≡ cond t (xor (1 * p) q) (cond u (0 * p) 0)
-    go true u = omega arith
-    go false true = omega arith
-    go false false = refl
-
-dom_flip : (k i j p q : ℕ) → q ≤ 1 → dom.flip k i j p q ≡ form_flip dom_form k i j p q
-dom_flip k i j p q h = go (eqb i k) (eqb j k)
-  where
-    go : (t u : Bool) → cond t q (cond u p 0) ≡ cond t (xor (0 * p) q) (cond u (1 * p) 0)
-    go true u = omega arith
-    go false true = omega arith
-    go false false = refl
-
-pub isw_form_lem : {a : DAnd.And} → a ≡ Isw → FormSays (gadget_of a) isw_form
-isw_form_lem e =
-    rw e
-    (record {
+pub isw_form_lem : FormSays isw isw_form
+isw_form_lem =
+    record {
       third = (omega arith, omega arith);
       fifth = (omega arith, omega arith);
       gates = λ w ai bj aj bi. rw (at_0 w) refl;
       low = refl;
       high = refl;
       marks = isw_marks_lem;
-      both = omega arith;
-      third_adds = isw_third;
-      fifth_adds = isw_fifth;
-      flip = isw_flip;
-    })
+      third_adds = λ w v. rw (at_0 w) refl;
+      fifth_adds = λ w v e. rw e refl;
+      flip = λ k i j p q h. isw_flip k i j p q;
+    }
 
-pub dom_form_lem : {a : DAnd.And} → a ≡ Dom → FormSays (gadget_of a) dom_form
-dom_form_lem e =
-    rw e
-    (record {
+pub dom_form_lem : FormSays dom dom_form
+dom_form_lem =
+    record {
       third = (omega arith, omega arith);
       fifth = (omega arith, omega arith);
       gates = λ w ai bj aj bi. rw (at_0 w) refl;
       low = refl;
       high = refl;
       marks = dom_marks_lem;
-      both = omega arith;
-      third_adds = dom_third;
-      fifth_adds = dom_fifth;
-      flip = dom_flip;
-    })
+      third_adds = λ w v. rw (at_0 w) (omega arith);
+      fifth_adds = λ w v e. rw (at_0 w) (omega arith);
+      flip = λ k i j p q h. refl;
+    }
 
 -- the wires that rows add are two of the five
 pub form_below : {G : Gadget} {r : DPairForm.PairForm} → FormSays G r → (r.low < 5) × (r.high < 5)
 form_below {G} F = (omega (arith, F.low, index_small G.low), omega (arith, F.high, index_small G.high))
-
--- what a pair flips, by the tests of the code
-module _ {G : Gadget} {r : DPairForm.PairForm} (F : FormSays G r) (k i j p q : ℕ) (hq : q ≤ 1) where
-  pub flip_lower : i ≡ k → xor (r.both * p) q ≡ G.flip k i j p q
-  flip_lower e = sym (F.flip k i j p q hq ∙ rw (eq-eqb i k e))
-
-  pub flip_upper : (i ≡ k → ⊥) → r.both ≡ 0 → j ≡ k → p ≡ G.flip k i j p q
-  flip_upper n b e = sym (F.flip k i j p q hq ∙ rw (ne_eqb i k n, eq-eqb j k e, b) (omega arith))
-
-  pub flip_none : (i ≡ k → ⊥) → (r.both ≡ 0 → j ≡ k → ⊥) → 0 ≡ G.flip k i j p q
-  flip_none n h = sym (F.flip k i j p q hq ∙ rw (ne_eqb i k n) (go (eqb j k) refl))
-    where
-      go : (t : Bool) → eqb j k ≡ t → cond t ((1 - r.both) * p) 0 ≡ 0
-      go true t =
-          let alone : r.both ≡ 0 → ⊥ = λ b. h b (eqb-true j k t) in
-          let one : r.both ≡ 1 = omega (arith, alone, F.both) in
-          rw one (omega arith)
-      go false t = refl
-
--- the upper share that may decide, by whether the fifth wire adds both products
-module _ (a : DAnd.And) {r : DPairForm.PairForm} (F : FormSays (gadget_of a) r) (k : ℕ) where
-  pub upper_none : r.both ≡ 1 → upper_flipped a k ≡ 0
-  upper_none b = go a F
-    where
-      go : (a : DAnd.And) → FormSays (gadget_of a) r → upper_flipped a k ≡ 0
-      go Isw F = refl
-      go Dom F = let one : ◌≡◌ {A = ℕ} 1 ((1 - r.both) * 1) = F.flip 0 1 0 1 0 (omega arith) in absurd (omega (arith, one, b))
-
-  pub upper_free : (r.both ≡ 1 → ⊥) → upper_flipped a k ≡ k
-  upper_free n = go a F
-    where
-      go : (a : DAnd.And) → FormSays (gadget_of a) r → upper_flipped a k ≡ k
-      go Isw F =
-          let none : ◌≡◌ {A = ℕ} 0 ((1 - r.both) * 1) = F.flip 0 1 0 1 0 (omega arith) in
-          let zero : r.both ≡ 0 = omega (arith, n, F.both) in
-          absurd (omega (arith, none, zero))
-      go Dom F = refl

@@ -1,7 +1,7 @@
 // What sets the ANDs apart: the five wires of a pair of shares, which of them the rows add, and what the map flips.
 #![tactic(auto)]
 
-ghost use Rattle.std.specs.Prelude.{◌≡◌, ◌≤◌, ℕ};
+ghost use Rattle.std.specs.Prelude.{◌≡◌, ◌≤◌, ℕ, Some};
 ghost use Rattle.construction.specs.Gadgets.{gadget_of};
 ghost use Rattle.ands.specs.Forms.{upper_flipped, FormSays};
 
@@ -13,14 +13,14 @@ pub struct PairOperands {
 }
 
 // What sets the pairs of one AND apart from those of another: what the third and the fifth wire read, which wires row i and row j of
-// a pair (i, j) add, and 1 where the fifth wire adds both products, 0 where it adds a_j·b_i alone.
+// a pair (i, j) add, and whether the fifth wire adds both products, or a_j·b_i alone.
 #[derive(Clone, Copy)]
 pub struct PairForm {
     pub third: PairOperands,
     pub fifth: PairOperands,
     pub low: usize,
     pub high: usize,
-    pub both: u8,
+    pub both: bool,
 }
 
 // The form of an AND's pairs.
@@ -33,14 +33,14 @@ pub fn pair_form(and: construction::And) -> PairForm
             fifth: PairOperands { left: 2, right: 3 },
             low: 0,
             high: 4,
-            both: 1,
+            both: true,
         },
         construction::And::Dom => PairForm {
             third: PairOperands { left: 1, right: 0 },
             fifth: PairOperands { left: 3, right: 0 },
             low: 2,
             high: 4,
-            both: 0,
+            both: false,
         },
     }
 }
@@ -50,23 +50,25 @@ pub fn pair_flip(and: construction::And, k: usize, i: usize, j: usize, p: u8, q:
     requires { (p ≤ 1) × (q ≤ 1) }
     ensures { (result ≡ (gadget_of and).flip k i j p q) × (result ≤ 1) }
 {
-    let form = pair_form(and);
-    if i == k {
-        return (form.both & p) ^ q;
+    match and {
+        construction::And::Isw => if i == k { p ^ q } else { 0 },
+        construction::And::Dom => if i == k {
+            q
+        } else if j == k {
+            p
+        } else {
+            0
+        },
     }
-    if (form.both == 0) & (j == k) {
-        return p;
-    }
-    0
 }
 
-// The share j whose pairs (i, j) may be flipped though i is not the free share k: k, or none, which is 0.
-pub fn upper_flipped(and: construction::And, k: usize) -> usize
-    ensures { (result ≡ upper_flipped and k) × ((i j p q : ℕ) → q ≤ 1 → (i ≡ k → ⊥) → (j ≡ result → ⊥) → 0 ≡ (gadget_of and).flip k i j p q) }
+// The share j whose pairs (i, j) may be flipped though i is not the free share k: k, or none.
+pub fn upper_flipped(and: construction::And, k: usize) -> Option<usize>
+    ensures { (result ≡ upper_flipped and k)
+        × ((i j p q : ℕ) → q ≤ 1 → (i ≡ k → ⊥) → (result ≡ Some j → ⊥) → 0 ≡ (gadget_of and).flip k i j p q) }
 {
-    let form = pair_form(and);
-    if form.both == 1 {
-        return 0;
+    match and {
+        construction::And::Isw => None,
+        construction::And::Dom => Some(k),
     }
-    k
 }

@@ -4,7 +4,7 @@ use Rattle.ands.proofs.Forms.{isw_form_lem, dom_form_lem}
 use Rattle.ands.proofs.pair_form.Goals as goal
 
 pub returns-in-Isw : goal.returns-in-Isw
-returns-in-Isw c = isw_form_lem c.in-Isw.is
+returns-in-Isw c = rw c.in-Isw.is isw_form_lem
 
 pub returns-in-Dom : goal.returns-in-Dom
-returns-in-Dom c = dom_form_lem c.in-Dom.is
+returns-in-Dom c = rw c.in-Dom.is dom_form_lem
