@@ -9,7 +9,6 @@ use native.Mathlib.Numerals.{add-one}
 use native.Mathlib.Omega.{arith}
 use lib.Dec.{eqb}
 use lib.ListN.{length, set}
-use borrow.Author.Tests.{ne_eqb}
 use Rattle.tables.specs.Tables.{XOR, CONSTANT, Gate, gate, total}
 use Rattle.tables.specs.Runs.{randoms}
 use Rattle.tables.specs.Inside.{ran_on, RunsTo}
@@ -83,7 +82,3 @@ constant_ran l s w b {bit} h k e =
     at_most : (t : Bool) → cond t l 0 ≤ 1
     at_most true = h
     at_most false = omega arith
-
--- the shares after the first are 0
-pub constant_next : (l s : ℕ) → 0 ≡ cond (eqb (s + 1) 0) l 0
-constant_next l s = rw (ne_eqb (s + 1) 0 (λ e. omega (arith, e)))

@@ -8,6 +8,7 @@ ghost use Rattle.layout.specs.Layout.{share_wires, pieces_from, xor_gates, const
 ghost use Rattle.map_values.specs.Driving.{SharesBefore};
 
 // A random gate on wire w, with its bit.
+#[tactic(auto, using(crate::proofs::Gates::random_ran))]
 pub fn run_random(run: &mut [u8], w: usize, bit: u8)
     requires { RunsTo w 1 run.old }
     ensures { run.new ≡ ran_on (gate RANDOM 0 0 ∷ []) (bit ∷ []) w run.old }
@@ -16,6 +17,7 @@ pub fn run_random(run: &mut [u8], w: usize, bit: u8)
 }
 
 // A NOT on wire w.
+#[tactic(auto, using(crate::proofs::Gates::not_ran))]
 pub fn run_not(run: &mut [u8], w: usize, left: usize)
     requires { RunsTo w 1 run.old × (left < w) }
     ensures { run.new ≡ ran_on (gate NOT left 0 ∷ []) [] w run.old }
@@ -33,6 +35,7 @@ pub fn run_nots(run: &mut [u8], w: usize, left: usize, right: usize)
 }
 
 // An XOR on wire w.
+#[tactic(auto, using(crate::proofs::Gates::xor_ran))]
 pub fn run_xor(run: &mut [u8], w: usize, left: usize, right: usize)
     requires { RunsTo w 1 run.old × (left < w) × (right < w) }
     ensures { run.new ≡ ran_on (gate XOR left right ∷ []) [] w run.old }
@@ -41,6 +44,7 @@ pub fn run_xor(run: &mut [u8], w: usize, left: usize, right: usize)
 }
 
 // An AND on wire w.
+#[tactic(auto, using(crate::proofs::Gates::and_ran))]
 pub fn run_and(run: &mut [u8], w: usize, left: usize, right: usize)
     requires { RunsTo w 1 run.old × (left < w) × (right < w) }
     ensures { run.new ≡ ran_on (gate AND left right ∷ []) [] w run.old }
@@ -49,16 +53,15 @@ pub fn run_and(run: &mut [u8], w: usize, left: usize, right: usize)
 }
 
 // An XOR share by share, from wire w on.
-pub fn run_xors(run: &mut [u8], w: usize, n: usize, a: layout::Places, b: layout::Places)
-    requires { SharesBefore n w a b × RunsTo w n run.old }
-    ensures { run.new ≡ ran_on (pieces_from n 0 (xor_gates (share_wires n a) (share_wires n b))) [] w run.old }
+pub fn run_xors(run: &mut [u8], w: usize, n: usize, operands: layout::Operands)
+    requires { SharesBefore n w operands.left operands.right × RunsTo w n run.old }
+    ensures { run.new
+        ≡ ran_on (pieces_from n 0 (xor_gates (share_wires n operands.left) (share_wires n operands.right))) [] w run.old }
 {
-    let mut s = 0;
-    while s < n {
-        let left = layout::share_wire(a, s);
-        let right = layout::share_wire(b, s);
+    for s in 0..n {
+        let left = layout::share_wire(operands.left, s);
+        let right = layout::share_wire(operands.right, s);
         run_xor(run, w + s, left, right);
-        s += 1;
     }
 }
 
@@ -67,11 +70,8 @@ pub fn run_constants(run: &mut [u8], w: usize, n: usize, value: u8)
     requires { RunsTo w n run.old × (value ≤ 1) }
     ensures { run.new ≡ ran_on (pieces_from n 0 (constant_gates value)) [] w run.old }
 {
-    let mut bit = value;
-    let mut s = 0;
-    while s < n {
+    for s in 0..n {
+        let bit = if s == 0 { value } else { 0 };
         run[w + s] = bit;
-        bit = 0;
-        s += 1;
     }
 }

@@ -1,16 +1,10 @@
--- The loop's invariant in `map_values::run_constants`: s shares have run on, and `bit` is the next one.
+-- The loop's invariant in `map_values::run_constants`: s shares have run on.
 -- Assumes nothing.
-use mathlib.Core.Path.{◌≡◌}
-use mathlib.Core.Bool.{cond}
-use Prim.Native.Nat.{◌+◌, ◌-◌}
-use lib.Dec.{eqb}
+use Prim.Native.Nat.{◌+◌}
 use Rattle.layout.specs.Layout.{constant_gates}
 use Rattle.map_values.proofs.InPieces.{InPieces}
 use Rattle.map_values.proofs.run_constants.Given as goal
 
 abbrev pub invariant-loop-s : goal.invariant-loop-s
 invariant-loop-s l =
-    InPieces 1 l.w l.n (constant_gates l.value) l.initial.run (l.w + l.s) l.s l.run × (l.bit ≡ cond (eqb l.s 0) l.value 0)
-
-abbrev pub decreases-loop-s : goal.decreases-loop-s
-decreases-loop-s l = l.n - l.s
+    InPieces 1 l.w l.n (constant_gates l.value) l.initial.run (l.w + l.s) l.s l.run
