@@ -7,36 +7,30 @@ ghost use Rattle.tables.specs.Packing.{unpacked};
 ghost use Rattle.tables.specs.Inside.{ran_on, RunsTo};
 ghost use Rattle.construction.specs.Gadgets.{all_five, gadget_of};
 ghost use Rattle.secrecy.specs.Both.{BothFlip, BothReady};
-ghost use Rattle.map_pair.specs.Crossing.{fifth_value, wires_differ, BitAt, PairBits, PairBefore};
+ghost use Rattle.map_pair.specs.Crossing.{fifth_value, wires_differ, pair_flips, BitAt, PairBits, PairBefore};
 
-// The fifth wire of a pair in one run, where w is the first: it adds the first, the fourth and, where both is 1, the second.
-fn run_fifth(run: &mut [u8], w: usize, both: u8)
-    requires { RunsTo (w + 4) 1 run.old × (both ≤ 1) }
+// The fifth wire of a pair in one run, where w is the first: it adds the first, the fourth and, where `both` holds, the second.
+#[tactic(auto, using(crate::proofs::Five::fifth_is))]
+fn run_fifth(run: &mut [u8], w: usize, both: bool)
+    requires { RunsTo (w + 4) 1 run.old }
     ensures { run.new ≡ set run.old (w + 4) (fifth_value both w (λ p. get_or run.old p 0)) }
 {
-    run[w + 4] = (run[w] ^ (both & run[w + 1])) ^ run[w + 3];
+    let second = if both { run[w + 1] } else { 0 };
+    run[w + 4] = run[w] ^ second ^ run[w + 3];
 }
 
 // The five wires of a pair in one run, from wire w on, with the pair's random bit. The third adds the first two, in whichever order its
 // gate has them.
-fn run_pair(
-    and: construction::And,
-    run: &mut [u8],
-    w: usize,
-    ai: usize,
-    bj: usize,
-    aj: usize,
-    bi: usize,
-    bit: u8,
-)
-    requires { RunsTo w 5 run.old × PairBefore w ai bj aj bi × (bit ≤ 1) }
-    ensures { run.new ≡ ran_on (map ((gadget_of and).gates w ai bj aj bi) all_five) (bit ∷ []) w run.old }
+fn run_pair(and: construction::And, run: &mut [u8], w: usize, shares: layout::PairShares, bit: u8)
+    requires { RunsTo w 5 run.old × PairBefore w shares × (bit ≤ 1) }
+    ensures { run.new
+        ≡ ran_on (map ((gadget_of and).gates w shares.ai shares.bj shares.aj shares.bi) all_five) (bit ∷ []) w run.old }
 {
     let form = ands::pair_form(and);
     map_values::run_random(run, w, bit);
-    map_values::run_and(run, w + 1, ai, bj);
+    map_values::run_and(run, w + 1, shares.ai, shares.bj);
     map_values::run_xor(run, w + 2, w, w + 1);
-    map_values::run_and(run, w + 3, aj, bi);
+    map_values::run_and(run, w + 3, shares.aj, shares.bi);
     run_fifth(run, w, form.both);
 }
 
@@ -57,27 +51,21 @@ fn flip_pair(
     j: usize,
     one: &[u8],
     other: &[u8],
-    ai: usize,
-    bj: usize,
-    aj: usize,
-    bi: usize,
+    shares: layout::PairShares,
     mapped: &mut [u8],
     at: usize,
 ) -> u8
-    requires { PairBits one.now ai bj aj bi × PairBits other.now ai bj aj bi × (at < length (unpacked mapped.old)) }
-    ensures { (result
-        ≡ (gadget_of and).flip k i j
-        (wires_differ one.now other.now ai bj)
-        (wires_differ one.now other.now aj bi))
+    requires { PairBits one.now shares × PairBits other.now shares × (at < length (unpacked mapped.old)) }
+    ensures { (result ≡ pair_flips (gadget_of and) k i j one.now other.now shares)
         × (result ≤ 1)
         × (unpacked mapped.new
         ≡ set (unpacked mapped.old) at (xor (get_or (unpacked mapped.old) at 0) result)) }
 {
-    if (i != k) & (j != ands::upper_flipped(and, k)) {
+    if (i != k) & (ands::upper_flipped(and, k) != Some(j)) {
         return 0;
     }
-    let p = product_differs(one, other, ai, bj);
-    let q = product_differs(one, other, aj, bi);
+    let p = product_differs(one, other, shares.ai, shares.bj);
+    let q = product_differs(one, other, shares.aj, shares.bi);
     let flip = ands::pair_flip(and, k, i, j, p, q);
     bits::flip_bit(mapped, at, flip);
     flip
@@ -91,27 +79,22 @@ pub fn map_pair(
     i: usize,
     j: usize,
     w: usize,
-    ai: usize,
-    bj: usize,
-    aj: usize,
-    bi: usize,
+    shares: layout::PairShares,
     tape: &[u8],
     at: usize,
     mapped: &mut [u8],
     one: &mut [u8],
     other: &mut [u8],
 )
-    requires { BothReady w 5 at 1 (unpacked tape.now) (unpacked mapped.old) one.old other.old × PairBefore w ai bj aj bi }
-    ensures { BothFlip (map ((gadget_of and).gates w ai bj aj bi) all_five)
-        ((gadget_of and).flip k i j
-        (wires_differ one.old other.old ai bj)
-        (wires_differ one.old other.old aj bi) ∷ [])
+    requires { BothReady w 5 at 1 (unpacked tape.now) (unpacked mapped.old) one.old other.old × PairBefore w shares }
+    ensures { BothFlip (map ((gadget_of and).gates w shares.ai shares.bj shares.aj shares.bi) all_five)
+        (pair_flips (gadget_of and) k i j one.old other.old shares ∷ [])
         (unpacked tape.now) at w
         (unpacked mapped.old) (unpacked mapped.new) one.old
         one.new other.old other.new }
 {
     let bit = bits::tape_bit(tape, at);
-    let flip = flip_pair(and, k, i, j, one, other, ai, bj, aj, bi, mapped, at);
-    run_pair(and, one, w, ai, bj, aj, bi, bit);
-    run_pair(and, other, w, ai, bj, aj, bi, bit ^ flip);
+    let flip = flip_pair(and, k, i, j, one, other, shares, mapped, at);
+    run_pair(and, one, w, shares, bit);
+    run_pair(and, other, w, shares, bit ^ flip);
 }
