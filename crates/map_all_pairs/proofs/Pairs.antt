@@ -23,7 +23,7 @@ use Rattle.secrecy.specs.Maps.{flipped}
 use Rattle.secrecy.specs.Both.{wires_flip, BothFlip, BothReady, bits_for}
 use Rattle.secrecy.proofs.Flips.{pairs_flips_same}
 use Rattle.secrecy.proofs.FlipsAt.{flipped_long}
-use Rattle.secrecy.proofs.Both.{BothLeft, left_end, left_long, FlipsLeft, flips_more, flips_start, tape_after, one_after, other_after}
+use Rattle.secrecy.proofs.Both.{BothLeft, left_end, FlipsLeft, flips_more, flips_start, tape_after, one_after, other_after}
 use Rattle.layout.specs.Layout.{pair_gates}
 use Rattle.map_all_pairs.specs.Pairing.{share_pairs}
 
@@ -96,7 +96,8 @@ module _ {G : Gadget} {k w₀ : ℕ} {a b : List ℕ} {v u : ℕ → ℕ} {all :
       → All (λ p. (p.lower < p.upper) × (p.upper < n)) ps
       → ((i : ℕ) → i < n → share a i < w₀)
       → ((i : ℕ) → i < n → share b i < w₀)
-      → BothFlip (in_turn 5 w ps (pair_gates G a b)) (map (wires_flip G k a b (λ p. get_or x p 0) (λ p. get_or y p 0)) ps) ts at w m m' x x' y y'
+      → BothFlip (in_turn 5 w ps (pair_gates G a b)) (map (wires_flip G k a b (λ p. get_or x p 0) (λ p. get_or y p 0)) ps) ts at w
+      m m' x x' y y'
       → at' ≡ at + length ps → w' ≡ w + 5 * length ps → PairsLeft G k w₀ a b v u qs ts at' w' M A B m' x' y'
   pairs_more L n ps qs {at'} {w'} {m'} {x'} {y'} cut inside sa sb ran next-at next-w =
       let F = pair_gates G a b in
@@ -172,12 +173,6 @@ module _ {G : Gadget} {k : ℕ} {a b : List ℕ} {ps : List Pair} {ts : List ℕ
   going_more L n now later cut inside sa sb ran next-at next-w =
       record { start = P.start; left = pairs_more P.left L n now later cut inside sa sb ran next-at next-w }
 
-  pub going_long : (length m ≡ length m₀) × (length x ≡ length x₀) × (length y ≡ length y₀)
-  going_long =
-      let here = left_long P.left.left.left in
-      let first = left_long (pairs_start G k w₀ a b ps P.start).left.left in
-      (here.0 ∙ sym first.0, here.1 ∙ sym first.1, here.2 ∙ sym first.2)
-
   pub going_end :
       qs ≡ []
       → BothFlip (in_turn 5 w₀ ps (pair_gates G a b)) (map (wires_flip G k a b (λ p. get_or x₀ p 0) (λ p. get_or y₀ p 0)) ps) ts at₀ w₀
@@ -232,7 +227,8 @@ one_pair G k i j w a b ts at {ai} {bj} {aj} {bi} {p} {q} {m} {m'} {x} {x'} {y} {
     let v : ℕ → ℕ = λ p. get_or x p 0 in
     let u : ℕ → ℕ = λ p. get_or y p 0 in
     let gates : map (G.gates w ai bj aj bi) all_five ≡ pair_gates G a b w (pair_of i j) = rw (e₁, e₂, e₃, e₄) refl in
-    let flip : G.flip k p q (differs (v ai) (v bj) (u ai) (u bj)) (differs (v aj) (v bi) (u aj) (u bi)) ≡ wires_flip G k a b v u (pair_of i j) =
+    let flip : G.flip k p q (differs (v ai) (v bj) (u ai) (u bj)) (differs (v aj) (v bi) (u aj) (u bi))
+    ≡ wires_flip G k a b v u (pair_of i j) =
     rw (ep, eq, e₁, e₂, e₃, e₄) refl in
     subst₂ (λ (gs : List Gate) (f : ℕ). BothFlip gs (f ∷ []) ts at w m m' x x' y y') gates flip ran
 

@@ -16,45 +16,39 @@ fn map_share(
     n: usize,
     i: usize,
     w: usize,
-    a: layout::Places,
-    b: layout::Places,
+    operands: layout::Operands,
     tape: &[u8],
     at: usize,
     mapped: &mut [u8],
     one: &mut [u8],
     other: &mut [u8],
 )
-    requires { (i < n) × SharesBefore n w a b
+    requires { (i < n) × SharesBefore n w operands.left operands.right
         × BothReady w (5 * (n - suc i)) at (n - suc i) (unpacked tape.now) (unpacked mapped.old) one.old other.old }
-    ensures { PairsRan (gadget_of and) n k a b (share_pairs n i) (unpacked tape.now) at w
+    ensures { PairsRan (gadget_of and) n k operands.left operands.right (share_pairs n i) (unpacked tape.now) at w
         (unpacked mapped.old) (unpacked mapped.new) one.old
         one.new other.old other.new }
 {
-    let ai = layout::share_wire(a, i);
-    let bi = layout::share_wire(b, i);
-    let later = n - 1 - i;
-    let mut c = 0;
-    while c < later {
+    let ai = layout::share_wire(operands.left, i);
+    let bi = layout::share_wire(operands.right, i);
+    for c in 0..n - 1 - i {
         let j = i + 1 + c;
-        let aj = layout::later_wire(a, j);
-        let bj = layout::later_wire(b, j);
+        let aj = layout::later_wire(operands.left, j);
+        let bj = layout::later_wire(operands.right, j);
+        let shares = layout::PairShares { ai, bj, aj, bi };
         map_pair::map_pair(
             and,
             k,
             i + 1,
             j + 1,
             w + 5 * c,
-            ai,
-            bj,
-            aj,
-            bi,
+            shares,
             tape,
             at + c,
             mapped,
             one,
             other,
         );
-        c += 1;
     }
 }
 
@@ -64,28 +58,25 @@ pub fn map_pairs(
     k: usize,
     n: usize,
     w: usize,
-    a: layout::Places,
-    b: layout::Places,
+    operands: layout::Operands,
     tape: &[u8],
     at: usize,
     mapped: &mut [u8],
     one: &mut [u8],
     other: &mut [u8],
 )
-    requires { SharesBefore n w a b × (w + 5 * tri n ≤ 65535)
+    requires { SharesBefore n w operands.left operands.right × (w + 5 * tri n ≤ 65535)
         × BothReady w (5 * tri n) at (tri n) (unpacked tape.now) (unpacked mapped.old) one.old other.old }
-    ensures { PairsRan (gadget_of and) n k a b (pairs n) (unpacked tape.now) at w
+    ensures { PairsRan (gadget_of and) n k operands.left operands.right (pairs n) (unpacked tape.now) at w
         (unpacked mapped.old) (unpacked mapped.new) one.old
         one.new other.old other.new }
 {
     let mut v = w;
     let mut next = at;
-    let mut i = 0;
-    while i < n {
-        map_share(and, k, n, i, v, a, b, tape, next, mapped, one, other);
+    for i in 0..n {
+        map_share(and, k, n, i, v, operands, tape, next, mapped, one, other);
         let later = n - 1 - i;
         v += 5 * later;
         next += later;
-        i += 1;
     }
 }

@@ -11,12 +11,9 @@ use Rattle.map_all_pairs.proofs.map_pairs.Given as goal
 
 abbrev pub invariant-loop-i : goal.invariant-loop-i
 invariant-loop-i l =
-    PairsGoing (gadget_of l.and) l.k (share_wires l.n l.a) (share_wires l.n l.b) (pairs l.n) (unpacked l.tape) l.at l.w
+    PairsGoing (gadget_of l.and) l.k (share_wires l.n l.operands.left) (share_wires l.n l.operands.right) (pairs l.n)
+    (unpacked l.tape) l.at l.w
     (unpacked l.initial.mapped) l.initial.one l.initial.other
     (pairs_from (l.n - l.i) l.i) l.next l.v (unpacked l.mapped) l.one l.other
-    × (l.i ≤ l.n)
     × (l.w ≤ l.v)
     × (l.v + 5 * tri (l.n - l.i) ≡ l.w + 5 * tri l.n)
-
-abbrev pub decreases-loop-i : goal.decreases-loop-i
-decreases-loop-i l = l.n - l.i

@@ -1,7 +1,6 @@
 -- The loop's invariant in `map_all_pairs::map_share`: c pairs have run on, and the others are left.
 -- Assumes nothing.
-use mathlib.Core.Path.{◌≡◌}
-use Prim.Native.Nat.{suc, ◌+◌, ◌-◌, ◌*◌, ◌≤◌}
+use Prim.Native.Nat.{suc, ◌+◌, ◌-◌, ◌*◌}
 use Rattle.tables.specs.Packing.{unpacked}
 use Rattle.construction.specs.Shares.{up_from, pair_of}
 use Rattle.construction.specs.Gadgets.{gadget_of}
@@ -12,7 +11,8 @@ use Rattle.map_all_pairs.proofs.map_share.Given as goal
 
 abbrev pub invariant-loop-c : goal.invariant-loop-c
 invariant-loop-c l =
-    PairsGoing (gadget_of l.and) l.k (share_wires l.n l.a) (share_wires l.n l.b) (share_pairs l.n l.i) (unpacked l.tape) l.at l.w
+    PairsGoing (gadget_of l.and) l.k (share_wires l.n l.operands.left) (share_wires l.n l.operands.right) (share_pairs l.n l.i)
+    (unpacked l.tape) l.at l.w
     (unpacked l.initial.mapped) l.initial.one l.initial.other
     (up_from (l.n - suc l.i - l.c) (suc l.i + l.c) (λ j. pair_of l.i j))
     (l.at + l.c)
@@ -20,8 +20,3 @@ invariant-loop-c l =
     (unpacked l.mapped)
     l.one
     l.other
-    × (l.c ≤ l.later)
-    × (l.later ≡ l.n - suc l.i)
-
-abbrev pub decreases-loop-c : goal.decreases-loop-c
-decreases-loop-c l = l.later - l.c
