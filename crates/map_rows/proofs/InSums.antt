@@ -4,12 +4,20 @@ use mathlib.Core.Path.{◌≡◌, refl, ap, ◌∙◌}
 use mathlib.Core.List.{List, [], ◌∷◌}
 use Prim.Native.Nat.{ℕ, ◌+◌, ◌≤◌, ◌<◌}
 use native.Mathlib.Omega.{arith}
-use lib.ListN.{length, get_or}
+use lib.Bits.{bit_xor}
+use lib.ListN.{get_or, set}
 use Rattle.tables.specs.Tables.{XOR, Gate, gate}
 use Rattle.tables.specs.Inside.{ran_on, RunsTo}
 use Rattle.tables.proofs.Ran.{runs_less}
 use Rattle.layout.specs.Layout.{pieces_from, sum_gates}
+use Rattle.map_values.proofs.Gates.{xor_ran}
 use Rattle.map_values.proofs.InPieces.{InPieces, pieces_start, pieces_room, pieces_turn, pieces_end, xor_none}
+
+-- one sum, by the value that the code sets
+pub sum_ran :
+    (last l r : ℕ) (b : List ℕ) → RunsTo (last + 1) 1 b → r ≤ last → l ≡ get_or b last 0
+    → set b (last + 1) (bit_xor l (get_or b r 0)) ≡ ran_on (gate XOR last r ∷ []) [] (last + 1) b
+sum_ran last l r b R h e = rw e (xor_ran (last + 1) last r b R (omega arith) (omega arith))
 
 -- of m sums c have run on, and x is the value of the wire that the next one reads
 pub record InSums (last m : ℕ) (z : ℕ → ℕ) (b₀ : List ℕ) (x c : ℕ) (b : List ℕ) : Type 0 where
@@ -39,9 +47,6 @@ module _ {last m : ℕ} {z : ℕ → ℕ} {b₀ : List ℕ} {x c : ℕ} {b : Lis
         sums = pieces_turn P.sums b' h refl (xor_none _ _) piece ran.0 (omega arith);
         value = ran.1 ∙ ap (λ (p : ℕ). get_or b' p 0) {x = last + c + 1} {y = last + (c + 1)} (omega arith);
       }
-
-  pub sums_long : length b ≡ length b₀
-  sums_long = P.sums.ran.long
 
   pub sums_end : m ≤ c → b ≡ ran_on (pieces_from m 0 (sum_gates last z)) [] (last + 1) b₀
   sums_end h = pieces_end P.sums h

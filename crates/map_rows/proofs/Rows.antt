@@ -1,6 +1,6 @@
 -- A row in one run: its own product, the sums of the pairs before it, those of the pairs after it; and rows in turn.
 -- Assumes nothing.
-use mathlib.Core.Path.{◌≡◌, refl, sym, ap, ◌∙◌}
+use mathlib.Core.Path.{◌≡◌, refl, sym, ◌∙◌}
 use mathlib.Core.List.{List, [], ◌∷◌, ◌++◌}
 use Prim.Native.Nat.{ℕ, zero, suc, ◌+◌, ◌-◌, ◌*◌, ◌<◌}
 use native.Mathlib.Omega.{arith}
@@ -83,11 +83,8 @@ abbrev pub InRows : Gadget → ℕ → ℕ → ℕ → List ℕ → List ℕ →
 InRows G n w v a b = InPieces n v n (λ i. row_gates G n w (v + n * i) a b i)
 
 pub rows_turn :
-    (G : Gadget) (n w v : ℕ) (a b : List ℕ) {b₀ : List ℕ} {from i : ℕ} {c : List ℕ} (c' : List ℕ)
-    → InRows G n w v a b b₀ from i c → i < n → c' ≡ ran_on (row_gates G n w from a b i) [] from c
-    → InRows G n w v a b b₀ (from + n) (i + 1) c'
-rows_turn G n w v a b {b₀} {from} {i} c' P h ran =
-    pieces_turn P c' h (row_long G n w (v + n * i) a b i h) (row_none G n w (v + n * i) a b i)
-    (ap {A = ℕ} {B = List Gate} (λ u. row_gates G n w u a b i) P.place)
-    ran
-    refl
+    (G : Gadget) (n w v : ℕ) (a b : List ℕ) {b₀ : List ℕ} {i : ℕ} {c : List ℕ} (c' : List ℕ)
+    → InRows G n w v a b b₀ (v + n * i) i c → i < n → c' ≡ ran_on (row_gates G n w (v + n * i) a b i) [] (v + n * i) c
+    → InRows G n w v a b b₀ (v + n * (i + 1)) (i + 1) c'
+rows_turn G n w v a b {i = i} c' P h ran =
+    pieces_turn P c' h (row_long G n w (v + n * i) a b i h) (row_none G n w (v + n * i) a b i) refl ran (omega arith)

@@ -38,12 +38,10 @@ fn run_low_sums(
     let form = ands::pair_form(and);
     let mut x = one[last];
     let mut y = other[last];
-    let mut c = 0;
-    while c < m {
+    for c in 0..m {
         let added = z + 5 * c + form.low;
         x = run_sum(one, last + c, x, added);
         y = run_sum(other, last + c, y, added);
-        c += 1;
     }
 }
 
@@ -68,13 +66,11 @@ fn run_high_sums(
     let mut x = one[last];
     let mut y = other[last];
     let mut z = w + 5 * i;
-    let mut j = 0;
-    while j < i {
+    for j in 0..i {
         let added = z - 5 + form.high;
         x = run_sum(one, last + j, x, added);
         y = run_sum(other, last + j, y, added);
         z += 5 * (n - 2 - j);
-        j += 1;
     }
     z
 }
@@ -88,16 +84,17 @@ fn run_row(
     w: usize,
     n: usize,
     i: usize,
-    a: layout::Places,
-    b: layout::Places,
+    operands: layout::Operands,
 )
     requires { RunsTo v n one.old × RunsTo v n other.old
-        × SharesBefore n w a b × (i < n) × (w + 5 * tri n ≤ v) × (v + n ≤ 65536) }
-    ensures { (one.new ≡ ran_on (row_gates (gadget_of and) n w v (share_wires n a) (share_wires n b) i) [] v one.old)
-        × (other.new ≡ ran_on (row_gates (gadget_of and) n w v (share_wires n a) (share_wires n b) i) [] v other.old) }
+        × SharesBefore n w operands.left operands.right × (i < n) × (w + 5 * tri n ≤ v) × (v + n ≤ 65536) }
+    ensures { (one.new
+        ≡ ran_on (row_gates (gadget_of and) n w v (share_wires n operands.left) (share_wires n operands.right) i) [] v one.old)
+        × (other.new
+        ≡ ran_on (row_gates (gadget_of and) n w v (share_wires n operands.left) (share_wires n operands.right) i) [] v other.old) }
 {
-    let ai = layout::share_wire(a, i);
-    let bi = layout::share_wire(b, i);
+    let ai = layout::share_wire(operands.left, i);
+    let bi = layout::share_wire(operands.right, i);
     map_values::run_and(one, v, ai, bi);
     map_values::run_and(other, v, ai, bi);
     let z = run_high_sums(and, one, other, v, w, n, i);
@@ -112,19 +109,16 @@ pub fn run_rows(
     v: usize,
     w: usize,
     n: usize,
-    a: layout::Places,
-    b: layout::Places,
+    operands: layout::Operands,
 )
     requires { RunsTo v (n * n) one.old × RunsTo v (n * n) other.old
-        × SharesBefore n w a b × (w + 5 * tri n ≤ v) × (v + n * n ≤ 65536) }
-    ensures { (one.new ≡ ran_on (rows_gates (gadget_of and) n w v (share_wires n a) (share_wires n b)) [] v one.old)
-        × (other.new ≡ ran_on (rows_gates (gadget_of and) n w v (share_wires n a) (share_wires n b)) [] v other.old) }
+        × SharesBefore n w operands.left operands.right × (w + 5 * tri n ≤ v) × (v + n * n ≤ 65536) }
+    ensures { (one.new
+        ≡ ran_on (rows_gates (gadget_of and) n w v (share_wires n operands.left) (share_wires n operands.right)) [] v one.old)
+        × (other.new
+        ≡ ran_on (rows_gates (gadget_of and) n w v (share_wires n operands.left) (share_wires n operands.right)) [] v other.old) }
 {
-    let mut from = v;
-    let mut i = 0;
-    while i < n {
-        run_row(and, one, other, from, w, n, i, a, b);
-        from += n;
-        i += 1;
+    for i in 0..n {
+        run_row(and, one, other, v + n * i, w, n, i, operands);
     }
 }

@@ -1,6 +1,6 @@
 -- The loop's invariant in `map_rows::run_high_sums`: in each run j sums have run on, and `Upright`.
 -- Assumes nothing.
-use Prim.Native.Nat.{◌+◌, ◌-◌, ◌*◌}
+use Prim.Native.Nat.{◌+◌, ◌*◌}
 use Rattle.construction.specs.Shares.{pair_at}
 use Rattle.layout.proofs.Pieces.{Upright}
 use Rattle.map_rows.proofs.InSums.{InSums}
@@ -11,6 +11,3 @@ invariant-loop-j l =
     InSums l.last l.i (λ d. l.w + 5 * pair_at l.n d l.i + l.form.high) l.initial.one l.x l.j l.one
     × InSums l.last l.i (λ d. l.w + 5 * pair_at l.n d l.i + l.form.high) l.initial.other l.y l.j l.other
     × Upright l.n l.w l.i l.j l.z
-
-abbrev pub decreases-loop-j : goal.decreases-loop-j
-decreases-loop-j l = l.i - l.j
