@@ -4,9 +4,15 @@ use mathlib.Core.Path.{◌≡◌, refl, sym, ap, ap₂, ◌∙◌}
 use mathlib.Core.List.{List, [], ◌∷◌, ◌++◌, map, map-append}
 use Prim.Native.Nat.{ℕ, zero, suc, ◌+◌, ◌-◌, ◌*◌, ◌≤◌, ◌<◌}
 use native.Mathlib.Omega.{arith}
-use lib.ListN.{length, get_or, drop, set, replicate, length-set, length-append, length-map, length-replicate, replicate-append-replicate}
+use lib.ListN.{length, get_or, take, drop, set, replicate, length-set, length-append, length-map, length-replicate, replicate-append-replicate}
 use lib.Seq.{drop-drop}
-use Rattle.tables.specs.Tables.{Kind, NOT, XOR, AND, RANDOM, CONSTANT, OR, UNKNOWN, kind_of, kind_byte, Gate, gate, kind_bytes}
+use borrow.Rule.Slice.PartMut.{mid_of, put_mid, mid_len}
+use denote.Enum.Declared.{tag_of}
+use Rattle.tables.specs.contracts.Kind.{the_type}
+use Rattle.tables.specs.declared.Kind as DKind
+use Rattle.tables.specs.declared.Kind.TheVariants as Named
+use Rattle.tables.specs.Kinds.{kind_is}
+use Rattle.tables.specs.Tables.{Kind, NOT, XOR, AND, RANDOM, CONSTANT, OR, UNKNOWN, kind_byte, Gate, gate, kind_bytes}
 use Rattle.tables.specs.Inside.{put_at}
 use Rattle.tables.proofs.Format.{kinds_long}
 use Rattle.tables.proofs.Put.{put_length, put_set, put_past, put_then}
@@ -162,14 +168,34 @@ and_kinds_long n some =
       pieces_long n n 0 (λ _. row_kinds n) (λ _ _. row_kinds_long n some),
     )
 
--- the kinds of a NOT and of an XOR, where the kinds of XOR gates stand already
-pub kinds_head :
-    (k n at : ℕ) (b : List ℕ) → k < 2 → 1 ≤ n → at + cost (kind_of k) n ≤ length b → XorsFrom at b
-    → (at < length b) × (set b at k ≡ put_at at (new_kinds (kind_of k) n) b)
-kinds_head zero n at b h some fits xors = (omega arith, put_set at 0 b (omega arith))
-kinds_head (suc zero) zero at b h some fits xors = absurd (omega arith)
-kinds_head (suc zero) (suc n) at b h some fits xors = (omega arith, xors_head at n 1 b xors fits)
-kinds_head (suc (suc k)) n at b h some fits xors = absurd (omega arith)
+-- the kind of an XOR, where the kinds of XOR gates stand already
+pub xor_head :
+    (n at : ℕ) (b : List ℕ) → 1 ≤ n → at + n ≤ length b → XorsFrom at b → set b at 1 ≡ put_at at (replicate n 1) b
+xor_head zero at b some fits xors = absurd (omega arith)
+xor_head (suc n) at b some fits xors = xors_head at n 1 b xors fits
+
+-- a part that was lent comes back with the bytes xs
+pub part_is : (a e : ℕ) (xs b : List ℕ) → a + length xs ≡ e → put_mid a (e - a) b xs ≡ put_at a xs b
+unfolding put_at
+part_is a e xs b h =
+    ap {A = List ℕ} {B = List ℕ} (λ d. take a b ++ (xs ++ d))
+    (drop-drop (e - a) a b ∙ ap {A = ℕ} {B = List ℕ} (λ k. drop k b) {x = a + (e - a)} {y = a + length xs} (omega arith))
+
+pub filled :
+    (at m v : ℕ) (b : List ℕ) {x : List ℕ} → at + m ≤ length b → x ≡ replicate (length (mid_of at (at + m - at) b)) v
+    → put_mid at (at + m - at) b x ≡ put_at at (replicate m v) b
+filled at m v b fits e =
+    let long : length (mid_of at (at + m - at) b) ≡ m = omega (arith, mid_len at (at + m) b fits) in
+    rw (e, long) (part_is at (at + m) (replicate m v) b (omega (arith, length-replicate {A = ℕ} m v)))
+
+-- a kind's byte
+pub byte_is : (k : DKind.Kind) → tag_of the_type k ≡ kind_byte (kind_is k)
+byte_is Named.Not = refl
+byte_is Named.Xor = refl
+byte_is Named.And = refl
+byte_is Named.Random = refl
+byte_is Named.Constant = refl
+byte_is Named.Or = refl
 
 -- the kinds of an OR: two NOTs
 pub nots_written :

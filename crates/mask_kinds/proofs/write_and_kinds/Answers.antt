@@ -17,12 +17,6 @@ use Rattle.mask_kinds.proofs.write_and_kinds.Goals as goal
 long : (m : ℕ) → length (pieces_from m 0 (λ _. pair_kinds)) ≡ 5 * m
 long m = pieces_long 5 m 0 (λ _. pair_kinds) (λ _ _. refl)
 
-pub pair_count-m-requires : goal.pair_count-m-requires
-pair_count-m-requires c = c.requires.0
-
-pub write_pair_kinds-requires : goal.write_pair_kinds-requires
-write_pair_kinds-requires c = omega (arith, c.pair_count-m.ensures, c.requires.1)
-
 pub write_rows_kinds-requires : goal.write_rows_kinds-requires
 write_rows_kinds-requires c =
     let m = c.pair_count-m.result in (

@@ -1,8 +1,8 @@
 -- `mask_kinds::write_or_kinds` meets its contract: two NOTs, the AND, a NOT.
 -- Assumes nothing.
-use mathlib.Core.Path.{◌≡◌, refl, ◌∙◌}
+use mathlib.Core.Path.{◌≡◌, refl}
 use mathlib.Core.List.{[], ◌∷◌}
-use Prim.Native.Nat.{◌+◌, ◌<◌}
+use Prim.Native.Nat.{◌+◌}
 use native.Mathlib.Omega.{arith}
 use lib.ListN.{length, set, length-set}
 use Rattle.tables.specs.Tables.{OR}
@@ -10,19 +10,6 @@ use Rattle.tables.specs.Inside.{put_at}
 use Rattle.mask_kinds.specs.Kinds.{new_kinds}
 use Rattle.mask_kinds.proofs.GateKinds.{xors_after, nots_written, or_written}
 use Rattle.mask_kinds.proofs.write_or_kinds.Goals as goal
-
-pub bounds-kinds-at : goal.bounds-kinds-at
-bounds-kinds-at c = omega (arith, c.requires.2)
-
-pub overflow_add-kinds : goal.overflow_add-kinds
-overflow_add-kinds c = omega (arith, c.requires.2)
-
-pub bounds-kinds-at-2 : goal.bounds-kinds-at-2
-bounds-kinds-at-2 c =
-    omega (arith, c.requires.2, length-set c.args.kinds.now c.args.at 0)
-
-pub overflow_add-at : goal.overflow_add-at
-overflow_add-at c = omega (arith, c.requires.2)
 
 pub write_and_kinds-requires : goal.write_and_kinds-requires
 write_and_kinds-requires c =
@@ -32,46 +19,6 @@ write_and_kinds-requires c =
       omega (arith, c.requires.2, length-set b at 0, length-set (set b at 0) (at + 1) 0),
       xors_after at (0 ∷ 0 ∷ []) b c.requires.3 (omega (arith, c.requires.2)) (nots_written at b (omega (arith, c.requires.2))) refl,
     )
-
-pub overflow_add-kinds-2 : goal.overflow_add-kinds-2
-overflow_add-kinds-2 c = omega (arith, c.requires.2)
-
-pub and_cost-requires : goal.and_cost-requires
-and_cost-requires c = c.requires.1
-
-pub overflow_add-kinds-3 : goal.overflow_add-kinds-3
-overflow_add-kinds-3 c =
-    let last : (c.args.at + 2 + c.and_cost.result
-    < length c.args.kinds.now) = omega (arith, c.requires.2, c.and_cost.ensures) in
-    omega (arith, last)
-
-pub bounds-kinds-at-3 : goal.bounds-kinds-at-3
-bounds-kinds-at-3 c =
-    let last : (c.args.at + 2 + c.and_cost.result
-    < length c.args.kinds.now) = omega (arith, c.requires.2, c.and_cost.ensures) in
-    let written : (length c.write_and_kinds.new.kinds
-    ≡ length c.args.kinds.now)
-    × (set c.write_and_kinds.new.kinds
-    (c.args.at + 2 + c.and_cost.result)
-    0
-    ≡ put_at c.args.at (new_kinds OR c.args.n)
-    c.args.kinds.now) = (or_written c.args.at c.args.n c.args.kinds.now c.requires.0 c.requires.2
-    c.write_and_kinds.ensures
-    (omega (arith, c.and_cost.ensures))) in
-    omega (arith, last, written.0)
-
-pub shape_of-kinds : goal.shape_of-kinds
-shape_of-kinds c =
-    let written : (length c.write_and_kinds.new.kinds
-    ≡ length c.args.kinds.now)
-    × (set c.write_and_kinds.new.kinds
-    (c.args.at + 2 + c.and_cost.result)
-    0
-    ≡ put_at c.args.at (new_kinds OR c.args.n)
-    c.args.kinds.now) = (or_written c.args.at c.args.n c.args.kinds.now c.requires.0 c.requires.2
-    c.write_and_kinds.ensures
-    (omega (arith, c.and_cost.ensures))) in
-    let b = c.write_and_kinds.new.kinds in length-set b _ _ ∙ written.0
 
 pub returns : goal.returns
 returns c =
