@@ -179,6 +179,15 @@ pub record Begun (or : Bool) (n w : ℕ) (a b p q : DPlaces.Places) (v : ℕ) (x
   pub one : x₁ ≡ cond or (ran_on (not_gates a.head b.head) [] w x) x
   pub other : y₁ ≡ cond or (ran_on (not_gates a.head b.head) [] w y) y
 
+pub begun_of :
+    (or : Bool) (n w : ℕ) (a b p q : DPlaces.Places) {h g v : ℕ} {x y x₁ y₁ : List ℕ} → v ≡ cond or (w + 2) w → h ≡ cond or w a.head
+    → g ≡ cond or (w + 1) b.head → ((m : ℕ) → share_wires m p ≡ first_on h (share_wires m a))
+    → ((m : ℕ) → share_wires m q ≡ first_on g (share_wires m b))
+    → (x₁ ≡ cond or (ran_on (not_gates a.head b.head) [] w x) x) × (y₁ ≡ cond or (ran_on (not_gates a.head b.head) [] w y) y)
+    → Begun or n w a b p q v x y x₁ y₁
+begun_of or n w a b p q wire eh eg left right ran =
+    record { wire = wire; left = rw eh at (left n); right = rw eg at (right n); one = ran.0; other = ran.1 }
+
 -- what `map_product` takes
 abbrev pub ProductReady : Bool → ℕ → ℕ → DPlaces.Places → DPlaces.Places → List ℕ → ℕ → List ℕ → List ℕ → List ℕ → Type 0
 ProductReady or n w a b ts at m x y =

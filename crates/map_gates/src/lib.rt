@@ -23,28 +23,27 @@ fn map_and(
     k: usize,
     n: usize,
     w: usize,
-    a: layout::Places,
-    b: layout::Places,
+    operands: layout::Operands,
     tape: &[u8],
     at: usize,
     mapped: &mut [u8],
     one: &mut [u8],
     other: &mut [u8],
 )
-    requires { SharesBefore n w a b × (w + cost AND n ≤ 65535)
+    requires { SharesBefore n w operands.left operands.right × (w + cost AND n ≤ 65535)
         × BothReady w (cost AND n) at (tri n) (unpacked tape.now) (unpacked mapped.old) one.old other.old }
     ensures { BothFlip
-        (and_gates (gadget_of and) n w (share_wires n a) (share_wires n b))
+        (and_gates (gadget_of and) n w (share_wires n operands.left) (share_wires n operands.right))
         (map
-        (wires_flip (gadget_of and) k (share_wires n a) (share_wires n b) (λ p. get_or one.old p 0) (λ p. get_or other.old p 0))
+        (wires_flip (gadget_of and) k (share_wires n operands.left) (share_wires n operands.right) (λ p. get_or one.old p 0) (λ p. get_or other.old p 0))
         (pairs n))
         (unpacked tape.now) at w
         (unpacked mapped.old) (unpacked mapped.new) one.old
         one.new other.old other.new }
 {
     let v = w + 5 * gate_costs::pair_count(n);
-    map_all_pairs::map_pairs(and, k, n, w, a, b, tape, at, mapped, one, other);
-    map_rows::run_rows(and, one, other, v, w, n, a, b);
+    map_all_pairs::map_pairs(and, k, n, w, operands, tape, at, mapped, one, other);
+    map_rows::run_rows(and, one, other, v, w, n, operands);
 }
 
 // The two NOTs that an OR begins with, in both runs, on wires w and w + 1; an AND begins with none.
@@ -82,29 +81,32 @@ fn map_product(
     k: usize,
     n: usize,
     w: usize,
-    a: layout::Places,
-    b: layout::Places,
+    operands: layout::Operands,
     tape: &[u8],
     at: usize,
     mapped: &mut [u8],
     one: &mut [u8],
     other: &mut [u8],
 )
-    requires { (1 ≤ n) × SharesBefore n w a b × (w + cost (product_kind or) n ≤ 65535)
+    requires { (1 ≤ n) × SharesBefore n w operands.left operands.right × (w + cost (product_kind or) n ≤ 65535)
         × BothReady w (cost (product_kind or) n) at (tri n) (unpacked tape.now) (unpacked mapped.old) one.old other.old }
     ensures { BothFlip
-        (product_gates (gadget_of and) or n w (share_wires n a) (share_wires n b))
-        (gate_flips (gadget_of and) (product_kind or) n k (share_wires n a) (share_wires n b)
+        (product_gates (gadget_of and) or n w (share_wires n operands.left) (share_wires n operands.right))
+        (gate_flips (gadget_of and) (product_kind or) n k (share_wires n operands.left) (share_wires n operands.right)
         (λ p. get_or one.old p 0) (λ p. get_or other.old p 0))
         (unpacked tape.now) at w
         (unpacked mapped.old) (unpacked mapped.new) one.old
         one.new other.old other.new }
 {
-    let x = layout::first_on(layout::either(or, w, a.head), a);
-    let y = layout::first_on(layout::either(or, w + 1, b.head), b);
+    let a = operands.left;
+    let b = operands.right;
+    let read = layout::Operands {
+        left: layout::first_on(layout::either(or, w, a.head), a),
+        right: layout::first_on(layout::either(or, w + 1, b.head), b),
+    };
     let v = layout::either(or, w + 2, w);
     run_first_nots(or, w, a.head, b.head, one, other);
-    map_and(and, k, n, v, x, y, tape, at, mapped, one, other);
+    map_and(and, k, n, v, read, tape, at, mapped, one, other);
     run_last_not(or, n, v, one, other);
 }
 
@@ -146,12 +148,25 @@ fn map_gate(
         return;
     }
     let b = share_places::places_at(places, right);
+    let operands = layout::Operands { left: a, right: b };
     if kind == 1 {
-        map_values::run_xors(one, w, n, a, b);
-        map_values::run_xors(other, w, n, a, b);
+        map_values::run_xors(one, w, n, operands);
+        map_values::run_xors(other, w, n, operands);
         return;
     }
-    map_product(and, kind == 5, k, n, w, a, b, tape, at, mapped, one, other);
+    map_product(
+        and,
+        kind == 5,
+        k,
+        n,
+        w,
+        operands,
+        tape,
+        at,
+        mapped,
+        one,
+        other,
+    );
 }
 
 // All gates of a plan in both runs, from a place of the tape on: both runs begin with the values of the inputs' shares, whatever
