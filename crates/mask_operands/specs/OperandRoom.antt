@@ -2,17 +2,22 @@
 -- takes.
 -- Assumes nothing.
 use Rattle.std.specs.Prelude.{List, ℕ, ◌+◌, ◌*◌, ◌≤◌, ◌<◌, length}
-use Rattle.tables.specs.Tables.{kind_of}
-use Rattle.tables.specs.Inside.{PlainByte}
+use Rattle.tables.specs.declared.Kind as DKind
+use Rattle.tables.specs.Kinds.{kind_is}
 use Rattle.construction.specs.Wires.{cost}
-use Rattle.layout.specs.declared.Places as DPlaces
+use Rattle.layout.specs.declared.Operands as DOperands
 use Rattle.layout.specs.Layout.{ReadsShares}
+use Rattle.share_places.specs.declared.KeptPlaces as DKeptPlaces
+use Rattle.share_places.specs.Located.{places_at}
+
+-- where the array says that the shares of both operands are
+abbrev pub operands_at : List DKeptPlaces.KeptPlaces → ℕ → ℕ → DOperands.Operands
+operands_at L left right = record { left = places_at L left; right = places_at L right }
 
 -- what writing the operands of a plain gate's new wires takes: wires, or a value, that a field can hold, and room for them
-pub record OperandRoom (kind value n w : ℕ) (a b : DPlaces.Places) (at : ℕ) (ops : List ℕ) : Type 0 where
-  pub plain : PlainByte kind
+pub record OperandRoom (kind : DKind.Kind) (value n w : ℕ) (o : DOperands.Operands) (at : ℕ) (ops : List ℕ) : Type 0 where
   pub small : value < 65536
   pub some : 1 ≤ n
-  pub shares : ReadsShares n (record { left = a; right = b })
-  pub wires : w + cost (kind_of kind) n ≤ 65536
-  pub room : at + 4 * cost (kind_of kind) n ≤ length ops
+  pub shares : ReadsShares n o
+  pub wires : w + cost (kind_is kind) n ≤ 65536
+  pub room : at + 4 * cost (kind_is kind) n ≤ length ops

@@ -3,13 +3,16 @@
 
 ghost use Rattle.std.specs.Prelude.{◌≡◌, ◌+◌, ◌*◌, ◌≤◌, ◌<◌, ℕ, length};
 ghost use Rattle.tables.specs.Inside.{put_at};
-ghost use Rattle.tables.specs.Tables.{kind_of, pair_bytes, AND, OR};
+ghost use Rattle.tables.specs.Kinds.{kind_is};
+ghost use Rattle.tables.specs.Tables.{pair_bytes, AND, OR};
 ghost use Rattle.construction.specs.Gadgets.{gadget_of};
 ghost use Rattle.construction.specs.Wires.{cost, new_wires};
-ghost use Rattle.mask_operands.specs.OperandRoom.{OperandRoom};
+ghost use Rattle.mask_operands.specs.OperandRoom.{operands_at, OperandRoom};
 ghost use Rattle.layout.specs.Layout.{share_wires, operand_bytes, pieces_from, ReadsShares, xor_gates};
 ghost use Rattle.layout.specs.Layout.{constant_gates, and_gates, or_gates};
 ghost use Rattle.share_places.specs.Located.{places_at, Room};
+
+use tables::Kind;
 
 // Writes the operands of an XOR's wires, share by share.
 fn write_xor(ops: &mut [u8], at: usize, n: usize, operands: layout::Operands)
@@ -77,48 +80,35 @@ fn write_or(
     layout::put_gate(ops, end, last, 0);
 }
 
-// Writes the operands of a plain gate's new wires, from wire w on, where three arrays say where its operands' shares are; a
-// constant's left operand is its value. A NOT reads one number of the arrays.
+// Writes the operands of a plain gate's new wires, from wire w on, where an array says where its operands' shares are; a constant's
+// left operand is its value.
 pub fn write_operands_of(
     and: construction::And,
-    kind: u8,
+    kind: Kind,
     left: usize,
     right: usize,
     n: usize,
     w: usize,
-    head: &[u16],
-    base: &[u16],
-    step: &[u16],
+    places: &[share_places::KeptPlaces],
     ops: &mut [u8],
     at: usize,
 )
-    requires { Room (left + 1) head.now base.now step.now × Room (right + 1) head.now base.now step.now
-        × OperandRoom kind left n w (places_at head.now base.now step.now left) (places_at head.now base.now step.now right)
-        at ops.old }
+    requires { Room (left + 1) places.now × Room (right + 1) places.now
+        × OperandRoom kind left n w (operands_at places.now left right) at ops.old }
     ensures { (g : ℕ) → ops.new
-        ≡ put_at at (operand_bytes (new_wires (gadget_of and) (kind_of kind) left n g w
-        (share_wires n (places_at head.now base.now step.now left))
-        (share_wires n (places_at head.now base.now step.now right)))) ops.old }
+        ≡ put_at at (operand_bytes (new_wires (gadget_of and) (kind_is kind) left n g w
+        (share_wires n (places_at places.now left)) (share_wires n (places_at places.now right)))) ops.old }
 {
-    if kind == 0 {
-        layout::put_gate(ops, at, head[left] as usize, 0);
-        return;
-    }
-    if kind == 4 {
-        write_constant(ops, at, n, left);
-        return;
-    }
     let operands = layout::Operands {
-        left: share_places::places_at(head, base, step, left),
-        right: share_places::places_at(head, base, step, right),
+        left: share_places::places_at(places, left),
+        right: share_places::places_at(places, right),
     };
-    if kind == 1 {
-        write_xor(ops, at, n, operands);
-        return;
+    match kind {
+        Kind::Not => layout::put_gate(ops, at, operands.left.head, 0),
+        Kind::Xor => write_xor(ops, at, n, operands),
+        Kind::And => write_and(and, ops, at, w, n, operands),
+        Kind::Random => {}
+        Kind::Constant => write_constant(ops, at, n, left),
+        Kind::Or => write_or(and, ops, at, w, n, operands),
     }
-    if kind == 2 {
-        write_and(and, ops, at, w, n, operands);
-        return;
-    }
-    write_or(and, ops, at, w, n, operands);
 }

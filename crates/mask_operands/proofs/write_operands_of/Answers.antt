@@ -1,58 +1,54 @@
 -- `mask_operands::write_operands_of` meets its contract, kind by kind.
 -- Assumes nothing.
-use mathlib.Core.Path.{◌≡◌}
-use native.Mathlib.Omega.{arith}
-use Rattle.tables.specs.Tables.{pair_bytes}
+use mathlib.Core.Path.{sym, ap, ◌∙◌}
+use mathlib.Core.List.{List, ◌++◌}
+use Prim.Native.Nat.{ℕ}
+use Rattle.tables.specs.Tables.{XOR, AND, OR, two, pair_bytes}
+use Rattle.tables.specs.Inside.{put_at}
+use Rattle.tables.proofs.Put.{put_nil}
 use Rattle.construction.specs.Gadgets.{gadget_of}
 use Rattle.construction.specs.Wires.{and_part}
+use Rattle.layout.specs.declared.Places as DPlaces
 use Rattle.layout.specs.Layout.{share_wires, pieces_from, xor_gates, and_gates, or_gates}
 use Rattle.layout.proofs.Pieces.{xor_gates_lem, constant_gates_lem, and_gates_lem, or_gates_lem}
 use Rattle.share_places.specs.Located.{places_at}
 use Rattle.mask_operands.proofs.Written.{written_where}
 use Rattle.mask_operands.proofs.write_operands_of.Goals as goal
 
-pub returns-then-kind-eq0 : goal.returns-then-kind-eq0
+pub returns-in-Not : goal.returns-in-Not
 unfolding pair_bytes
-returns-then-kind-eq0 c g = rw c.if-kind-eq0.true c.put_gate.ensures
+returns-in-Not c g =
+    let first : DPlaces.Places → List ℕ = λ p. put_at c.args.at (two p.head ++ two 0) c.args.ops.now in
+    rw c.in-Not.is (c.put_gate.ensures ∙ ap first c.places_at.ensures.0)
 
-pub returns-then-kind-eq4 : goal.returns-then-kind-eq4
-returns-then-kind-eq4 c g =
-    let at = places_at c.args.head.now c.args.base.now c.args.step.now in
-    let n = c.args.n in
-    let A = share_wires n (at c.args.left) in
-    let B = share_wires n (at c.args.right) in
-    rw (c.if-kind-eq4.true, constant_gates_lem (gadget_of c.args.and) c.args.left n g c.args.w A B)
-    c.write_constant.ensures
+pub returns-in-Xor : goal.returns-in-Xor
+returns-in-Xor c g =
+    let a = c.args in
+    rw c.in-Xor.is
+    (written_where (gadget_of a.and) XOR a.left a.n g a.w a.at a.ops.now (λ A B. pieces_from a.n 0 (xor_gates A B))
+    (xor_gates_lem (gadget_of a.and) a.left a.n g a.w) c.places_at.ensures.0 c.places_at-2.ensures.0 c.write_xor.ensures)
 
-pub returns-then-kind-eq1 : goal.returns-then-kind-eq1
-returns-then-kind-eq1 c g =
-    let n = c.args.n in
-    written_where (gadget_of c.args.and) c.args.kind c.args.left n g c.args.w
-    c.args.at c.args.ops.now (λ A B. pieces_from n 0 (xor_gates A B))
-    (λ A B. rw c.if-kind-eq1.true (xor_gates_lem (gadget_of c.args.and) c.args.left n g c.args.w A B))
-    c.places_at.ensures.0
-    c.places_at-2.ensures.0
-    c.write_xor.ensures
+pub returns-in-And : goal.returns-in-And
+returns-in-And c g =
+    let a = c.args in
+    rw c.in-And.is
+    (written_where (gadget_of a.and) AND a.left a.n g a.w a.at a.ops.now (and_gates (gadget_of a.and) a.n a.w)
+    (and_gates_lem (gadget_of a.and) a.n (and_part g) a.w) c.places_at.ensures.0 c.places_at-2.ensures.0 c.write_and.ensures)
 
-pub returns-then-kind-eq2 : goal.returns-then-kind-eq2
-returns-then-kind-eq2 c g =
-    let n = c.args.n in
-    written_where (gadget_of c.args.and) c.args.kind c.args.left n g c.args.w c.args.at
-    c.args.ops.now (and_gates (gadget_of c.args.and) n c.args.w)
-    (λ A B. rw c.if-kind-eq2.true (and_gates_lem (gadget_of c.args.and) n (and_part g) c.args.w A B))
-    c.places_at.ensures.0
-    c.places_at-2.ensures.0
-    c.write_and.ensures
+pub returns-in-Random : goal.returns-in-Random
+unfolding pair_bytes
+returns-in-Random c g = rw c.in-Random.is (sym (put_nil _ _))
 
-pub returns : goal.returns
-returns c g =
-    let plain = c.requires.2.plain in
-    let is_or : c.args.kind ≡ 5 =
-    omega (arith, plain.0, plain.1, c.if-kind-eq0.false, c.if-kind-eq4.false, c.if-kind-eq1.false, c.if-kind-eq2.false) in
-    let n = c.args.n in
-    written_where (gadget_of c.args.and) c.args.kind c.args.left n g c.args.w c.args.at
-    c.args.ops.now (or_gates (gadget_of c.args.and) n c.args.w)
-    (λ A B. rw is_or (or_gates_lem (gadget_of c.args.and) c.args.left n g c.args.w A B))
-    c.places_at.ensures.0
-    c.places_at-2.ensures.0
-    c.write_or.ensures
+pub returns-in-Constant : goal.returns-in-Constant
+returns-in-Constant c g =
+    let a = c.args in
+    let A = share_wires a.n (places_at a.places.now a.left) in
+    let B = share_wires a.n (places_at a.places.now a.right) in
+    rw (c.in-Constant.is, constant_gates_lem (gadget_of a.and) a.left a.n g a.w A B) c.write_constant.ensures
+
+pub returns-in-Or : goal.returns-in-Or
+returns-in-Or c g =
+    let a = c.args in
+    rw c.in-Or.is
+    (written_where (gadget_of a.and) OR a.left a.n g a.w a.at a.ops.now (or_gates (gadget_of a.and) a.n a.w)
+    (or_gates_lem (gadget_of a.and) a.left a.n g a.w) c.places_at.ensures.0 c.places_at-2.ensures.0 c.write_or.ensures)
