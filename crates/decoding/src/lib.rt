@@ -29,18 +29,12 @@ fn decode_fault(order: u8, shares: &[u8], room: usize) -> tables::Refusal
     )
 }
 
-// The XOR of n neighbouring shares.
-fn decode_one(shares: &[u8], at: usize, n: usize) -> u8
-    requires { (at + n ≤ length shares.now) × Bits shares.now }
-    ensures { result ≡ xor_all 0 (take n (drop at shares.now)) }
+// The XOR of share bits.
+fn decode_one(shares: &[u8]) -> u8
+    requires { Bits shares.now }
+    ensures { result ≡ xor_all 0 shares.now }
 {
-    let mut sum: u8 = 0;
-    let mut j = 0;
-    while j < n {
-        sum = sum ^ shares[at + j];
-        j += 1;
-    }
-    sum
+    shares.iter().fold(0, |sum, share| sum ^ *share)
 }
 
 // Writes one bit for each n of the shares, count times.
@@ -48,12 +42,9 @@ fn decode_all(shares: &[u8], n: usize, count: usize, out: &mut [u8])
     requires { (n * count ≤ length shares.now) × (count ≤ length out.old) × Bits shares.now }
     ensures { out.new ≡ over (decode_from count n shares.now) out.old }
 {
-    let mut at = 0;
-    let mut i = 0;
-    while i < count {
-        out[i] = decode_one(shares, at, n);
-        at += n;
-        i += 1;
+    for i in 0..count {
+        let at = n * i;
+        out[i] = decode_one(&shares[at..at + n]);
     }
 }
 

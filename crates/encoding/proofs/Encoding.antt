@@ -1,36 +1,104 @@
--- Encoding bit by bit: what is left of one secret's shares while its tape bits are copied, and of all shares between
--- two secrets.
+-- Encoding bit by bit: one secret's shares while its tape bits are copied, and all shares secret by secret.
 -- Assumes nothing.
 use mathlib.Core.Path.{◌≡◌, refl, sym, ap, ◌∙◌}
-use mathlib.Core.List.{List, [], ◌∷◌, ◌++◌}
-use Prim.Native.Nat.{ℕ, suc, ◌+◌, ◌*◌, ◌≤◌, ◌<◌}
-use native.Mathlib.Nat.{add-zero, add-suc}
+use mathlib.Core.List.{List, [], ◌∷◌, ◌++◌, append_assoc}
+use Prim.Native.Nat.{ℕ, suc, ◌+◌, ◌-◌, ◌*◌, ◌≤◌, ◌<◌}
+use native.Mathlib.Nat.{zero-add, mul-zero, mul-le-mul_left}
 use native.Mathlib.Numerals.{add-one}
 use native.Mathlib.Omega.{arith}
 use lib.Bits.{bit_xor}
-use lib.ListN.{length, get_or, take, drop, set, length-set, length-drop, drop_of_length-le}
-use lib.Seq.{length-take-le, drop-cons, drop-drop}
+use lib.ListN.{length, get_or, take, drop, set, length-append, length-drop}
+use lib.Seq.{length-take-le, take-suc, drop-drop, take-take, get_or-take, get_or-drop}
+use borrow.Rule.Slice.PartMut.{mid_of, put_mid}
 use Rattle.tables.specs.Runs.{xor}
 use Rattle.tables.specs.Says.{over}
 use Rattle.tables.specs.Inside.{put_at}
-use Rattle.tables.proofs.Lists.{part, part_next, part_end, part_take}
-use Rattle.tables.proofs.Put.{Writing, writing_start, writing_front, writing_fits, writing_piece, writing_byte}
-use Rattle.tables.proofs.Put.{writing_long, writing_end, over_length}
+use Rattle.tables.proofs.Lists.{part, part_long, part_take}
+use Rattle.tables.proofs.Put.{put_zero, put_set, put_append, part_put, over_length}
 use Rattle.construction.specs.Shares.{shares_of}
 use Rattle.construction.specs.Codes.{xor_all, encode}
 use Rattle.tables.proofs.Run.{bit_xor_lem}
-use Rattle.construction.proofs.Codes.{group, group_length, encode_cons, encode_length}
+use Rattle.construction.proofs.Codes.{group}
 
--- the shares of one secret, and of the first of several
-one_length : (o x : ℕ) (ts : List ℕ) → 2 * o ≤ length ts → length (encode o (x ∷ []) ts) ≡ shares_of o
-unfolding encode
-one_length o x ts h = omega (arith, group_length x (take (2 * o) ts), length-take-le (2 * o) ts h)
+-- a piece more at the front of a buffer
+over_append :
+    (xs ys b : List ℕ) {at : ℕ} → at ≡ length xs → at + length ys ≤ length b
+    → put_at at ys (over xs b) ≡ over (xs ++ ys) b
+over_append xs ys b e h =
+    let put = put_append 0 xs ys b (omega arith) in
+    rw (e, ← put_zero xs b, ← put_zero (xs ++ ys) b) (rw zero-add at put)
 
-encode_next :
-    (o x : ℕ) (xs ts : List ℕ)
-    → encode o (x ∷ xs) ts ≡ encode o (x ∷ []) ts ++ encode o xs (drop (2 * o) ts)
+over_next :
+    (xs : List ℕ) (v : ℕ) (b : List ℕ) {at : ℕ} → at ≡ length xs → at < length b
+    → set (over xs b) at v ≡ over (xs ++ (v ∷ [])) b
+over_next xs v b {at} e h =
+    put_set at v (over xs b) (omega (arith, over_length xs b (omega arith)))
+    ∙ over_append xs (v ∷ []) b e (omega arith)
+
+xor_all_next : (v : ℕ) (bs : List ℕ) (b : ℕ) → xor_all v (bs ++ (b ∷ [])) ≡ xor (xor_all v bs) b
+unfolding xor_all
+xor_all_next v [] b = refl
+xor_all_next v (c ∷ bs) b = xor_all_next (xor v c) bs b
+
+-- the 2t tape bits of one secret, of which those before s are written and added up
+module _ (o from : ℕ) (us b₀ : List ℕ) (tape : from + 2 * o ≤ length us) (room : 2 * o < length b₀) where
+  abbrev bits : List ℕ
+  bits = part (2 * o) from us
+
+  long : length bits ≡ 2 * o
+  long = part_long (2 * o) from us tape
+
+  next : (s : ℕ) → s < 2 * o → take (s + 1) bits ≡ take s bits ++ (get_or us (from + s) 0 ∷ [])
+  next s h =
+      let at : get_or bits s 0 ≡ get_or us (from + s) 0 = get_or-take (2 * o) (drop from us) s 0 h ∙ get_or-drop from us s 0 in
+      rw add-one (take-suc bits s 0 (omega (arith, long)) ∙ rw at)
+
+  pub copying_turn :
+      (s last x bit : ℕ) → s < 2 * o → last ≤ 1 → last ≡ xor_all x (take s bits)
+      → (bit ≡ get_or us (from + s) 0) × (bit ≤ 1)
+      → (set (over (take s bits) b₀) s bit ≡ over (take (s + 1) bits) b₀)
+      × (bit_xor last bit ≡ xor_all x (take (s + 1) bits))
+      × (bit_xor last bit ≤ 1)
+  copying_turn s last x bit h low sum e =
+      let front : s ≡ length (take s bits) = sym (length-take-le s bits (omega (arith, long))) in
+      let add : bit_xor last bit ≡ xor last bit = bit_xor_lem last bit low e.1 in
+      rw (next s h, ← e.0, xor_all_next x (take s bits) bit, add)
+      (over_next (take s bits) bit b₀ front (omega arith), ap (λ (v : ℕ). xor v bit) sum, omega arith)
+
+  pub copying_end :
+      (x : ℕ)
+      → set (over (take (2 * o) bits) b₀) (2 * o) (xor_all x (take (2 * o) bits))
+      ≡ over (encode o (x ∷ []) (drop from us)) b₀
+  unfolding encode
+  copying_end x =
+      rw (take-take (2 * o) (2 * o) (drop from us) (omega arith))
+      (over_next bits (xor_all x bits) b₀ (sym long) room)
+
+-- the shares of the first secrets take as many bits from the front of the tape
+encode_long :
+    (o : ℕ) (xs ts : List ℕ) → 2 * o * length xs ≤ length ts → length (encode o xs ts) ≡ shares_of o * length xs
 unfolding encode
-encode_next o x xs ts = encode_cons o x xs ts
+encode_long o [] ts h = omega arith
+encode_long o (x ∷ xs) ts h =
+    let bits = take (2 * o) ts in
+    let rest = drop (2 * o) ts in
+    let fits : 2 * o * length xs ≤ length rest = omega (arith, length-drop (2 * o) ts) in
+    omega (
+      arith,
+      length-append bits (xor_all x bits ∷ encode o xs rest),
+      length-take-le (2 * o) ts (omega arith),
+      encode_long o xs rest fits,
+    )
+
+encode_append :
+    (o : ℕ) (xs ys ts : List ℕ)
+    → encode o (xs ++ ys) ts ≡ encode o xs ts ++ encode o ys (drop (2 * o * length xs) ts)
+unfolding encode
+encode_append o [] ys ts = rw mul-zero refl
+encode_append o (x ∷ xs) ys ts =
+    let step : 2 * o * length (x ∷ xs) ≡ 2 * o + 2 * o * length xs = omega arith in
+    rw (step, ← drop-drop (2 * o * length xs) (2 * o) ts, append_assoc)
+    (ap (λ (l : List ℕ). take (2 * o) ts ++ (xor_all x (take (2 * o) ts) ∷ l)) (encode_append o xs ys (drop (2 * o) ts)))
 
 -- the shares of one secret take their bits from the front of a longer tape
 one_front :
@@ -39,113 +107,64 @@ one_front :
 unfolding encode
 one_front o x from k us h = ap (group x) (sym (part_take (2 * o) from k us h))
 
--- while the tape bits of the secret x are copied: the rest of its group is left; `last` is what the copied bits give
-pub record Copying (o x : ℕ) (ts : List ℕ) (from : ℕ) (b₀ : List ℕ) (at s last : ℕ) (b : List ℕ) : Type 0 where
-  pub within : s ≤ 2 * o
-  pub bit : last ≤ 1
-  pub long : length b ≡ length b₀
-  pub rest :
-      Writing
-      (put_at at (encode o (x ∷ []) (drop from ts)) b₀)
-      (at + s)
-      (group last (drop s (part (2 * o) from ts)))
-      b
+-- between two secrets: the shares of the first i are written
+module _ (o : ℕ) (xs us b₀ : List ℕ) (k i : ℕ) where
+  abbrev ts : List ℕ
+  ts = take k us
 
-module _ {o : ℕ} {ts : List ℕ} {from at : ℕ} {b₀ : List ℕ} (tape : from + 2 * o ≤ length ts) (room : at + 2 * o < length b₀) where
-  pub copying_start : (x : ℕ) → x ≤ 1 → Copying o x ts from b₀ at 0 x b₀
-  unfolding encode
-  copying_start x h =
-      let size = one_length o x (drop from ts) (omega (arith, length-drop from ts)) in
-      record {
-        within = omega arith;
-        bit = h;
-        long = refl;
-        rest = rw add-zero (writing_start at (encode o (x ∷ []) (drop from ts)) b₀ (omega (arith, size)));
-      }
+  abbrev so_far : List ℕ
+  so_far = encode o (take i xs) ts
 
-  module _ {x s last : ℕ} {b : List ℕ} (C : Copying o x ts from b₀ at s last b) where
-    pub copying_turn :
-        {bit : ℕ} → s < 2 * o → (bit ≡ get_or ts (from + s) 0) × (bit ≤ 1)
-        → Copying o x ts from b₀ at (s + 1) (bit_xor last bit) (set b (at + s) bit)
-    unfolding xor_all
-    copying_turn {bit} h e =
-        let sum : bit_xor last bit ≡ xor last bit = bit_xor_lem last bit C.bit e.1 in
-        let rest = drop (suc s) (part (2 * o) from ts) in
-        let next : drop s (part (2 * o) from ts) ≡ bit ∷ rest = part_next (2 * o) from s ts tape h ∙ rw e.0 in
-        rw (add-one, sum)
-        record {
-          within = omega arith;
-          bit = omega arith;
-          long = length-set b (at + s) bit ∙ C.long;
-          rest = rw add-suc (writing_byte C.rest bit (group (xor last bit) rest) (rw next));
-        }
+  abbrev at : ℕ
+  at = shares_of o * i
 
-    pub copying_end :
-        2 * o ≤ s → set b (at + 2 * o) last ≡ put_at at (encode o (x ∷ []) (drop from ts)) b₀
-    unfolding xor_all
-    copying_end h =
-        let done : 2 * o ≡ s = omega (arith, C.within) in
-        let none : drop s (part (2 * o) from ts) ≡ [] = rw (← done) (part_end (2 * o) from ts tape) in
-        rw done (writing_end (writing_byte C.rest last [] (rw none)) refl)
+  abbrev one : List ℕ
+  one = encode o (get_or xs i 0 ∷ []) (drop (2 * o * i) us)
 
--- between two secrets: the encoding of those from i on is left, from tape bit `from` on
-pub record Encoding (o : ℕ) (xs ts b₀ : List ℕ) (i from at : ℕ) (b : List ℕ) : Type 0 where
-  pub tape : from + 2 * o * length (drop i xs) ≡ length ts
-  pub later : from ≤ at
-  pub rest : Writing (over (encode o xs ts) b₀) at (encode o (drop i xs) (drop from ts)) b
+  module _ (h : i < length xs) (tape : k ≡ 2 * o * length xs) (fits : k ≤ length us) (room : shares_of o * length xs ≤ length b₀) where
+    more : suc i ≤ length xs
+    more = omega arith
 
-module _ (o : ℕ) (xs ts b : List ℕ) (tape : length ts ≡ 2 * o * length xs) (room : shares_of o * length xs ≤ length b) where
-  encode_fits : length (encode o xs ts) ≤ length b
-  encode_fits = omega (arith, encode_length o xs ts tape)
+    pub bits_left : 2 * o * i + 2 * o ≤ k
+    bits_left = omega (arith, mul-le-mul_left (2 * o) more)
 
-  pub encoding_start : Encoding o xs ts b 0 0 0 b
-  encoding_start = record { tape = omega arith; later = omega arith; rest = writing_front (encode o xs ts) b encode_fits }
+    pub room_left : at + shares_of o ≤ length b₀
+    room_left = omega (arith, mul-le-mul_left (shares_of o) more)
 
-module _ {o i from at : ℕ} {xs ts b₀ b : List ℕ} (E : Encoding o xs ts b₀ i from at b) where
-  pub encoding_long : length ts ≡ 2 * o * length xs → shares_of o * length xs ≤ length b₀ → length b ≡ length b₀
-  encoding_long tape room =
-      writing_long E.rest ∙ over_length (encode o xs ts) b₀ (encode_fits o xs ts b₀ tape room)
+    front : length ts ≡ k
+    front = length-take-le k us fits
 
-  -- at secret x, which is number i
-  module _ (h : i < length xs) {x : ℕ} (e : x ≡ get_or xs i 0) where
-    abbrev after : List ℕ
-    after = drop (suc i) xs
+    before : length (take i xs) ≡ i
+    before = length-take-le i xs (omega arith)
 
-    abbrev one : List ℕ
-    one = encode o (x ∷ []) (drop from ts)
+    so_far_long : at ≡ length so_far
+    so_far_long =
+        let most : 2 * o * length (take i xs) ≤ length ts = rw before (omega (arith, bits_left, front)) in
+        rw (encode_long o (take i xs) ts most, before) refl
 
-    abbrev rest : List ℕ
-    rest = encode o after (drop (from + 2 * o) ts)
+    one_long : length one ≡ shares_of o
+    one_long =
+        let most : 2 * o * length (get_or xs i 0 ∷ []) ≤ length (drop (2 * o * i) us) =
+        omega (arith, bits_left, length-drop (2 * o * i) us) in
+        omega (arith, encode_long o (get_or xs i 0 ∷ []) (drop (2 * o * i) us) most)
 
-    next : drop i xs ≡ x ∷ after
-    next = drop-cons xs i 0 h ∙ rw e
+    over_long : length (over so_far b₀) ≡ length b₀
+    over_long = over_length so_far b₀ (omega (arith, so_far_long, room_left))
 
-    tape_left : from + 2 * o * suc (length after) ≡ length ts
-    tape_left = rw (ap length next) at E.tape
+    put_one : put_at at one (over so_far b₀) ≡ over (encode o (take (i + 1) xs) ts) b₀
+    put_one =
+        let same : one ≡ encode o (get_or xs i 0 ∷ []) (drop (2 * o * i) ts) =
+        one_front o (get_or xs i 0) (2 * o * i) k us bits_left in
+        let next : encode o (take (i + 1) xs) ts ≡ so_far ++ one =
+        rw (add-one, take-suc xs i 0 h, same)
+        (encode_append o (take i xs) (get_or xs i 0 ∷ []) ts ∙ rw before refl) in
+        rw next (over_append so_far one b₀ so_far_long (omega (arith, one_long, room_left)))
 
-    size : length one ≡ shares_of o
-    size = one_length o x (drop from ts) (omega (arith, tape_left, length-drop from ts))
-
-    split : encode o (drop i xs) (drop from ts) ≡ one ++ rest
-    split = rw next (encode_next o x after (drop from ts) ∙ rw (drop-drop (2 * o) from ts))
-
-    pub encoding_fits : (from + 2 * o ≤ length ts) × (at + 2 * o < length b)
-    encoding_fits = (omega (arith, tape_left), omega (arith, size, writing_fits E.rest one rest split))
-
+    -- the shares of one secret more, in a part that was lent, of n bytes
     pub encoding_turn :
-        (us : List ℕ) {k : ℕ} {b' : List ℕ} → ts ≡ take k us → length ts ≡ k
-        → b' ≡ put_at at (encode o (x ∷ []) (drop from us)) b
-        → Encoding o xs ts b₀ (i + 1) (from + 2 * o) (at + (2 * o + 1)) b'
-    encoding_turn us {k} front long w =
-        let same : encode o (x ∷ []) (drop from us) ≡ one =
-        one_front o x from k us (omega (arith, tape_left)) ∙ ap (λ (l : List ℕ). encode o (x ∷ []) (drop from l)) (sym front) in
-        rw (add-one i)
-        record {
-          tape = omega (arith, tape_left);
-          later = omega (arith, E.later);
-          rest = writing_piece E.rest one rest split (w ∙ ap (λ (l : List ℕ). put_at at l b) same) (omega (arith, size));
-        }
-
-  pub encoding_end : length xs ≤ i → b ≡ over (encode o xs ts) b₀
-  unfolding encode
-  encoding_end h = writing_end E.rest (rw (drop_of_length-le xs {i = i} h))
+        {n : ℕ} {b b' : List ℕ} → n ≡ shares_of o → b ≡ over so_far b₀ → b' ≡ over one (mid_of (n * i) (n * i + n - n * i) b)
+        → put_mid (n * i) (n * i + n - n * i) b b' ≡ over (encode o (take (i + 1) xs) ts) b₀
+    encoding_turn {n} {b} e done put =
+        let end : n * i + n ≤ length b = rw (e, done) (omega (arith, over_long, room_left)) in
+        let size : length one ≤ n * i + n - n * i = rw e (omega (arith, one_long)) in
+        part_put (n * i) (n * i + n) one b (omega arith) end size put ∙ rw (e, done) put_one

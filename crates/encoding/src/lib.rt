@@ -1,10 +1,10 @@
 // Encoding secrets into shares.
 #![tactic(auto)]
 
-ghost use Rattle.std.specs.Prelude.{◌≡◌, [], ◌∷◌, ◌+◌, ◌*◌, ◌≤◌, ◌<◌, length, drop};
+ghost use Rattle.std.specs.Prelude.{◌≡◌, [], ◌∷◌, ◌+◌, ◌*◌, ◌^◌, ◌≤◌, ◌<◌, length, drop};
 ghost use Rattle.tables.specs.Packing.{unpacked, tape_of};
 ghost use Rattle.tables.specs.Says.{over};
-ghost use Rattle.tables.specs.Inside.{Refused, Bits, put_at};
+ghost use Rattle.tables.specs.Inside.{Refused, Bits};
 ghost use Rattle.construction.specs.Codes.{encode};
 ghost use Rattle.construction.specs.Shares.{shares_of};
 ghost use Rattle.construction.specs.Says.{encode_fault, EncodeSays};
@@ -37,26 +37,24 @@ fn encode_fault(order: u8, secrets: &[u8], tape: &[u8], room: usize) -> tables::
     answers::first_of(bad, answers::refuse_if(room < shares, 9))
 }
 
-// Writes the shares of one secret: 2t tape bits, and their XOR with the secret.
-fn encode_one(order: usize, secret: u8, tape: &[u8], from: usize, out: &mut [u8], at: usize)
+// Writes the shares of one secret: 2t tape bits from a place on, and their XOR with the secret.
+fn encode_one(order: usize, secret: u8, tape: &[u8], from: usize, out: &mut [u8])
     requires { (from + 2 * order ≤ length (unpacked tape.now))
-        × (at + 2 * order < length out.old)
-        × (from ≤ at)
+        × (from + 2 * order < 2 ^ 64)
+        × (2 * order < length out.old)
         × (order ≤ 15)
         × (secret ≤ 1) }
     ensures { out.new
-        ≡ put_at at (encode order (secret ∷ []) (drop from (unpacked tape.now))) out.old }
+        ≡ over (encode order (secret ∷ []) (drop from (unpacked tape.now))) out.old }
 {
     let bits = 2 * order;
     let mut last = secret;
-    let mut s = 0;
-    while s < bits {
+    for s in 0..bits {
         let bit = bits::tape_bit(tape, from + s);
-        out[at + s] = bit;
+        out[s] = bit;
         last = last ^ bit;
-        s += 1;
     }
-    out[at + bits] = last;
+    out[bits] = last;
 }
 
 // Writes the shares of every secret, one secret's after another's, with the first bits of the tape.
@@ -71,15 +69,10 @@ pub fn encode_all(order: usize, secrets: &[u8], tape: &[u8], out: &mut [u8])
         out.old }
 {
     let bits = 2 * order;
-    let mut from = 0;
-    let mut at = 0;
-    let mut i = 0;
-    while i < secrets.len() {
-        let secret = bits::secret_bit(secrets, i);
-        encode_one(order, secret, tape, from, out, at);
-        from += bits;
-        at += bits + 1;
-        i += 1;
+    let n = bits + 1;
+    for i in 0..secrets.len() {
+        let at = n * i;
+        encode_one(order, secrets[i], tape, bits * i, &mut out[at..at + n]);
     }
 }
 

@@ -1,13 +1,13 @@
--- The loop's invariant in `encoding::encode_one`: the rest of the secret's shares is left to write.
+-- The loop's invariant in `encoding::encode_one`: the tape bits before s are written, and `last` is their XOR with the secret.
 -- Assumes nothing.
-use Prim.Native.Nat.{◌*◌, ◌-◌}
+use Rattle.std.proofs.Common.{◌≡◌, ◌*◌, ◌≤◌, take}
 use Rattle.tables.specs.Packing.{unpacked}
-use Rattle.encoding.proofs.Encoding.{Copying}
+use Rattle.tables.specs.Says.{over}
+use Rattle.tables.proofs.Lists.{part}
+use Rattle.construction.specs.Codes.{xor_all}
 use Rattle.encoding.proofs.encode_one.Given as goal
 
 abbrev pub invariant-loop-s : goal.invariant-loop-s
 invariant-loop-s l =
-    Copying l.order l.secret (unpacked l.tape) l.from l.initial.out l.at l.s l.last l.out
-
-abbrev pub decreases-loop-s : goal.decreases-loop-s
-decreases-loop-s l = 2 * l.order - l.s
+    let copied = take l.s (part (2 * l.order) l.from (unpacked l.tape)) in
+    (l.out ≡ over copied l.initial.out) × (l.last ≡ xor_all l.secret copied) × (l.last ≤ 1)
