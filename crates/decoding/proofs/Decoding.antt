@@ -2,21 +2,26 @@
 -- Assumes nothing.
 use mathlib.Core.Path.{◌≡◌, refl, sym, ap, ◌∙◌}
 use mathlib.Core.List.{List, [], ◌∷◌, ◌++◌}
-use Prim.Native.Nat.{ℕ, zero, suc, ◌+◌, ◌*◌, ◌≤◌, ◌<◌}
-use native.Mathlib.Nat.{mul-zero, zero-add}
+use Prim.Native.Nat.{ℕ, zero, suc, ◌+◌, ◌*◌, ◌/◌, ◌≤◌, ◌<◌}
+use native.Mathlib.Nat.{mul-zero, zero-add, mul-div-le, div-le_self}
 use native.Mathlib.Numerals.{add-one}
 use native.Mathlib.Omega.{arith}
 use lib.Bits.{bit_xor}
 use lib.ListN.{length, take, drop, set}
 use lib.Seq.{drop-drop}
+use Rattle.std.specs.Prelude.{Ok}
 use Rattle.std.specs.List.{fold}
+use Rattle.tables.specs.Refusals.{none}
 use Rattle.tables.specs.Runs.{xor}
-use Rattle.tables.specs.Inside.{Bits}
+use Rattle.tables.specs.Inside.{Bits, answer_of}
 use Rattle.tables.specs.Says.{over}
 use Rattle.tables.proofs.Put.{put_zero, put_set, put_append, over_length}
-use Rattle.construction.specs.Codes.{xor_all, decode_from}
+use Rattle.tables.proofs.Answers.{none_passed, writes_done}
+use Rattle.construction.specs.Codes.{xor_all, decode_from, decode}
+use Rattle.construction.specs.Says.{decode_fault, DecodeSays}
 use Rattle.tables.proofs.Run.{bit_xor_lem}
-use Rattle.construction.proofs.Codes.{decode_from_length}
+use Rattle.construction.proofs.Codes.{decode_from_length, decode_length}
+use Rattle.construction.proofs.CodeFaults.{decode_passed}
 
 -- the XOR of bits as the bytes' XOR
 pub fold_xor : (v : ℕ) (bs : List ℕ) → v ≤ 1 → Bits bs → fold bit_xor v bs ≡ xor_all v bs
@@ -58,3 +63,24 @@ decoding_turn i n bs b₀ h =
     let sum = xor_all 0 (take n (drop (n * i) bs)) in
     rw (add-one, ← decode_from_next i n bs)
     (over_next (decode_from i n bs) sum b₀ (sym (decode_from_length i n bs)) h)
+
+-- a decoding that nothing refuses: what writing asks for, and what the call then says
+pub decode_ready :
+    (o : ℕ) (bs : List ℕ) (room : ℕ) → decode_fault o bs room ≡ none
+    → ((2 * o + 1) * (length bs / (2 * o + 1)) ≤ length bs) × (length bs / (2 * o + 1) ≤ room) × Bits bs
+decode_ready o bs room h =
+    let passes = decode_passed o bs room (none_passed h) in
+    (mul-div-le _ _, rw add-one passes.fits, passes.bits)
+
+pub decode_small : (o : ℕ) (bs : List ℕ) (room : ℕ) → decode_fault o bs room ≡ none → length bs / (2 * o + 1) < 65536
+decode_small o bs room h =
+    let passes = decode_passed o bs room (none_passed h) in
+    omega (arith, passes.few, div-le_self (length bs) (2 * o + 1))
+
+pub decode_writes :
+    (o : ℕ) (bs b : List ℕ) {b' : List ℕ} → decode_fault o bs (length b) ≡ none
+    → b' ≡ over (decode_from (length bs / (2 * o + 1)) (2 * o + 1) bs) b
+    → DecodeSays o bs b b' (answer_of (Ok (length bs / (2 * o + 1))))
+unfolding decode
+decode_writes o bs b h e =
+    writes_done (decode o bs) b h (rw add-one (sym (decode_length o bs))) (rw add-one at e)

@@ -1,3 +1,2 @@
 -- Laws that the proofs of decoding cite.
-mod Faults
-mod Decoding
+pub mod Decoding
