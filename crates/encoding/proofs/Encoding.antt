@@ -9,16 +9,23 @@ use native.Mathlib.Omega.{arith}
 use lib.Bits.{bit_xor}
 use lib.ListN.{length, get_or, take, drop, set, length-append, length-drop}
 use lib.Seq.{length-take-le, take-suc, drop-drop, take-take, get_or-take, get_or-drop}
-use borrow.Rule.Slice.PartMut.{mid_of, put_mid}
+use borrow.Rule.Slice.PartMut.{mid_of, put_mid, mid_len}
+use Rattle.std.specs.Prelude.{Ok}
+use Rattle.tables.specs.Refusals.{none}
+use Rattle.tables.specs.Packing.{unpacked, tape_of}
 use Rattle.tables.specs.Runs.{xor}
 use Rattle.tables.specs.Says.{over}
-use Rattle.tables.specs.Inside.{put_at}
+use Rattle.tables.specs.Inside.{put_at, Bits, answer_of}
 use Rattle.tables.proofs.Lists.{part, part_long, part_take}
 use Rattle.tables.proofs.Put.{put_zero, put_set, put_append, part_put, over_length}
 use Rattle.construction.specs.Shares.{shares_of}
+use Rattle.tables.proofs.Answers.{none_passed, writes_done}
+use Rattle.tables.proofs.Packing.{unpacked_length, tape_long_lem}
 use Rattle.construction.specs.Codes.{xor_all, encode}
+use Rattle.construction.specs.Says.{encode_fault, EncodeSays}
+use Rattle.construction.proofs.CodeFaults.{encode_passed}
 use Rattle.tables.proofs.Run.{bit_xor_lem}
-use Rattle.construction.proofs.Codes.{group}
+use Rattle.construction.proofs.Codes.{group, encode_length}
 
 -- a piece more at the front of a buffer
 over_append :
@@ -108,12 +115,15 @@ unfolding encode
 one_front o x from k us h = ap (group x) (sym (part_take (2 * o) from k us h))
 
 -- between two secrets: the shares of the first i are written
-module _ (o : ℕ) (xs us b₀ : List ℕ) (k i : ℕ) where
-  abbrev ts : List ℕ
-  ts = take k us
+module _ (o : ℕ) (xs tape b₀ : List ℕ) (i : ℕ) where
+  abbrev k : ℕ
+  k = 2 * o * length xs
+
+  abbrev us : List ℕ
+  us = unpacked tape
 
   abbrev so_far : List ℕ
-  so_far = encode o (take i xs) ts
+  so_far = encode o (take i xs) (tape_of k tape)
 
   abbrev at : ℕ
   at = shares_of o * i
@@ -121,50 +131,83 @@ module _ (o : ℕ) (xs us b₀ : List ℕ) (k i : ℕ) where
   abbrev one : List ℕ
   one = encode o (get_or xs i 0 ∷ []) (drop (2 * o * i) us)
 
-  module _ (h : i < length xs) (tape : k ≡ 2 * o * length xs) (fits : k ≤ length us) (room : shares_of o * length xs ≤ length b₀) where
+  module _ (h : i < length xs) (bits : k ≤ 8 * length tape) (room : shares_of o * length xs ≤ length b₀) where
     more : suc i ≤ length xs
     more = omega arith
 
-    pub bits_left : 2 * o * i + 2 * o ≤ k
+    bits_left : 2 * o * i + 2 * o ≤ k
     bits_left = omega (arith, mul-le-mul_left (2 * o) more)
 
-    pub room_left : at + shares_of o ≤ length b₀
+    room_left : at + shares_of o ≤ length b₀
     room_left = omega (arith, mul-le-mul_left (shares_of o) more)
-
-    front : length ts ≡ k
-    front = length-take-le k us fits
 
     before : length (take i xs) ≡ i
     before = length-take-le i xs (omega arith)
 
     so_far_long : at ≡ length so_far
     so_far_long =
-        let most : 2 * o * length (take i xs) ≤ length ts = rw before (omega (arith, bits_left, front)) in
-        rw (encode_long o (take i xs) ts most, before) refl
+        let most : 2 * o * length (take i xs) ≤ length (tape_of k tape) =
+        rw before (omega (arith, bits_left, tape_long_lem k tape bits)) in
+        rw (encode_long o (take i xs) (tape_of k tape) most, before) refl
 
     one_long : length one ≡ shares_of o
     one_long =
         let most : 2 * o * length (get_or xs i 0 ∷ []) ≤ length (drop (2 * o * i) us) =
-        omega (arith, bits_left, length-drop (2 * o * i) us) in
+        omega (arith, bits_left, bits, unpacked_length tape, length-drop (2 * o * i) us) in
         omega (arith, encode_long o (get_or xs i 0 ∷ []) (drop (2 * o * i) us) most)
 
     over_long : length (over so_far b₀) ≡ length b₀
     over_long = over_length so_far b₀ (omega (arith, so_far_long, room_left))
 
-    put_one : put_at at one (over so_far b₀) ≡ over (encode o (take (i + 1) xs) ts) b₀
+    put_one : put_at at one (over so_far b₀) ≡ over (encode o (take (i + 1) xs) (tape_of k tape)) b₀
+    unfolding tape_of
     put_one =
-        let same : one ≡ encode o (get_or xs i 0 ∷ []) (drop (2 * o * i) ts) =
+        let same : one ≡ encode o (get_or xs i 0 ∷ []) (drop (2 * o * i) (tape_of k tape)) =
         one_front o (get_or xs i 0) (2 * o * i) k us bits_left in
-        let next : encode o (take (i + 1) xs) ts ≡ so_far ++ one =
+        let next : encode o (take (i + 1) xs) (tape_of k tape) ≡ so_far ++ one =
         rw (add-one, take-suc xs i 0 h, same)
-        (encode_append o (take i xs) (get_or xs i 0 ∷ []) ts ∙ rw before refl) in
+        (encode_append o (take i xs) (get_or xs i 0 ∷ []) (tape_of k tape) ∙ rw before refl) in
         rw next (over_append so_far one b₀ so_far_long (omega (arith, one_long, room_left)))
 
-    -- the shares of one secret more, in a part that was lent, of n bytes
-    pub encoding_turn :
-        {n : ℕ} {b b' : List ℕ} → n ≡ shares_of o → b ≡ over so_far b₀ → b' ≡ over one (mid_of (n * i) (n * i + n - n * i) b)
-        → put_mid (n * i) (n * i + n - n * i) b b' ≡ over (encode o (take (i + 1) xs) ts) b₀
-    encoding_turn {n} {b} e done put =
-        let end : n * i + n ≤ length b = rw (e, done) (omega (arith, over_long, room_left)) in
-        let size : length one ≤ n * i + n - n * i = rw e (omega (arith, one_long)) in
-        part_put (n * i) (n * i + n) one b (omega arith) end size put ∙ rw (e, done) put_one
+    module _ {n : ℕ} {b : List ℕ} (e : n ≡ shares_of o) (done : b ≡ over so_far b₀) where
+      end : n * i + n ≤ length b
+      end = rw (e, done) (omega (arith, over_long, room_left))
+
+      -- what writing one secret's shares into a part that was lent, of n bytes, asks for
+      pub encoding_room :
+          (2 * o * i + 2 * o ≤ length us) × (2 * o * i + 2 * o ≤ length b) × (2 * o < length (mid_of (n * i) (n * i + n - n * i) b))
+      encoding_room = (
+        omega (arith, bits_left, bits, unpacked_length tape),
+        omega (arith, room_left, over_long, ap length done),
+        omega (arith, e, mid_len (n * i) (n * i + n) b end),
+      )
+
+      -- the part comes back with one secret's shares more
+      pub encoding_turn :
+          {b' : List ℕ} → b' ≡ over one (mid_of (n * i) (n * i + n - n * i) b)
+          → put_mid (n * i) (n * i + n - n * i) b b' ≡ over (encode o (take (i + 1) xs) (tape_of k tape)) b₀
+      encoding_turn put =
+          let size : length one ≤ n * i + n - n * i = rw e (omega (arith, one_long)) in
+          part_put (n * i) (n * i + n) one b (omega arith) end size put ∙ rw (e, done) put_one
+
+-- an encoding that nothing refuses: what writing asks for, and what the call then says
+pub encode_ready :
+    (o : ℕ) (xs ts : List ℕ) (room : ℕ) → encode_fault o xs ts room ≡ none
+    → (o ≤ 15) × (2 * o * length xs ≤ 8 * length ts) × (shares_of o * length xs ≤ room) × Bits xs
+encode_ready o xs ts room h =
+    let passes = encode_passed o xs ts room (none_passed h) in
+    (passes.order.1, omega (arith, passes.long), passes.fits, passes.secrets)
+
+pub encode_small : (o : ℕ) (xs ts : List ℕ) (room : ℕ) → encode_fault o xs ts room ≡ none → (2 * o + 1) * length xs < 65536
+encode_small o xs ts room h =
+    let passes = encode_passed o xs ts room (none_passed h) in omega (arith, passes.few)
+
+pub encode_writes :
+    (o : ℕ) (xs ts b : List ℕ) {b' : List ℕ} → encode_fault o xs ts (length b) ≡ none
+    → b' ≡ over (encode o xs (tape_of (2 * o * length xs) ts)) b
+    → EncodeSays o xs ts b b' (answer_of (Ok ((2 * o + 1) * length xs)))
+encode_writes o xs ts b h e =
+    let bits = tape_of (2 * o * length xs) ts in
+    let fits = (encode_ready o xs ts (length b) h).1 in
+    let long = encode_length o xs bits (tape_long_lem (2 * o * length xs) ts fits) in
+    writes_done (encode o xs bits) b h (omega (arith, long)) e

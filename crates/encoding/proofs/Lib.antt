@@ -1,3 +1,2 @@
 -- Laws that the proofs of encoding cite.
-mod Faults
-mod Encoding
+pub mod Encoding

@@ -4,40 +4,38 @@
 ghost use Rattle.std.specs.Prelude.{◌≡◌, [], ◌∷◌, ◌+◌, ◌*◌, ◌^◌, ◌≤◌, ◌<◌, length, drop};
 ghost use Rattle.tables.specs.Packing.{unpacked, tape_of};
 ghost use Rattle.tables.specs.Says.{over};
-ghost use Rattle.tables.specs.Inside.{Refused, Bits};
+ghost use Rattle.tables.specs.Inside.{Refused, Bits, answer_of};
 ghost use Rattle.construction.specs.Codes.{encode};
 ghost use Rattle.construction.specs.Shares.{shares_of};
 ghost use Rattle.construction.specs.Says.{encode_fault, EncodeSays};
 
+use tables::Refusal;
+
 // The refusal of encoding for a buffer of the given length: 6, 8, 10, 11, 9 in that order.
-fn encode_fault(order: u8, secrets: &[u8], tape: &[u8], room: usize) -> tables::Refusal
+#[tactic(auto, unfolding(construction::specs::Says::encode_fault))]
+fn encode_fault(order: u8, secrets: &[u8], tape: &[u8], room: usize) -> Result<(), Refusal>
     ensures { Refused (encode_fault order secrets.now tape.now room) result }
 {
-    let found = orders::order_fault(order);
-    if found.number != 0 {
-        return found;
-    }
-    let count = secrets.len();
-    if count > 65535 {
-        return answers::refuse(8, 0);
-    }
+    orders::order_fault(order)?;
     let bits = 2 * order as usize;
-    let shares = (bits + 1) * count;
-    if shares > 65535 {
-        return answers::refuse(8, 0);
+    let count = secrets.len();
+    if count > 65535 || (bits + 1) * count > 65535 {
+        return Err(Refusal::TooLarge);
     }
     let due = bits * count;
     if tape.len() != bits::bytes_for(due) {
-        return answers::refuse(10, 0);
+        return Err(Refusal::Counts);
     }
-    let bad = answers::first_of(
-        bits::bits_fault(secrets, 0),
-        bits::spare_fault(tape, due, count),
-    );
-    answers::first_of(bad, answers::refuse_if(room < shares, 9))
+    bits::bits_fault(secrets, 0)?;
+    bits::spare_fault(tape, due, count)?;
+    if room < (bits + 1) * count {
+        return Err(Refusal::NoRoom);
+    }
+    Ok(())
 }
 
 // Writes the shares of one secret: 2t tape bits from a place on, and their XOR with the secret.
+#[tactic(auto, using(crate::proofs::Encoding::copying_end), unfolding(construction::specs::Codes::xor_all))]
 fn encode_one(order: usize, secret: u8, tape: &[u8], from: usize, out: &mut [u8])
     requires { (from + 2 * order ≤ length (unpacked tape.now))
         × (from + 2 * order < 2 ^ 64)
@@ -58,6 +56,7 @@ fn encode_one(order: usize, secret: u8, tape: &[u8], from: usize, out: &mut [u8]
 }
 
 // Writes the shares of every secret, one secret's after another's, with the first bits of the tape.
+#[tactic(auto, unfolding(construction::specs::Codes::encode))]
 pub fn encode_all(order: usize, secrets: &[u8], tape: &[u8], out: &mut [u8])
     requires { (order ≤ 15)
         × (2 * order * length secrets.now ≤ 8 * length tape.now)
@@ -77,15 +76,18 @@ pub fn encode_all(order: usize, secrets: &[u8], tape: &[u8], out: &mut [u8])
 }
 
 // Encodes secrets with 2t tape bits each, packed: n share bits a secret.
-pub fn encode_secrets(order: u8, secrets: &[u8], tape: &[u8], out: &mut [u8]) -> tables::Answer
+#[tactic(auto, using(crate::proofs::Encoding::encode_ready, crate::proofs::Encoding::encode_small, crate::proofs::Encoding::encode_writes))]
+pub fn encode_secrets(
+    order: u8,
+    secrets: &[u8],
+    tape: &[u8],
+    out: &mut [u8],
+) -> Result<u32, Refusal>
     ensures { EncodeSays
-        order secrets.now tape.now out.old out.new result }
+        order secrets.now tape.now out.old out.new (answer_of result) }
 {
-    let found = encode_fault(order, secrets, tape, out.len());
-    if found.number != 0 {
-        return answers::refused(found);
-    }
+    encode_fault(order, secrets, tape, out.len())?;
     let t = order as usize;
     encode_all(t, secrets, tape, out);
-    answers::done(found, ((2 * t + 1) * secrets.len()) as u32)
+    Ok(((2 * t + 1) * secrets.len()) as u32)
 }

