@@ -2,16 +2,18 @@
 -- Assumes nothing.
 use mathlib.Core.Path.{◌≡◌, refl, sym, ap, ◌∙◌, subst}
 use mathlib.Core.Bool.{Bool, true, false}
-use mathlib.Core.List.{List, [], ◌∷◌, ◌++◌, append_assoc, append-nil}
-use Prim.Native.Nat.{ℕ, zero, suc, ◌+◌, ◌-◌, ◌*◌, ◌/◌, ◌%◌, ◌^◌, ◌≤◌, ◌<◌}
-use native.Mathlib.Nat.{pow-succ', zero-add}
+use mathlib.Core.List.{List, [], ◌∷◌, ◌++◌}
+use Prim.Native.Nat.{ℕ, zero, suc, ◌+◌, ◌/◌, ◌%◌, ◌^◌, ◌≤◌, ◌<◌}
+use native.Mathlib.Nat.{zero-add}
 use native.Mathlib.Omega.{arith}
-use borrow.Author.Tests.{lt-ltb, le-ltb, ltb-false}
+use borrow.Author.Tests.{lt-ltb, le-ltb}
 use lib.Dec.{ltb}
-use lib.ListN.{length, take, drop, set, length-append, length-set, length-drop}
-use lib.Seq.{drop-cons, drop-set-lt, get_or-set_same, take_all, take_at, drop-length}
+use lib.ListN.{length, take, drop, length-append}
+use lib.Seq.{take_at}
+use Rattle.std.specs.Fmt as Fmt
+use Rattle.std.proofs.lemmas.Fmt.{AppendsLastDigit, decimal_from_appends, length-decimal-le}
 use Rattle.tables.proofs.Put.{put_length, put_zero, put_append}
-use Rattle.text.specs.Text.{digits, decimal, line_of, refusal_line, Spelled, Puts, PutsAll}
+use Rattle.text.specs.Text.{digits, decimal, line_of, refusal_line, Puts, PutsAll}
 
 digits_long : (c v : ℕ) → length (digits c v) ≤ c
 unfolding digits
@@ -22,79 +24,17 @@ digits_long (suc c) v = go (ltb v 10) refl (digits_long c (v / 10))
     go true e h = rw (e, digits) (omega arith)
     go false e h = rw (e, digits) (omega (arith, h, length-append (digits c (v / 10)) ((48 + v % 10) ∷ [])))
 
--- a number below a power of ten has no more digits than that power
-pub digits_few : (c k v : ℕ) → v < 10 ^ suc k → length (digits c v) ≤ suc k
+-- the last digit stands after the others
+appends : AppendsLastDigit digits
 unfolding digits
-digits_few zero k v h = omega arith
-digits_few (suc c) zero v h = go (ltb v 10) refl
-  where
-    go : (t : Bool) → ltb v 10 ≡ t → length (digits (suc c) v) ≤ 1
-    go true e = rw (e, digits) (omega arith)
-    go false e = absurd (omega (arith, h, ltb-false v 10 e))
-digits_few (suc c) (suc k) v h = go (ltb v 10) refl (digits_few c k (v / 10) (omega (arith, h, pow-succ' 10 (suc k))))
-  where
-    go : (t : Bool) → ltb v 10 ≡ t → length (digits c (v / 10)) ≤ suc k → length (digits (suc c) v) ≤ suc (suc k)
-    go true e i = rw (e, digits) (omega arith)
-    go false e i = rw (e, digits) (omega (arith, i, length-append (digits c (v / 10)) ((48 + v % 10) ∷ [])))
+appends = record { one = λ k n h. rw (lt-ltb n 10 h, digits); more = λ k n h. rw (le-ltb n 10 h, digits) }
 
-digits_more : (c v : ℕ) → 9 < v → digits (suc c) v ≡ digits c (v / 10) ++ ((48 + v % 10) ∷ [])
-unfolding digits
-digits_more c v h = rw (le-ltb v 10 h, digits)
+-- the library's digits are these
+pub decimal_is : (v : ℕ) → v < 2 ^ 32 → decimal v ≡ Fmt.decimal v
+decimal_is v h = decimal_from_appends digits appends 10 v (omega arith) (length-decimal-le 10 v (omega arith) (omega arith) (omega arith))
 
-digits_last : (c v : ℕ) → v ≤ 9 → digits (suc c) v ≡ (48 + v) ∷ []
-unfolding digits
-digits_last c v h = rw (lt-ltb v 10 (omega arith), digits)
-
--- a store, and what stands from there on
-set_front : (b : List ℕ) (i d : ℕ) → i < length b → drop i (set b i d) ≡ d ∷ drop (suc i) b
-set_front b i d h =
-    drop-cons (set b i d) i 0 (rw length-set h) ∙ rw (get_or-set_same b i d 0 h, drop-set-lt (suc i) b i d (omega arith))
-
--- the digits of v: those of rest are left, for the places up to i
-pub record Spelling (v : ℕ) (b : List ℕ) (rest i : ℕ) : Type 0 where
-  pub long : length b ≡ 10
-  pub within : i ≤ 9
-  pub small : rest < 10 ^ suc i
-  pub left : digits (suc i) rest ++ drop (suc i) b ≡ decimal v
-
-pub spelling_start : (v : ℕ) (b : List ℕ) → length b ≡ 10 → v < 10 ^ 10 → Spelling v b v 9
-spelling_start v b e h =
-    let past : drop 10 b ≡ [] = subst (λ (m : ℕ). drop m b ≡ []) e (drop-length b) in
-    record { long = e; within = omega arith; small = h; left = rw (past, append-nil) }
-
-module _ {v : ℕ} {b : List ℕ} {rest i : ℕ} (S : Spelling v b rest i) where
-  pub spelling_place : 9 < rest → 1 ≤ i
-  spelling_place h = go i S.small
-    where
-      go : (i : ℕ) → rest < 10 ^ suc i → 1 ≤ i
-      go zero k = omega arith
-      go (suc i) k = omega arith
-
-  pub spelling_turn : 9 < rest → Spelling v (set b i (48 + rest % 10)) (rest / 10) (i - 1)
-  spelling_turn h =
-      let e : suc (i - 1) ≡ i = omega (arith, spelling_place h) in
-      let d = 48 + rest % 10 in
-      let inside : i < length b = omega (arith, S.long, S.within) in
-      let power : 10 ^ suc i ≡ 10 * 10 ^ i = pow-succ' 10 i in
-      record {
-        long = length-set b i _ ∙ S.long;
-        within = omega (arith, S.within);
-        small = rw e (omega (arith, S.small, power));
-        left = rw (e, set_front b i d inside)
-            (sym (append_assoc (digits i (rest / 10)) (d ∷ []) (drop (suc i) b))
-            ∙ ap (λ (l : List ℕ). l ++ drop (suc i) b) (sym (digits_more i rest h))
-            ∙ S.left);
-      }
-
-  pub spelling_end : rest ≤ 9 → Spelled v (set b i (48 + rest)) i
-  spelling_end h =
-      record {
-        long = length-set b i _ ∙ S.long;
-        within = S.within;
-        digits = set_front b i (48 + rest) (omega (arith, S.long, S.within))
-            ∙ ap (λ (l : List ℕ). l ++ drop (suc i) b) (sym (digits_last i rest h))
-            ∙ S.left;
-      }
+pub formatted : (v : ℕ) {text bytes : List ℕ} → text ≡ Fmt.decimal v → bytes ≡ text → v < 2 ^ 32 → bytes ≡ decimal v
+formatted v e f h = f ∙ e ∙ sym (decimal_is v h)
 
 -- the same bytes
 pub puts_as : {at m : ℕ} {xs ys b c : List ℕ} → xs ≡ ys → Puts at xs b c m → Puts at ys b c m
@@ -116,11 +56,6 @@ module _ {at m : ℕ} {xs b c : List ℕ} (ys : List ℕ) (room : at + length (x
         bytes = Q.bytes ∙ rw (P.next, P.bytes) (put_append at xs ys b first_room);
         next = omega (arith, Q.next, P.next, length-append xs ys);
       }
-
--- the part of the buffer from where the digits begin
-pub spelled_digits : {v r : ℕ} {ds : List ℕ} → Spelled v ds r → take (10 - r) (drop r ds) ≡ decimal v
-spelled_digits {r = r} {ds = ds} S =
-    take_all (10 - r) (drop r ds) (omega (arith, length-drop r ds, S.long)) ∙ S.digits
 
 -- all of xs, or nothing
 pub all_short : (xs b : List ℕ) → length b < length xs → PutsAll xs b b 0

@@ -1,7 +1,7 @@
 -- Text as bytes of ASCII: numbers in decimal, lines of words parted by single spaces, and the line of a refusal (document 01,
 -- "The forecast program": "`refused`, number, place"); and what putting text into a lent buffer promises.
 -- Assumes nothing.
-use Rattle.std.specs.Prelude.{◌≡◌, true, false, cond, List, [], ◌∷◌, ◌++◌, ℕ, zero, suc, ◌+◌, ◌/◌, ◌%◌, ◌≤◌, ltb, length, drop}
+use Rattle.std.specs.Prelude.{◌≡◌, true, false, cond, List, [], ◌∷◌, ◌++◌, ℕ, zero, suc, ◌+◌, ◌/◌, ◌%◌, ltb, length}
 use Rattle.tables.specs.Says.{over}
 use Rattle.tables.specs.Inside.{put_at}
 
@@ -27,12 +27,6 @@ refused_word = 114 ∷ 101 ∷ 102 ∷ 117 ∷ 115 ∷ 101 ∷ 100 ∷ []
 -- "`refused`, number, place"
 abbrev pub refusal_line : ℕ → ℕ → List ℕ
 refusal_line n p = line_of refused_word (decimal n ∷ decimal p ∷ [])
-
--- for the contract of a private function: the digits of v end a buffer of ten bytes, and begin at r
-pub record Spelled (v : ℕ) (b : List ℕ) (r : ℕ) : Type 0 where
-  pub long : length b ≡ 10
-  pub within : r ≤ 9
-  pub digits : drop r b ≡ decimal v
 
 -- xs stands at a place of the lent bytes, which else are as they were, and r is the next place
 pub record Puts (at : ℕ) (xs b b' : List ℕ) (r : ℕ) : Type 0 where

@@ -2,23 +2,7 @@
 #![tactic(auto)]
 
 ghost use Rattle.std.specs.Prelude.{◌≡◌, [], ◌∷◌, ◌++◌, ◌+◌, ◌≤◌, length};
-ghost use Rattle.text.specs.Text.{decimal, refusal_line, Spelled, Puts, PutsAll};
-
-// Puts a number's digits at the end of a buffer, and answers where they begin.
-fn spell(digits: &mut [u8], v: u32) -> usize
-    requires { length digits.old ≡ 10 }
-    ensures { Spelled v digits.new result }
-{
-    let mut rest = v;
-    let mut i = 9;
-    while rest > 9 {
-        digits[i] = 48 + (rest % 10) as u8;
-        rest /= 10;
-        i -= 1;
-    }
-    digits[i] = 48 + rest as u8;
-    i
-}
+ghost use Rattle.text.specs.Text.{decimal, refusal_line, Puts, PutsAll};
 
 // Puts bytes at a place, and answers the next place.
 pub fn put_bytes(out: &mut [u8], at: usize, src: &[u8]) -> usize
@@ -34,10 +18,9 @@ pub fn put_number(out: &mut [u8], at: usize, before: &[u8], v: u32) -> usize
     requires { at + length (before.now ++ decimal v) ≤ length out.old }
     ensures { Puts at (before.now ++ decimal v) out.old out.new result }
 {
-    let mut digits = [48u8; 10];
-    let first = spell(&mut digits, v);
     let next = put_bytes(out, at, before);
-    put_bytes(out, next, &digits[first..])
+    let mut digits = itoa::Buffer::new();
+    put_bytes(out, next, digits.format(v).as_bytes())
 }
 
 // Puts bytes and the number that ends their line, and answers the next place.
@@ -60,6 +43,7 @@ pub fn put_two(out: &mut [u8], at: usize, first: &[u8], x: u32, second: &[u8], y
 }
 
 // Puts the line of a refusal, and answers its length.
+#[tactic(auto, unfolding(crate::specs::Text::line_of))]
 pub fn put_refusal(out: &mut [u8], number: u32, place: u32) -> usize
     requires { length (refusal_line number place) ≤ length out.old }
     ensures { Puts 0 (refusal_line number place) out.old out.new result }
@@ -68,6 +52,7 @@ pub fn put_refusal(out: &mut [u8], number: u32, place: u32) -> usize
 }
 
 // Puts all of the bytes at the front and answers how many; where they do not fit, puts nothing and answers 0.
+// No Option: 0 where a text does not fit is what the calls promise that end with this (`forecast_line`, `sizes_line`, `list_table`).
 pub fn put_all(out: &mut [u8], src: &[u8]) -> usize
     ensures { PutsAll src.now out.old out.new result }
 {
