@@ -1,70 +1,25 @@
 -- The lines of a table: what each is in the table's bytes, and how long: at most 13 bytes the first, 27 a gate's and 18 an output's.
 -- Assumes nothing.
 use mathlib.Core.Path.{◌≡◌, refl, ap}
-use mathlib.Core.Bool.{true}
 use mathlib.Core.List.{List, [], ◌∷◌, ◌++◌}
-use Prim.Native.Nat.{ℕ, zero, suc, ◌+◌, ◌≤◌, ◌<◌}
+use Prim.Native.Nat.{ℕ, suc, ◌+◌, ◌≤◌, ◌<◌}
 use native.Mathlib.Omega.{arith}
 use lib.ListN.{length, length-append}
-use Rattle.tables.specs.Tables.{Kind, NOT, XOR, AND, RANDOM, CONSTANT, OR, UNKNOWN, kind_of, Gate, wires, word}
-use Rattle.tables.specs.Tables.{known, table_of}
+use Rattle.tables.specs.Tables.{Kind, NOT, XOR, AND, RANDOM, CONSTANT, OR, UNKNOWN, Gate, wires, word}
+use Rattle.tables.specs.Tables.{table_of}
 use Rattle.tables.proofs.Lists.{All, all_map, all_append, all_get_d}
 use Rattle.tables.proofs.Run.{Reads, Earlier}
 use Rattle.tables.proofs.Accept.{Accepted, accepted, gates_of_length, outputs_of_length, outputs_passed}
 use Rattle.tables.proofs.Format.{passed_sound_gates, sound_earlier}
 use Rattle.text.specs.Text.{decimal, line_of}
-use Rattle.text.proofs.Writing.{digits_few}
+use Rattle.std.proofs.lemmas.Fmt.{length-decimal-le}
+use Rattle.text.proofs.Writing.{decimal_is}
 use Rattle.list_lines.specs.Lines.{equals_word, kind_words, inputs_line, gate_lines, output_lines, table_lines}
 use Rattle.list_lines.specs.Listed.{Listed, line_at}
 
--- what stands after a gate's wire, by its kind's byte
-module _ (k l r : ℕ) where
-  abbrev kind_line : List ℕ
-  kind_line = 32 ∷ line_of equals_word (kind_words (kind_of k) l r)
-
-  pub not_line : k ≡ 0 → 32 ∷ 61 ∷ 32 ∷ 78 ∷ 79 ∷ 84 ∷ 32 ∷ 119 ∷ (decimal l ++ (10 ∷ [])) ≡ kind_line
-  unfolding line_of
-  not_line e = rw e refl
-
-  pub xor_line_lem :
-      k ≡ 1 → 32 ∷ 61 ∷ 32 ∷ 88 ∷ 79 ∷ 82 ∷ 32 ∷ 119 ∷ (decimal l ++ (32 ∷ 119 ∷ (decimal r ++ (10 ∷ [])))) ≡ kind_line
-  unfolding line_of
-  xor_line_lem e = rw e refl
-
-  pub and_line_lem :
-      k ≡ 2 → 32 ∷ 61 ∷ 32 ∷ 65 ∷ 78 ∷ 68 ∷ 32 ∷ 119 ∷ (decimal l ++ (32 ∷ 119 ∷ (decimal r ++ (10 ∷ [])))) ≡ kind_line
-  unfolding line_of
-  and_line_lem e = rw e refl
-
-  pub random_line_lem : k ≡ 3 → 32 ∷ 61 ∷ 32 ∷ 82 ∷ 65 ∷ 78 ∷ 68 ∷ 79 ∷ 77 ∷ 10 ∷ [] ≡ kind_line
-  unfolding line_of
-  random_line_lem e = rw e refl
-
-  pub constant_line_lem :
-      k ≡ 4
-      → 32 ∷ 61 ∷ 32 ∷ 67 ∷ 79 ∷ 78 ∷ 83 ∷ 84 ∷ 65 ∷ 78 ∷ 84 ∷ 32 ∷ (decimal l ++ (10 ∷ [])) ≡ kind_line
-  unfolding line_of
-  constant_line_lem e = rw e refl
-
-  -- a kind that is none of the first five is OR
-  pub or_line_lem :
-      known (kind_of k) ≡ true → (k ≡ 0 → ⊥) → (k ≡ 1 → ⊥) → (k ≡ 2 → ⊥) → (k ≡ 3 → ⊥) → (k ≡ 4 → ⊥)
-      → 32 ∷ 61 ∷ 32 ∷ 79 ∷ 82 ∷ 32 ∷ 119 ∷ (decimal l ++ (32 ∷ 119 ∷ (decimal r ++ (10 ∷ [])))) ≡ kind_line
-  unfolding line_of
-  or_line_lem h a b c d e = rw (other k h (omega arith)) refl
-    where
-      other : (k : ℕ) → known (kind_of k) ≡ true → 5 ≤ k → kind_of k ≡ OR
-      other zero h few = absurd (omega arith)
-      other (suc zero) h few = absurd (omega arith)
-      other (suc (suc zero)) h few = absurd (omega arith)
-      other (suc (suc (suc zero))) h few = absurd (omega arith)
-      other (suc (suc (suc (suc zero)))) h few = absurd (omega arith)
-      other (suc (suc (suc (suc (suc zero))))) h few = refl
-      other (suc (suc (suc (suc (suc (suc k)))))) h few = cc
-
 -- a number of 16 bits and what follows it
 five : (v : ℕ) (ys : List ℕ) → v < 65536 → length (decimal v ++ ys) ≤ 5 + length ys
-five v ys h = omega (arith, length-append (decimal v) ys, digits_few 10 4 v (omega arith))
+five v ys h = omega (arith, length-append (decimal v) ys, ap length (decimal_is v (omega arith)), length-decimal-le 5 v (omega arith) (omega arith) (omega arith))
 
 two_short : (x y : ℕ) → x < 65536 → y < 65536 → length (decimal x ++ (32 ∷ 119 ∷ (decimal y ++ (10 ∷ [])))) ≤ 13
 two_short x y h i = omega (arith, five x (32 ∷ 119 ∷ (decimal y ++ (10 ∷ []))) h, five y (10 ∷ []) i)

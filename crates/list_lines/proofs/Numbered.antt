@@ -8,13 +8,13 @@ use native.Mathlib.Nat.{add-zero}
 use native.Mathlib.Omega.{arith}
 use lib.ListN.{length, get_or, get_or-append}
 use lib.Seq.{get_or-append-add}
-use Rattle.tables.specs.Tables.{Gate, gate, no_gate, gate_of, word, kind_of, known, table_of}
+use Rattle.tables.specs.Tables.{Gate, no_gate, gate_of, word, kind_of, known, table_of}
 use Rattle.tables.specs.declared.GateFields as DGateFields
 use Rattle.tables.specs.Inside.{GateIs}
 use Rattle.tables.proofs.Accept.{inputs_of, gates_of_length, outputs_of_length}
 use Rattle.tables.proofs.Format.{SoundGates, passed_sound_gates}
 use Rattle.list_lines.specs.Lines.{inputs_line, gate_line, output_line, gate_lines, output_lines, table_lines}
-use Rattle.list_lines.specs.Listed.{Listed, line_at}
+use Rattle.list_lines.specs.Listed.{Listed, line_at, stated}
 use Rattle.list_lines.proofs.Lines.{gate_lines_length, lines_length}
 
 -- a gate's line, an output's line
@@ -48,7 +48,7 @@ module _ (s : List ℕ) (H : Listed s) (j : ℕ) {n : ℕ} (en : n ≡ word s 2)
 
   pub gate_line_lem :
       {i : ℕ} {x : DGateFields.GateFields} → j < n → i ≡ word s 0 → GateIs (gate_of (table_of s) j) x
-      → gate_line (i + j) (gate (kind_of x.kind) x.left x.right) ≡ line_at s (suc j)
+      → gate_line (i + j) (stated x) ≡ line_at s (suc j)
   gate_line_lem h ei G =
       let t = table_of s in
       let within : j < length t.gates = omega (arith, gates_of_length s) in

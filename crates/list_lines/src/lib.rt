@@ -2,49 +2,48 @@
 #![tactic(auto)]
 
 ghost use Rattle.std.specs.Prelude.{◌≡◌, true, ◌∷◌, suc, ◌+◌, ◌≤◌, ◌<◌, length};
-ghost use Rattle.tables.specs.Tables.{kind_of, gate, known, table_of};
+ghost use Rattle.tables.specs.Tables.{kind_of, known, table_of};
+ghost use Rattle.tables.specs.Kinds.{kind_is};
 ghost use Rattle.text.specs.Text.{line_of, Puts};
 ghost use Rattle.list_lines.specs.Lines.{equals_word, kind_words, gate_line, output_line, table_lines};
-ghost use Rattle.list_lines.specs.Listed.{Listed, line_at};
+ghost use Rattle.list_lines.specs.Listed.{Listed, line_at, stated};
+
+use tables::Kind;
 
 // Puts what a gate's line has after its wire, and answers the next place.
-fn put_kind(out: &mut [u8], at: usize, kind: u8, left: u32, right: u32) -> usize
-    requires { (known (kind_of kind) ≡ true)
-        × (at + length (32 ∷ line_of equals_word (kind_words (kind_of kind) left right)) ≤ length out.old) }
-    ensures { Puts at (32 ∷ line_of equals_word (kind_words (kind_of kind) left right)) out.old out.new result }
+#[tactic(auto, unfolding(text::specs::Text::line_of))]
+fn put_kind(out: &mut [u8], at: usize, kind: Kind, left: u32, right: u32) -> usize
+    requires { at + length (32 ∷ line_of equals_word (kind_words (kind_is kind) left right)) ≤ length out.old }
+    ensures { Puts at (32 ∷ line_of equals_word (kind_words (kind_is kind) left right)) out.old out.new result }
 {
     match kind {
-        0 => {
-            return text::put_last(out, at, b" = NOT w", left);
-        }
-        1 => {
-            return text::put_two(out, at, b" = XOR w", left, b" w", right);
-        }
-        2 => {
-            return text::put_two(out, at, b" = AND w", left, b" w", right);
-        }
-        3 => {
-            return text::put_bytes(out, at, b" = RANDOM\n");
-        }
-        4 => {
-            return text::put_last(out, at, b" = CONSTANT ", left);
-        }
-        _ => {
-            return text::put_two(out, at, b" = OR w", left, b" w", right);
-        }
+        Kind::Not => text::put_last(out, at, b" = NOT w", left),
+        Kind::Xor => text::put_two(out, at, b" = XOR w", left, b" w", right),
+        Kind::And => text::put_two(out, at, b" = AND w", left, b" w", right),
+        Kind::Random => text::put_bytes(out, at, b" = RANDOM\n"),
+        Kind::Constant => text::put_last(out, at, b" = CONSTANT ", left),
+        Kind::Or => text::put_two(out, at, b" = OR w", left, b" w", right),
     }
 }
 
 // Puts the line of a gate, and answers the next place.
-fn put_gate(out: &mut [u8], at: usize, wire: u32, kind: u8, left: u32, right: u32) -> usize
-    requires { (known (kind_of kind) ≡ true) × (at + length (gate_line wire (gate (kind_of kind) left right)) ≤ length out.old) }
-    ensures { Puts at (gate_line wire (gate (kind_of kind) left right)) out.old out.new result }
+fn put_gate(out: &mut [u8], at: usize, wire: u32, gate: tables::GateFields) -> usize
+    requires { (known (kind_of gate.kind) ≡ true) × (gate.left < 65536) × (gate.right < 65536)
+        × (at + length (gate_line wire (stated gate)) ≤ length out.old) }
+    ensures { Puts at (gate_line wire (stated gate)) out.old out.new result }
 {
     let next = text::put_number(out, at, b"w", wire);
-    put_kind(out, next, kind, left, right)
+    put_kind(
+        out,
+        next,
+        gate.known_kind(),
+        gate.left as u32,
+        gate.right as u32,
+    )
 }
 
 // Puts the line of an output, and answers the next place.
+#[tactic(auto, unfolding(text::specs::Text::line_of))]
 fn put_output(out: &mut [u8], at: usize, position: u32, wire: u32) -> usize
     requires { at + length (output_line position wire) ≤ length out.old }
     ensures { Puts at (output_line position wire) out.old out.new result }
@@ -52,41 +51,68 @@ fn put_output(out: &mut [u8], at: usize, position: u32, wire: u32) -> usize
     text::put_two(out, at, b"out", position, b" = w", wire)
 }
 
-// Puts line number j after the first of a table, a gate's or after the gates an output's, and answers the next place.
-fn put_part(out: &mut [u8], at: usize, table: &[u8], j: usize) -> usize
-    requires { Listed table.now × (suc j < length (table_lines (table_of table.now)))
-        × (at + length (line_at table.now (suc j)) ≤ length out.old) }
-    ensures { Puts at (line_at table.now (suc j)) out.old out.new result }
-{
-    let gates = fields::field(table, 2);
-    if j < gates {
-        let wire = fields::field(table, 0) + j;
-        let x = fields::gate_at(table, gates, j);
-        return put_gate(out, at, wire as u32, x.kind, x.left as u32, x.right as u32);
-    }
-    let outputs = fields::field(table, 4);
-    let wire = fields::output_at(table, gates, outputs, j - gates);
-    put_output(out, at, (j - gates) as u32, wire as u32)
+// The lines of a table, of which the first states the inputs.
+#[derive(Clone, Copy)]
+pub struct TableLines<'a> {
+    pub table: &'a [u8],
+    ghost listed: { Listed table.now },
 }
 
-// Puts line number j of a table, of which the first states the inputs, and answers the next place.
-pub fn put_line(out: &mut [u8], at: usize, table: &[u8], j: usize) -> usize
-    requires { Listed table.now × (j < length (table_lines (table_of table.now)))
-        × (at + length (line_at table.now j) ≤ length out.old) }
-    ensures { Puts at (line_at table.now j) out.old out.new result }
-{
-    if j == 0 {
-        let inputs = fields::field(table, 0);
-        return text::put_last(out, at, b"inputs ", inputs as u32);
+impl<'a> TableLines<'a> {
+    // How many there are.
+    #[tactic(auto, using(tables::proofs::Accept::accepted_long, crate::proofs::Lines::lines_length))]
+    pub fn count(&self) -> usize
+        ensures { result ≡ length (table_lines (table_of self.now.table.now)) }
+    {
+        1 + fields::field(self.table, 2) + fields::field(self.table, 4)
     }
-    put_part(out, at, table, j - 1)
-}
 
-// How long line number j of a table is.
-pub fn line_long(table: &[u8], j: usize) -> usize
-    requires { Listed table.now × (j < length (table_lines (table_of table.now))) }
-    ensures { result ≡ length (line_at table.now j) }
-{
-    let mut line = [0u8; 32];
-    put_line(&mut line, 0, table, j)
+    // Puts line number j after the first, a gate's or after the gates an output's, and answers the next place.
+    #[tactic(auto, using(tables::proofs::Accept::accepted_long, crate::proofs::Numbered::line_output))]
+    fn put_part(&self, out: &mut [u8], at: usize, j: usize) -> usize
+        requires { (suc j < length (table_lines (table_of self.now.table.now)))
+            × (at + length (line_at self.now.table.now (suc j)) ≤ length out.old) }
+        ensures { Puts at (line_at self.now.table.now (suc j)) out.old out.new result }
+    {
+        let count = fields::field(self.table, 2);
+        if j < count {
+            let gates = fields::Gates {
+                table: self.table,
+                count,
+            };
+            let wire = fields::field(self.table, 0) + j;
+            return put_gate(out, at, wire as u32, gates.at(j));
+        }
+        let outputs = fields::Outputs {
+            table: self.table,
+            gates: count,
+            count: fields::field(self.table, 4),
+        };
+        let position = j - count;
+        put_output(out, at, position as u32, outputs.at(position) as u32)
+    }
+
+    // Puts line number j, and answers the next place.
+    #[tactic(auto, using(tables::proofs::Accept::accepted_long))]
+    pub fn put(&self, out: &mut [u8], at: usize, j: usize) -> usize
+        requires { (j < length (table_lines (table_of self.now.table.now)))
+            × (at + length (line_at self.now.table.now j) ≤ length out.old) }
+        ensures { Puts at (line_at self.now.table.now j) out.old out.new result }
+    {
+        if j == 0 {
+            let inputs = fields::field(self.table, 0);
+            return text::put_last(out, at, b"inputs ", inputs as u32);
+        }
+        self.put_part(out, at, j - 1)
+    }
+
+    // How long line number j is.
+    #[tactic(auto, using(crate::proofs::Lines::line_short))]
+    pub fn long(&self, j: usize) -> usize
+        requires { j < length (table_lines (table_of self.now.table.now)) }
+        ensures { result ≡ length (line_at self.now.table.now j) }
+    {
+        let mut line = [0u8; 32];
+        self.put(&mut line, 0, j)
+    }
 }

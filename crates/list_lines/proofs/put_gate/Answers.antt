@@ -12,23 +12,20 @@ use Rattle.list_lines.proofs.put_gate.Goals as goal
 pub put_number-next-requires : goal.put_number-next-requires
 unfolding line_of
 put_number-next-requires c =
-    omega (
-      arith,
-      c.requires.1,
-      length-append (decimal c.args.wire)
-          (32 ∷ line_of equals_word (kind_words (kind_of c.args.kind) c.args.left c.args.right)),
-    )
+    let g = c.args.gate in
+    let rest = 32 ∷ line_of equals_word (kind_words (kind_of g.kind) g.left g.right) in
+    omega (arith, c.requires.3, length-append (decimal c.args.wire) rest)
 
 pub put_kind-requires : goal.put_kind-requires
 unfolding line_of
-put_kind-requires c = (
-  c.requires.0,
-  next_room (32 ∷ line_of equals_word (kind_words (kind_of c.args.kind) c.args.left c.args.right))
-      c.requires.1 c.put_number-next.ensures,
-)
+put_kind-requires c =
+    let g = c.args.gate in
+    let rest = 32 ∷ line_of equals_word (kind_words (kind_of g.kind) g.left g.right) in
+    rw c.known_kind.ensures (next_room rest c.requires.3 c.put_number-next.ensures)
 
 pub returns : goal.returns
 unfolding line_of
 returns c =
-    puts_then (32 ∷ line_of equals_word (kind_words (kind_of c.args.kind) c.args.left c.args.right)) c.requires.1
-    c.put_number-next.ensures c.put_kind.ensures
+    let g = c.args.gate in
+    let rest = 32 ∷ line_of equals_word (kind_words (kind_of g.kind) g.left g.right) in
+    puts_then rest c.requires.3 c.put_number-next.ensures (rw c.known_kind.ensures at c.put_kind.ensures)
