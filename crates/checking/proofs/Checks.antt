@@ -3,33 +3,51 @@
 use mathlib.Core.Path.{◌≡◌, refl, ◌∙◌}
 use mathlib.Core.Bool.{true, false}
 use mathlib.Core.List.{List}
-use Prim.Native.Nat.{ℕ, suc, ◌+◌, ◌≤◌, ◌<◌}
+use Prim.Native.Nat.{ℕ, ◌+◌, ◌≤◌, ◌<◌}
+use native.Mathlib.Numerals.{add-one}
+use native.Mathlib.Omega.{arith}
 use lib.ListN.{length, get_or, drop, drop_of_length-le}
 use lib.Seq.{drop-cons}
 use borrow.Author.Tests.{lt-ltb, le-ltb, eq-eqb, ne_eqb}
+use Rattle.std.specs.Prelude.{Ok, Err}
+use Rattle.tables.specs.declared.Refusal as DRefusal
 use Rattle.tables.specs.Refusals.{fault, none, or_else}
-use Rattle.tables.specs.Tables.{Table, word, table_of, table_long, gates_fault, outputs_fault, sizes_bad, table_fault}
+use Rattle.tables.specs.Refusing.{fault_of}
+use Rattle.tables.specs.Tables.{word, table_of, table_long, gates_fault, outputs_fault, sizes_bad, table_fault}
+use Rattle.tables.specs.Says.{CheckSays}
+use Rattle.tables.specs.Inside.{HasOutputs, answer_of}
+use Rattle.tables.proofs.Accept.{outputs_are, accepted_long, wires_of}
+use Rattle.tables.proofs.Answers.{none_passed, answered_refused, answered_done}
 
 -- the outputs before o are wires: the others answer
-pub record OutputsGood (t : Table) (w o : ℕ) : Type 0 where
-  pub others : outputs_fault 0 w t.outputs ≡ outputs_fault o w (drop o t.outputs)
+pub record OutputsGood (s : List ℕ) (w o : ℕ) : Type 0 where
+  pub others : outputs_fault 0 w (table_of s).outputs ≡ outputs_fault o w (drop o (table_of s).outputs)
 
-pub outputs_good_start : (t : Table) (w : ℕ) → OutputsGood t w 0
-outputs_good_start t w = record { others = refl }
+pub outputs_good_start : (s : List ℕ) (w : ℕ) → OutputsGood s w 0
+outputs_good_start s w = record { others = refl }
 
-module _ {t : Table} {w o v : ℕ} (good : OutputsGood t w o) (more : o < length t.outputs) (is : v ≡ get_or t.outputs o 0) where
-  pub outputs_good_step : v < w → OutputsGood t w (suc o)
+-- output o as it was read
+module _ {s : List ℕ} {g q w o : ℕ} (all : HasOutputs s g q) (good : OutputsGood s w o) (more : o < q) where
+  there : o < length (table_of s).outputs
+  there = omega (arith, outputs_are all)
+
+  pub outputs_good_step : get_or (table_of s).outputs o 0 < w → OutputsGood s w (o + 1)
   unfolding outputs_fault
-  outputs_good_step h = record { others = good.others ∙ rw (drop-cons t.outputs o 0 more, ← is, lt-ltb v w h) }
+  outputs_good_step h =
+      record { others = good.others ∙ rw (add-one, drop-cons (table_of s).outputs o 0 there, lt-ltb (get_or (table_of s).outputs o 0) w h) }
 
-  pub outputs_good_found : w ≤ v → outputs_fault 0 w t.outputs ≡ fault 5 o
+  pub outputs_good_found : w ≤ get_or (table_of s).outputs o 0 → outputs_fault 0 w (table_of s).outputs ≡ fault 5 o
   unfolding outputs_fault
-  outputs_good_found h = good.others ∙ rw (drop-cons t.outputs o 0 more, ← is, le-ltb v w h)
+  outputs_good_found h =
+      good.others ∙ rw (drop-cons (table_of s).outputs o 0 there, le-ltb (get_or (table_of s).outputs o 0) w h)
 
 pub outputs_good_end :
-    {t : Table} {w o : ℕ} → OutputsGood t w o → length t.outputs ≤ o → outputs_fault 0 w t.outputs ≡ none
+    {s : List ℕ} {g q w o : ℕ} → HasOutputs s g q → OutputsGood s w o → q ≤ o → outputs_fault 0 w (table_of s).outputs ≡ none
 unfolding outputs_fault
-outputs_good_end {t} {w} {o} good h = good.others ∙ rw (drop_of_length-le t.outputs {i = o} h)
+outputs_good_end {s} {g} {q} {w} {o} all good h =
+    good.others ∙ rw (drop_of_length-le (table_of s).outputs {i = o} (omega (arith, outputs_are all)))
+
+pub ruleset outputs_laws = (outputs_good_start, outputs_good_step, outputs_good_found, outputs_good_end)
 
 -- the chain of a table's checks
 pub table_short : (s : List ℕ) → length s < 6 → table_fault s ≡ fault 1 0
@@ -58,3 +76,17 @@ module _
         → table_fault s ≡ or_else (gates_fault 0 n (table_of s).gates) (outputs_fault 0 (n + g) (table_of s).outputs)
     unfolding table_fault
     table_rest l = rw (le-ltb (length s) 6 six, ← inputs, ← gates, ← outputs, good, eq-eqb (length s) (table_long g o) l)
+
+pub ruleset table_laws = (table_short, table_sizes, table_long_lem, table_rest)
+
+-- an accepted table
+pub accepted_six : (s : List ℕ) → table_fault s ≡ none → 6 ≤ length s
+accepted_six s e = omega (arith, accepted_long s (none_passed e))
+
+pub check_done : (s : List ℕ) (v : ℕ) → table_fault s ≡ none → v ≡ word s 0 + word s 2 → CheckSays s (answer_of (Ok v))
+check_done s v e h = record { answer = rw (h, ← wires_of s) (answered_done e) }
+
+pub check_refused : (s : List ℕ) (e : DRefusal.Refusal) → table_fault s ≡ fault_of e → CheckSays s (answer_of (Err e))
+check_refused s e h = record { answer = answered_refused e h }
+
+pub ruleset check_laws = (accepted_six, check_done, check_refused)
