@@ -3,13 +3,17 @@
 use mathlib.Core.Path.{◌≡◌, refl, sym, ap, subst, ◌∙◌}
 use mathlib.Core.Bool.{true}
 use mathlib.Core.List.{List, [], ◌∷◌, ◌++◌, append_assoc}
-use Prim.Native.Nat.{ℕ, zero, suc, ◌+◌, ◌-◌, ◌≤◌, ◌<◌}
+use Prim.Native.Nat.{ℕ, zero, suc, ◌+◌, ◌≤◌, ◌<◌}
 use native.Mathlib.Nat.{add-zero, add-suc}
+use native.Mathlib.Numerals.{add-one}
 use native.Mathlib.Omega.{arith}
 use lib.ListN.{length, get_or, take, drop, set, length-append, length-drop, take-append-drop, drop_of_length-le, get_or-append}
 use lib.Seq.{length-take-le, get_or-take, take-take, take-length, take-append_seam, drop-cons}
 use Rattle.run_gates.specs.declared.Drawn as DDrawn
 use Rattle.tables.specs.declared.GateFields as DGateFields
+use Rattle.tables.specs.declared.Kind as DKind
+use Rattle.tables.specs.declared.Kind.TheVariants.{Not, Xor, And, Random, Constant, Or}
+use Rattle.tables.specs.Kinds.{kind_is}
 use Rattle.tables.specs.Tables.{Kind, NOT, XOR, AND, RANDOM, CONSTANT, OR, UNKNOWN, kind_of, Gate, no_gate, Table}
 use Rattle.tables.specs.Tables.{gate_of, table_of, known, operands_of, total}
 use Rattle.tables.specs.Runs.{driven, drawn, run_from, randoms}
@@ -18,7 +22,7 @@ use Rattle.tables.specs.Inside.{Bits, put_at, HasGates, GateIs}
 use Rattle.run_gates.specs.RunGates.{GateReady, GateSays, RunReady}
 use Rattle.tables.proofs.Put.{Writing, writing_kept, writing_byte, writing_end, over_length}
 use Rattle.tables.proofs.Run.{Solves, Reads, Earlier, driven_local, run_length, run_bits, run_solves}
-use Rattle.tables.proofs.Accept.{inputs_of, gates_of_length, gates_are, accepted, accepted_few, has_gates}
+use Rattle.tables.proofs.Accept.{inputs_of, gates_of_length, gates_are, accepted, accepted_few}
 use Rattle.tables.proofs.Accept.{operands_below}
 use Rattle.tables.proofs.Format.{SoundGates, sound_earlier, passed_sound_gates}
 
@@ -41,14 +45,13 @@ drawn_small OR = omega arith
 drawn_small (UNKNOWN k) = omega arith
 
 -- a kind that is neither random nor a constant reads its left operand
-reads_left : (k w l r : ℕ) → k ≤ 5 → (k ≡ 3 → ⊥) → (k ≡ 4 → ⊥) → Reads w (kind_of k) l r → l < w
-reads_left zero w l r h n o e = e
-reads_left (suc zero) w l r h n o e = e.0
-reads_left (suc (suc zero)) w l r h n o e = e.0
-reads_left (suc (suc (suc zero))) w l r h n o e = absurd (n refl)
-reads_left (suc (suc (suc (suc zero)))) w l r h n o e = absurd (o refl)
-reads_left (suc (suc (suc (suc (suc zero))))) w l r h n o e = e.0
-reads_left (suc (suc (suc (suc (suc (suc k)))))) w l r h n o e = absurd (omega arith)
+reads_left : (k : DKind.Kind) (w l r : ℕ) → (k ≡ Random → ⊥) → (k ≡ Constant → ⊥) → Reads w (kind_is k) l r → l < w
+reads_left Not w l r n o e = e
+reads_left Xor w l r n o e = e.0
+reads_left And w l r n o e = e.0
+reads_left Random w l r n o e = absurd (n refl)
+reads_left Constant w l r n o e = absurd (o refl)
+reads_left Or w l r n o e = e.0
 
 -- a run begins with what it was given
 run_front : (gs : List Gate) (rs vs : List ℕ) → take (length vs) (run_from gs rs vs) ≡ vs
@@ -89,14 +92,7 @@ pub record Running (t : Table) (rs start : List ℕ) (n : ℕ) (vs : List ℕ) (
   pub few : c + length (drop i t.gates) ≤ 65536
   pub sound : SoundGates (n + i) (drop i t.gates)
 
-module _ {s rs vs : List ℕ} {n g : ℕ} (r : RunReady s rs vs n g) where
-  pub ready_gates : HasGates s g
-  ready_gates = has_gates s r.accepted r.gates
-
-  -- the gate that drives wire w
-  pub ready_more : {w : ℕ} → n ≤ w → w < n + g → w - n < length (table_of s).gates
-  ready_more h k = omega (arith, h, k, gates_are ready_gates)
-
+module _ {s rs vs : List ℕ} {n g : ℕ} (gates : HasGates s g) (r : RunReady s rs vs n g) where
   front_long : length (take n vs) ≡ n
   front_long = length-take-le n vs (omega (arith, r.room))
 
@@ -104,7 +100,7 @@ module _ {s rs vs : List ℕ} {n g : ℕ} (r : RunReady s rs vs n g) where
   ran_long = omega (arith, run_length (table_of s).gates rs (take n vs), front_long)
 
   ran_fits : length (ran_from (table_of s) rs vs n) ≤ length vs
-  ran_fits = omega (arith, ran_long, gates_are ready_gates, r.room)
+  ran_fits = omega (arith, ran_long, gates_are gates, r.room)
 
   pub running_long : length (over (ran_from (table_of s) rs vs n) vs) ≡ length vs
   running_long = over_length (ran_from (table_of s) rs vs n) vs ran_fits
@@ -129,13 +125,21 @@ module _ {s rs vs : List ℕ} {n g : ℕ} (r : RunReady s rs vs n g) where
 
 -- one turn, at gate i
 module _
-    {t : Table}
+    {s : List ℕ}
+    {g : ℕ}
+    (gates : HasGates s g)
     {rs start : List ℕ}
     {n : ℕ}
     {vs : List ℕ}
     {c i : ℕ}
-    (r : Running t rs start n vs c i)
-    (h : i < length t.gates) where
+    (r : Running (table_of s) rs start n vs c i)
+    (before : i < g) where
+  abbrev t : Table
+  t = table_of s
+
+  h : i < length t.gates
+  h = omega (arith, gates_are gates)
+
   abbrev ran : List ℕ
   ran = ran_from t rs start n
 
@@ -175,17 +179,17 @@ module _
       sym (get_or-take (n + i) vs w 0 k)
       ∙ ap (λ (l : List ℕ). get_or l w 0) (writing_kept r.writing)
       ∙ get_or-take (n + i) (over ran start) w 0 k
-      ∙ get_or-append ran (drop (length ran) start) 0 w (omega (arith, r.long))
+      ∙ get_or-append ran (drop (length ran) start) 0 w (omega (arith, r.long, h))
 
   value_bit : (w : ℕ) → w < n + i → get_or vs w 0 ≤ 1
   value_bit w k = rw (value_same w k) (r.bits w)
 
-  random_there : this.kind ≡ kind_of 3 → c < length rs
+  random_there : this.kind ≡ RANDOM → c < length rs
   random_there e =
-      let m : c + (drawn (kind_of 3) + randoms later) ≤ length rs = rw e at left_random in omega arith
+      let m : c + (drawn RANDOM + randoms later) ≤ length rs = rw e at left_random in omega arith
 
   ran_next : drop (n + i) ran ≡ get_or ran (n + i) 0 ∷ drop (suc (n + i)) ran
-  ran_next = drop-cons ran (n + i) 0 (omega (arith, r.long))
+  ran_next = drop-cons ran (n + i) 0 (omega (arith, r.long, h))
 
   pub wire_there : n + i < length vs
   wire_there = omega (arith, r.writing.room, ap length ran_next)
@@ -227,45 +231,36 @@ module _
     pub right_there : x.right < length vs
     right_there = omega (arith, right_earlier, wire_there)
 
-    byte_small : x.kind ≤ 5
+    pub byte_small : x.kind ≤ 5
     unfolding SoundGates
     byte_small = known_small x.kind (rw is.kind left_sound.0.0)
 
-    left_earlier : (x.kind ≡ 3 → ⊥) → (x.kind ≡ 4 → ⊥) → x.left < n + i
-    unfolding Earlier
-    left_earlier h j =
-        reads_left x.kind (n + i) x.left x.right byte_small h j
-        (rw (is.kind, is.left, is.right) (sound_earlier (n + i) (this ∷ later) left_sound).0)
+    -- its kind, as the code names it
+    module _ {k : DKind.Kind} (named : kind_is k ≡ kind_of x.kind) where
+      left_earlier : (k ≡ Random → ⊥) → (k ≡ Constant → ⊥) → x.left < n + i
+      unfolding Earlier
+      left_earlier h j =
+          reads_left k (n + i) x.left x.right h j
+          (rw (named, is.kind, is.left, is.right) (sound_earlier (n + i) (this ∷ later) left_sound).0)
 
-    pub gate_ready : GateReady x.kind (get_or vs x.left 0) (get_or vs x.right 0) rs c
-    gate_ready = record {
-      known = byte_small;
-      left = λ h j. value_bit x.left (left_earlier h j);
-      right = value_bit x.right right_earlier;
-      random = λ e. random_there (sym is.kind ∙ ap kind_of e);
-      few = omega (arith, left_few);
-    }
+      pub gate_ready : GateReady k (get_or vs x.left 0) (get_or vs x.right 0) rs c
+      gate_ready = record {
+        left = λ h j. value_bit x.left (left_earlier h j);
+        right = value_bit x.right right_earlier;
+        random = λ e. random_there (sym (named ∙ is.kind) ∙ ap kind_is e);
+        few = omega (arith, left_few);
+      }
 
-    pub gate_turn :
-        (d : DDrawn.Drawn) → GateSays x.kind x.left (get_or vs x.left 0) (get_or vs x.right 0) rs c d
-        → Running t rs start n (set vs (n + i) d.value) d.next (suc i)
-    gate_turn d says =
-        running_turn
-        (rw (is.kind, is.left) at (says.value this.right (λ w. get_or vs w 0) refl (rw is.right)) ∙ drives)
-        (rw is.kind at says.next)
-
--- what gate w - n made, said of wire w
-pub wire_turn :
-    {t : Table} {rs start : List ℕ} {n : ℕ} (vs : List ℕ) (x : ℕ) {c : ℕ} (w : ℕ) → n ≤ w
-    → Running t rs start n (set vs (n + (w - n)) x) c (suc (w - n)) → Running t rs start n (set vs w x) c (w + 1 - n)
-wire_turn {t} {rs} {start} {n} vs x {c} w h r =
-    subst (λ (p : ℕ). Running t rs start n (set vs p x) c (w + 1 - n)) {x = n + (w - n)} {y = w} (omega (arith, h))
-    (subst (λ (i : ℕ). Running t rs start n (set vs (n + (w - n)) x) c i) {x = suc (w - n)} {y = w + 1 - n}
-    (omega (arith, h))
-    r)
+      pub gate_turn :
+          {d : DDrawn.Drawn} → GateSays k x.left (get_or vs x.left 0) (get_or vs x.right 0) rs c d
+          → Running t rs start n (set vs (n + i) d.value) d.next (i + 1)
+      gate_turn says =
+          rw add-one (running_turn
+          (rw (named, is.kind, is.left) at (says.value this.right (λ w. get_or vs w 0) refl (rw is.right)) ∙ drives)
+          (rw (named, is.kind) at says.next))
 
 pub running_end :
-    {t : Table} {rs start : List ℕ} {n : ℕ} {vs : List ℕ} {c i : ℕ} → Running t rs start n vs c i
-    → length t.gates ≤ i → vs ≡ over (ran_from t rs start n) start
-running_end {t} {rs} {start} {n} {vs} {c} {i} r h =
-    writing_end r.writing (drop_of_length-le (ran_from t rs start n) {i = n + i} (omega (arith, r.long)))
+    {s : List ℕ} {g : ℕ} {rs start : List ℕ} {n : ℕ} {vs : List ℕ} {c i : ℕ} → HasGates s g → Running (table_of s) rs start n vs c i
+    → g ≤ i → vs ≡ over (ran_from (table_of s) rs start n) start
+running_end {s} {g} {rs} {start} {n} {vs} {c} {i} gates r h =
+    writing_end r.writing (drop_of_length-le (ran_from (table_of s) rs start n) {i = n + i} (omega (arith, r.long, gates_are gates)))

@@ -8,6 +8,8 @@ ghost use Rattle.tables.specs.Packing.{unpacked};
 ghost use Rattle.tables.specs.Says.{over};
 ghost use Rattle.run_gates.specs.RunGates.{GateReady, GateSays, RunReady};
 
+use tables::Kind;
+
 // A gate's value and the number of the next random bit.
 #[derive(Clone, Copy)]
 struct Drawn {
@@ -16,52 +18,57 @@ struct Drawn {
 }
 
 // The truth tables of NOT, XOR, AND and OR: bit 4·kind + 2·a + b is what a gate of this kind makes of a and b.
+// No match on these four: kinds in random order make a branch on them guess wrong.
 const TRUTH: u32 = 0xE00863;
 
 // What a gate drives, from its left operand and its operands' values.
-fn gate_value(kind: u8, left: usize, a: u8, b: u8, random: &[u8], at: usize) -> Drawn
+#[tactic(auto, using(crate::proofs::Gate::says_random, crate::proofs::Gate::says_constant, crate::proofs::Gate::says_truth))]
+fn gate_value(kind: Kind, left: usize, a: u8, b: u8, random: &[u8], at: usize) -> Drawn
     requires { GateReady kind a b (unpacked random.now) at }
     ensures { GateSays kind left a b (unpacked random.now) at result }
 {
-    if kind == 3 {
-        return Drawn {
+    match kind {
+        Kind::Random => Drawn {
             value: bits::tape_bit(random, at),
             next: at + 1,
-        };
-    }
-    if kind == 4 {
-        let bit = (left % 2) as u8;
-        return Drawn {
-            value: bit,
+        },
+        Kind::Constant => Drawn {
+            value: (left % 2) as u8,
             next: at,
-        };
-    }
-    let row = 4 * kind + 2 * a + b;
-    Drawn {
-        value: ((TRUTH >> row) % 2) as u8,
-        next: at,
+        },
+        _ => {
+            let row = 4 * (kind as u8) + 2 * a + b;
+            Drawn {
+                value: ((TRUTH >> row) % 2) as u8,
+                next: at,
+            }
+        }
     }
 }
 
-// Runs the gates over values that begin with the inputs: gate w - inputs drives wire w.
-pub fn run_gates(table: &[u8], inputs: usize, gates: usize, random: &[u8], values: &mut [u8])
-    requires { RunReady table.now (unpacked random.now) values.old inputs gates }
+// Runs the gates over values that begin with the inputs: gate g drives wire inputs + g.
+pub fn run_gates(gates: &fields::Gates, inputs: usize, random: &[u8], values: &mut [u8])
+    requires { RunReady gates.now.table.now (unpacked random.now) values.old inputs gates.now.count }
     ensures { values.new
         ≡ over
-        (run_from (table_of table.now).gates (unpacked random.now)
+        (run_from (table_of gates.now.table.now).gates (unpacked random.now)
         (take inputs values.old))
         values.old }
 {
-    let end = inputs + gates;
     let mut next: usize = 0;
-    let mut w = inputs;
-    while w < end {
-        let x = fields::gate_at(table, gates, w - inputs);
+    for g in 0..gates.count {
+        let x = gates.at(g);
         let left = x.left;
         let right = x.right;
-        let turn = gate_value(x.kind, left, values[left], values[right], random, next);
-        values[w] = turn.value;
+        let turn = gate_value(
+            x.known_kind(),
+            left,
+            values[left],
+            values[right],
+            random,
+            next,
+        );
+        values[inputs + g] = turn.value;
         next = turn.next;
-        w += 1;
     }
 }
