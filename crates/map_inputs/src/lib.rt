@@ -3,18 +3,9 @@
 
 ghost use Rattle.std.specs.Prelude.{◌≡◌, ◌*◌, ◌≤◌, length};
 ghost use Rattle.tables.specs.Packing.{unpacked};
-ghost use Rattle.tables.specs.Inside.{put_at};
 ghost use Rattle.secrecy.specs.Maps.{each_flip, input_flips};
 ghost use Rattle.secrecy.specs.Both.{flips_at};
 ghost use Rattle.map_inputs.specs.Flipping.{FlipReady, BeginReady, BegunSays};
-
-// Writes bytes at the front of a buffer.
-fn copy_front(from: &[u8], to: &mut [u8])
-    requires { length from.now ≤ length to.old }
-    ensures { to.new ≡ put_at 0 from.now to.old }
-{
-    fields::put_bytes(to, 0, from);
-}
 
 // Flips the bits of share k in a mapped tape that is still the tape, where the secrets differ; the last share has no tape bit.
 fn flip_inputs(order: usize, k: usize, first: &[u8], second: &[u8], mapped: &mut [u8])
@@ -26,30 +17,25 @@ fn flip_inputs(order: usize, k: usize, first: &[u8], second: &[u8], mapped: &mut
     if k > bits {
         return;
     }
-    let mut at = k - 1;
-    let mut i = 0;
-    while i < first.len() {
+    for i in 0..first.len() {
         let x = bits::secret_bit(first, i);
         let y = bits::secret_bit(second, i);
-        bits::flip_bit(mapped, at, (x + y) % 2);
-        at += bits;
-        i += 1;
+        let at = bits * i + (k - 1);
+        bits::flip_bit(mapped, at, x ^ y);
     }
 }
 
-// Flips share k of each input, of so many shares, where the secrets differ.
+// Flips share k of each input, of so many shares, where the secrets differ. Not one function with `flip_inputs`: bits of a packed tape
+// and bytes are written in two ways, and a closure or a trait for the two would be longer than this loop.
 fn flip_shares(shares: usize, k: usize, first: &[u8], second: &[u8], run: &mut [u8])
     requires { (k ≤ shares) × FlipReady shares k first.now second.now run.old }
     ensures { run.new ≡ flips_at 0 (each_flip shares k first.now second.now) run.old }
 {
-    let mut at = k - 1;
-    let mut i = 0;
-    while i < first.len() {
+    for i in 0..first.len() {
         let x = bits::secret_bit(first, i);
         let y = bits::secret_bit(second, i);
-        run[at] = (run[at] + (x + y) % 2) % 2;
-        at += shares;
-        i += 1;
+        let at = shares * i + (k - 1);
+        run[at] ^= x ^ y;
     }
 }
 
@@ -77,8 +63,8 @@ pub fn begin_runs(
     let n = 2 * order + 1;
     let shares = n * first.len();
     encoding::encode_all(order, first, tape, one);
-    copy_front(tape, mapped);
+    mapped[..tape.len()].copy_from_slice(tape);
     flip_inputs(order, k, first, second, mapped);
-    copy_front(&one[..shares], other);
+    other[..shares].copy_from_slice(&one[..shares]);
     flip_shares(n, k, first, second, other);
 }
