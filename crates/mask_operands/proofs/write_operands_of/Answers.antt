@@ -1,14 +1,10 @@
 -- `mask_operands::write_operands_of` meets its contract, kind by kind.
 -- Assumes nothing.
-use mathlib.Core.Path.{sym, ap, ◌∙◌}
-use mathlib.Core.List.{List, ◌++◌}
-use Prim.Native.Nat.{ℕ}
-use Rattle.tables.specs.Tables.{XOR, AND, OR, two, pair_bytes}
-use Rattle.tables.specs.Inside.{put_at}
+use mathlib.Core.Path.{sym}
+use Rattle.tables.specs.Tables.{XOR, AND, OR, pair_bytes}
 use Rattle.tables.proofs.Put.{put_nil}
 use Rattle.construction.specs.Gadgets.{gadget_of}
 use Rattle.construction.specs.Wires.{and_part}
-use Rattle.layout.specs.declared.Places as DPlaces
 use Rattle.layout.specs.Layout.{share_wires, pieces_from, xor_gates, and_gates, or_gates}
 use Rattle.layout.proofs.Pieces.{xor_gates_lem, constant_gates_lem, and_gates_lem, or_gates_lem}
 use Rattle.share_places.specs.Located.{places_at}
@@ -17,23 +13,21 @@ use Rattle.mask_operands.proofs.write_operands_of.Goals as goal
 
 pub returns-in-Not : goal.returns-in-Not
 unfolding pair_bytes
-returns-in-Not c g =
-    let first : DPlaces.Places → List ℕ = λ p. put_at c.args.at (two p.head ++ two 0) c.args.ops.now in
-    rw c.in-Not.is (c.put_gate.ensures ∙ ap first c.places_at.ensures.0)
+returns-in-Not c g = rw c.in-Not.is c.put_gate.ensures
 
 pub returns-in-Xor : goal.returns-in-Xor
 returns-in-Xor c g =
     let a = c.args in
     rw c.in-Xor.is
     (written_where (gadget_of a.and) XOR a.left a.n g a.w a.at a.ops.now (λ A B. pieces_from a.n 0 (xor_gates A B))
-    (xor_gates_lem (gadget_of a.and) a.left a.n g a.w) c.places_at.ensures.0 c.places_at-2.ensures.0 c.write_xor.ensures)
+    (xor_gates_lem (gadget_of a.and) a.left a.n g a.w) c.operands_at.ensures c.write_xor.ensures)
 
 pub returns-in-And : goal.returns-in-And
 returns-in-And c g =
     let a = c.args in
     rw c.in-And.is
     (written_where (gadget_of a.and) AND a.left a.n g a.w a.at a.ops.now (and_gates (gadget_of a.and) a.n a.w)
-    (and_gates_lem (gadget_of a.and) a.n (and_part g) a.w) c.places_at.ensures.0 c.places_at-2.ensures.0 c.write_and.ensures)
+    (and_gates_lem (gadget_of a.and) a.n (and_part g) a.w) c.operands_at-in-And.ensures c.write_and.ensures)
 
 pub returns-in-Random : goal.returns-in-Random
 unfolding pair_bytes
@@ -51,4 +45,4 @@ returns-in-Or c g =
     let a = c.args in
     rw c.in-Or.is
     (written_where (gadget_of a.and) OR a.left a.n g a.w a.at a.ops.now (or_gates (gadget_of a.and) a.n a.w)
-    (or_gates_lem (gadget_of a.and) a.left a.n g a.w) c.places_at.ensures.0 c.places_at-2.ensures.0 c.write_or.ensures)
+    (or_gates_lem (gadget_of a.and) a.left a.n g a.w) c.operands_at-in-Or.ensures c.write_or.ensures)
