@@ -22,12 +22,11 @@ use Rattle.tables.proofs.Accept.{gates_are}
 use Rattle.tables.proofs.Answers.{first_of}
 use Rattle.tables.proofs.Bad.{or_covers}
 
--- an `or` of three is 0 only where each is
-pub or_none : (a b c : ℕ) → bit_or (bit_or a b) c ≡ 0 → (a ≡ 0) × (b ≡ 0) × (c ≡ 0)
-or_none a b c z =
-    let last = or_covers (bit_or a b) c 0 (omega (arith, z)) in
-    let first = or_covers a b 0 last.0 in
-    (omega (arith, first.0), omega (arith, first.1), omega (arith, last.1))
+-- an `or` is 0 only where each part is
+pub or_none : (a b : ℕ) → bit_or a b ≡ 0 → (a ≡ 0) × (b ≡ 0)
+or_none a b z =
+    let both = or_covers a b 0 (omega (arith, z)) in
+    (omega (arith, both.0), omega (arith, both.1))
 
 -- a gate's flaws: an operand that is not read and not 0, a constant that is no bit
 pub unused_none :
@@ -87,12 +86,11 @@ module _
       → gates_fault 0 w (table_of s).gates ≡ fault_of e
   gates_good_found e h = gates_good_here ∙ first_of _ e h
 
-pub gates_good_end : {s : List ℕ} {n w g : ℕ} → HasGates s n → GatesGood s w g → n ≤ g → gates_fault 0 w (table_of s).gates ≡ none
+pub gates_good_end :
+    {s : List ℕ} {n w g : ℕ} → HasGates s n → GatesGood s w g → n ≤ g → gates_fault 0 w (table_of s).gates ≡ none
 unfolding gates_fault
 gates_good_end {s} {n} {w} {g} all good h =
     good.others ∙ rw (drop_of_length-le (table_of s).gates {i = g} (omega (arith, gates_are all)))
 
-pub or_both : (a b : ℕ) → bit_or a b ≡ 0 → (a ≡ 0) × (b ≡ 0)
-or_both a b z =
-    let both = or_covers a b 0 (omega (arith, z)) in
-    (omega (arith, both.0), omega (arith, both.1))
+-- what the proofs of both loops over the gates cite
+pub ruleset loop_laws = (or_none, gates_good_start, gates_good_step, gates_good_end)

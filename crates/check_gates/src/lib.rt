@@ -54,7 +54,8 @@ fn only(test: bool, v: u32) -> u32
 // The kind's byte is compared, since a match on a kind branches.
 #[tactic(auto, using(crate::proofs::Gates::or_none, crate::proofs::Gates::unused_none))]
 fn unused(kind: u8, left: u32, right: u32) -> u32
-    ensures { result ≡ 0 → kind ≤ 5 → (w : ℕ) → left < w → right < w → operands_ok w (operands_of (kind_of kind)) left right ≡ true }
+    ensures { result ≡ 0 → kind ≤ 5 → (w : ℕ) → left < w → right < w
+        → operands_ok w (operands_of (kind_of kind)) left right ≡ true }
 {
     let not = kind == Kind::Not as u8;
     let random = kind == Kind::Random as u8;
@@ -77,7 +78,7 @@ fn gate_flaws(x: GateFields, gap: u32) -> u32
 }
 
 // Whether no gate is faulty.
-#[tactic(auto, using(crate::proofs::Gates::gates_good_start, crate::proofs::Gates::gates_good_step, crate::proofs::Gates::or_both, crate::proofs::Gates::gates_good_end))]
+#[tactic(auto, using(crate::proofs::Gates::loop_laws))]
 fn gates_good(gates: &fields::Gates, inputs: usize) -> bool
     requires { inputs + gates.now.count ≤ 65535 }
     ensures { result ≡ true → gates_fault 0 inputs (table_of gates.now.table.now).gates ≡ none }
@@ -93,7 +94,7 @@ fn gates_good(gates: &fields::Gates, inputs: usize) -> bool
 }
 
 // The first faulty gate: it is looked for only where there is one.
-#[tactic(auto, using(crate::proofs::Gates::gates_good_start, crate::proofs::Gates::gates_good_step, crate::proofs::Gates::gates_good_end))]
+#[tactic(auto, using(crate::proofs::Gates::loop_laws))]
 pub fn gates_fault(gates: &fields::Gates, inputs: usize) -> Result<(), Refusal>
     requires { inputs + gates.now.count ≤ 65535 }
     ensures { Refused (gates_fault 0 inputs (table_of gates.now.table.now).gates) result }

@@ -1,11 +1,12 @@
 -- Checking a table, step by step: what each test that the code makes says of the definition's chain of refusals.
 -- Assumes nothing.
 use mathlib.Core.Path.{◌≡◌, refl, ◌∙◌}
-use mathlib.Core.Bool.{true, false}
+use mathlib.Core.Bool.{true, false, cond}
 use mathlib.Core.List.{List}
-use Prim.Native.Nat.{ℕ, ◌+◌, ◌≤◌, ◌<◌}
+use Prim.Native.Nat.{ℕ, suc, ◌+◌, ◌≤◌, ◌<◌}
 use native.Mathlib.Numerals.{add-one}
 use native.Mathlib.Omega.{arith}
+use lib.Dec.{ltb}
 use lib.ListN.{length, get_or, drop, drop_of_length-le}
 use lib.Seq.{drop-cons}
 use borrow.Author.Tests.{lt-ltb, le-ltb, eq-eqb, ne_eqb}
@@ -28,21 +29,22 @@ outputs_good_start s w = record { others = refl }
 
 -- output o as it was read
 module _ {s : List ℕ} {g q w o : ℕ} (all : HasOutputs s g q) (good : OutputsGood s w o) (more : o < q) where
-  there : o < length (table_of s).outputs
-  there = omega (arith, outputs_are all)
+  at_output :
+      outputs_fault 0 w (table_of s).outputs
+      ≡ cond (ltb (get_or (table_of s).outputs o 0) w) (outputs_fault (suc o) w (drop (suc o) (table_of s).outputs)) (fault 5 o)
+  unfolding outputs_fault
+  at_output =
+      good.others ∙ rw (drop-cons (table_of s).outputs o 0 (omega (arith, outputs_are all)))
 
   pub outputs_good_step : get_or (table_of s).outputs o 0 < w → OutputsGood s w (o + 1)
-  unfolding outputs_fault
-  outputs_good_step h =
-      record { others = good.others ∙ rw (add-one, drop-cons (table_of s).outputs o 0 there, lt-ltb (get_or (table_of s).outputs o 0) w h) }
+  outputs_good_step h = record { others = at_output ∙ rw (lt-ltb (get_or (table_of s).outputs o 0) w h, add-one) }
 
   pub outputs_good_found : w ≤ get_or (table_of s).outputs o 0 → outputs_fault 0 w (table_of s).outputs ≡ fault 5 o
-  unfolding outputs_fault
-  outputs_good_found h =
-      good.others ∙ rw (drop-cons (table_of s).outputs o 0 there, le-ltb (get_or (table_of s).outputs o 0) w h)
+  outputs_good_found h = at_output ∙ rw (le-ltb (get_or (table_of s).outputs o 0) w h)
 
 pub outputs_good_end :
-    {s : List ℕ} {g q w o : ℕ} → HasOutputs s g q → OutputsGood s w o → q ≤ o → outputs_fault 0 w (table_of s).outputs ≡ none
+    {s : List ℕ} {g q w o : ℕ} → HasOutputs s g q → OutputsGood s w o → q ≤ o
+    → outputs_fault 0 w (table_of s).outputs ≡ none
 unfolding outputs_fault
 outputs_good_end {s} {g} {q} {w} {o} all good h =
     good.others ∙ rw (drop_of_length-le (table_of s).outputs {i = o} (omega (arith, outputs_are all)))
