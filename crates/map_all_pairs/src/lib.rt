@@ -1,4 +1,4 @@
-// All pairs of shares in both runs of the map.
+// All pairs of shares in both runs of the map. The tape, the mapped tape and both runs are lent one by one, as in `map_pair`.
 #![tactic(auto)]
 
 ghost use Rattle.std.specs.Prelude.{◌+◌, ◌-◌, ◌*◌, ◌≤◌, ◌<◌, suc};

@@ -1,4 +1,5 @@
-// The steps of the map: a plain gate in both runs, and all gates in table order.
+// The steps of the map: a plain gate in both runs, and all gates in table order. The tape, the mapped tape and both runs are lent
+// one by one, as in `map_pair`.
 #![tactic(auto)]
 
 ghost use Rattle.std.specs.Prelude.{◌≡◌, true, cond, [], map, ◌+◌, ◌*◌, ◌≤◌, ◌<◌, ℕ, get_or};

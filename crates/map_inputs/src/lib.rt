@@ -1,4 +1,4 @@
-// The inputs' bits of the mapped tape, and both runs begun with them.
+// The inputs' bits of the mapped tape, and both runs begun with them. The tapes and the runs are lent one by one, as in `map_pair`.
 #![tactic(auto)]
 
 ghost use Rattle.std.specs.Prelude.{◌≡◌, ◌*◌, ◌≤◌, length};

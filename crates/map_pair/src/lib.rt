@@ -1,4 +1,6 @@
 // A pair of shares in both runs of the map: its five wires, and the random bit that the second run takes.
+// The tape, the mapped tape and both runs are lent one by one: a struct of the four would take a lifetime for each, and each contract
+// would have to say besides that its four buffers are still the same.
 #![tactic(auto)]
 
 ghost use Rattle.std.specs.Prelude.{◌≡◌, [], ◌∷◌, map, ◌+◌, ◌≤◌, ◌<◌, length, get_or, set};

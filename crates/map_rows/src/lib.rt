@@ -1,4 +1,4 @@
-// The rows of an AND, run on in both runs of the map.
+// The rows of an AND, run on in both runs of the map. The runs are lent one by one, as in `map_pair`.
 #![tactic(auto)]
 
 ghost use Rattle.std.specs.Prelude.{◌≡◌, [], ◌∷◌, ◌+◌, ◌*◌, ◌≤◌, ◌<◌, ℕ, suc, get_or};
