@@ -3,42 +3,42 @@
 use mathlib.Core.Path.{◌≡◌, refl, sym, ap, ◌∙◌}
 use mathlib.Core.List.{List, [], ◌∷◌, ◌++◌}
 use Prim.Native.Nat.{ℕ, suc, ◌+◌, ◌*◌, ◌≤◌, ◌<◌}
+use native.Mathlib.Numerals.{add-one}
 use native.Mathlib.Omega.{arith}
 use lib.ListN.{length, get_or, take, drop, set, take-append-drop, drop_of_length-le, get_or-append}
 use lib.Seq.{take-append_seam, drop-cons}
+use Rattle.std.specs.Prelude.{Ok, Err}
 use Rattle.tables.specs.Tables.{Table, wires, word, table_of}
 use Rattle.tables.specs.Runs.{run_from, run, read_all, outputs_of, randoms}
 use Rattle.tables.specs.Packing.{unpacked, tape_of}
 use Rattle.tables.specs.declared.Refusal as DRefusal
-use Rattle.tables.specs.Refusals.{Fault}
+use Rattle.tables.specs.Refusals.{Fault, none}
+use Rattle.tables.specs.Refusing.{fault_of}
 use Rattle.tables.specs.Says.{over, RunDone}
-use Rattle.tables.specs.Inside.{Refused, put_at}
+use Rattle.tables.specs.Inside.{HasOutputs, put_at, answer_of}
 use Rattle.run_gates.specs.RunGates.{RunReady}
 use Rattle.running.specs.Running.{OutputsReady, ran_packed}
-use Rattle.tables.proofs.Put.{put_zero, over_length, over_over, Writing, writing_front, writing_long, writing_inside}
+use Rattle.tables.proofs.Put.{put_zero, over_length, over_over, Writing, writing_front}
 use Rattle.tables.proofs.Put.{writing_byte, writing_end}
 use Rattle.tables.proofs.Lists.{All, all_get_d}
 use Rattle.tables.proofs.Packing.{unpacked_length, unpacked_bits, tape_long_lem}
 use Rattle.tables.proofs.Run.{run_length, run_prefix, read_length}
-use Rattle.tables.proofs.Accept.{accepted, inputs_of, gates_of_length, outputs_of_length, outputs_are, outputs_passed, has_outputs}
-use Rattle.tables.proofs.Answers.{refused_passed, answered_refused, answered_done, after_refused, after_passed}
+use Rattle.tables.proofs.Accept.{accepted, inputs_of, gates_of_length, outputs_of_length, outputs_are, outputs_passed}
+use Rattle.tables.proofs.Answers.{answered_refused, answered_done, after_refused, after_passed}
 use Rattle.tables.proofs.RunFault.{RunGood}
 
 -- before output o: the values from it on are left to write
 pub record Reading (t : Table) (vs start out : List ℕ) (o : ℕ) : Type 0 where
   pub writing : Writing (over (outputs_of t vs) start) o (read_all vs (drop o t.outputs)) out
 
-module _ {s : List ℕ} {g q : ℕ} {vs start : List ℕ} (ready : OutputsReady s g q vs start) where
+module _ {s : List ℕ} {g q : ℕ} {vs start : List ℕ} (stated : HasOutputs s g q) (ready : OutputsReady s q vs start) where
   outputs_fit : length (outputs_of (table_of s) vs) ≤ length start
-  outputs_fit = omega (arith, read_length vs (table_of s).outputs, outputs_are ready.stated, ready.room)
+  outputs_fit = omega (arith, read_length vs (table_of s).outputs, outputs_are stated, ready.room)
 
   pub reading_start : Reading (table_of s) vs start start 0
   reading_start = record { writing = writing_front (outputs_of (table_of s) vs) start outputs_fit }
 
   module _ {out : List ℕ} {o : ℕ} (R : Reading (table_of s) vs start out o) where
-    pub reading_long : length out ≡ length start
-    reading_long = writing_long R.writing ∙ over_length (outputs_of (table_of s) vs) start outputs_fit
-
     next :
         o < q
         → read_all vs (drop o (table_of s).outputs)
@@ -46,21 +46,18 @@ module _ {s : List ℕ} {g q : ℕ} {vs start : List ℕ} (ready : OutputsReady 
     unfolding read_all
     next h =
         ap {A = List ℕ} {B = List ℕ} (read_all vs)
-        (drop-cons (table_of s).outputs o 0 (omega (arith, outputs_are ready.stated)))
-
-    pub reading_room : o < q → o < length out
-    reading_room h = writing_inside R.writing _ _ (next h)
+        (drop-cons (table_of s).outputs o 0 (omega (arith, outputs_are stated)))
 
     pub reading_turn :
-        {w : ℕ} → o < q → w ≡ get_or (table_of s).outputs o 0 → Reading (table_of s) vs start (set out o (get_or vs w 0)) (suc o)
-    reading_turn h e = record { writing = rw e (writing_byte R.writing _ _ (next h)) }
+        {w : ℕ} → o < q → w ≡ get_or (table_of s).outputs o 0 → Reading (table_of s) vs start (set out o (get_or vs w 0)) (o + 1)
+    reading_turn h e = rw add-one (record { writing = rw e (writing_byte R.writing _ _ (next h)) })
 
     pub reading_end : q ≤ o → out ≡ over (outputs_of (table_of s) vs) start
     unfolding read_all
     reading_end h =
         writing_end R.writing
         (ap {A = List ℕ} {B = List ℕ} (read_all vs)
-        (drop_of_length-le (table_of s).outputs {i = o} (omega (arith, outputs_are ready.stated))))
+        (drop_of_length-le (table_of s).outputs {i = o} (omega (arith, outputs_are stated))))
 
 -- wires that have a value are read from the front
 read_front : (vs ys ws : List ℕ) → All (λ w. w < length vs) ws → read_all (vs ++ ys) ws ≡ read_all vs ws
@@ -84,6 +81,9 @@ module _ {s xs rs : List ℕ} (a b : List ℕ) (r : RunGood s xs rs (length a) (
 
   pub wires_are : {g : ℕ} → g ≡ word s 2 → length xs + g ≡ wires t
   wires_are e = omega (arith, r.supplied.inputs, gates_of_length s)
+
+  pub few_wires : wires t ≤ 65535
+  few_wires = (accepted s r.accepted).few_wires
 
   -- as many random bits as there are random gates
   bits_due : randoms t.gates ≤ 8 * length rs
@@ -109,7 +109,6 @@ module _ {s xs rs : List ℕ} (a b : List ℕ) (r : RunGood s xs rs (length a) (
         record {
           accepted = r.accepted;
           inputs = r.supplied.inputs ∙ inputs_of s;
-          gates = e;
           random = omega (arith, bits_due, unpacked_length rs);
           random_bits = unpacked_bits rs;
           room = omega (arith, ap length put_over, over_length xs a inputs_fit, wires_are e, r.values);
@@ -135,9 +134,8 @@ module _ {s xs rs : List ℕ} (a b : List ℕ) (r : RunGood s xs rs (length a) (
           r.values,
         )
 
-    pub outputs_ready : {g q : ℕ} → g ≡ word s 2 → q ≡ word s 4 → OutputsReady s g q w b
-    outputs_ready e f = record {
-      stated = has_outputs s r.accepted e f;
+    pub outputs_ready : {q : ℕ} → q ≡ word s 4 → OutputsReady s q w b
+    outputs_ready f = record {
       wires = λ o h. output_small o (omega (arith, outputs_of_length s, f));
       room = omega (arith, outputs_of_length s, r.outputs, f);
     }
@@ -150,22 +148,20 @@ module _ {s xs rs : List ℕ} (a b : List ℕ) (r : RunGood s xs rs (length a) (
 
 -- what a refused run and a run that is not refused answer
 pub run_refused :
-    {f : Fault} {t : Table} {xs rs a b : List ℕ} {r : DRefusal.Refusal} → Refused f r → (r.number ≡ 0 → ⊥)
-    → RunDone f t xs rs a a b b (record { number = r.number; place = r.place; value = 0 })
-run_refused {f} {t} {xs} {rs} {a} {b} h k = record {
-  answer = answered_refused h k;
-  values = after_refused h k (run t xs rs) a;
-  outputs = after_refused h k (outputs_of t (run t xs rs)) b;
+    {f : Fault} (t : Table) (xs rs a b : List ℕ) (e : DRefusal.Refusal) → f ≡ fault_of e
+    → RunDone f t xs rs a a b b (answer_of (Err e))
+run_refused t xs rs a b e h = record {
+  answer = answered_refused e h;
+  values = after_refused e h (run t xs rs) a;
+  outputs = after_refused e h (outputs_of t (run t xs rs)) b;
 }
 
 pub run_done :
-    {f : Fault} {t : Table} {xs rs a a' b b' : List ℕ} {r : DRefusal.Refusal} {v : ℕ} → Refused f r → r.number ≡ 0
+    {f : Fault} (t : Table) (xs rs : List ℕ) {a a' b b' : List ℕ} {v : ℕ} → f ≡ none
     → (v ≡ wires t) × (a' ≡ over (run t xs rs) a) × (b' ≡ over (outputs_of t (run t xs rs)) b)
-    → RunDone f t xs rs a a' b b' (record { number = r.number; place = r.place; value = v })
-run_done {f} {t} {xs} {rs} {a} {a'} {b} {b'} h k e =
-    let passes = refused_passed h k in
-    record {
-      answer = rw e.0 (answered_done h k);
-      values = after_passed f (run t xs rs) a passes e.1;
-      outputs = after_passed f (outputs_of t (run t xs rs)) b passes e.2;
-    }
+    → RunDone f t xs rs a a' b b' (answer_of (Ok v))
+run_done {f} t xs rs {a} {a'} {b} {b'} h e = record {
+  answer = rw e.0 (answered_done h);
+  values = after_passed f (run t xs rs) a h e.1;
+  outputs = after_passed f (outputs_of t (run t xs rs)) b h e.2;
+}

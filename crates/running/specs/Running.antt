@@ -5,11 +5,9 @@ use Rattle.std.specs.Prelude.{List, ℕ, ◌≤◌, ◌<◌, length, get_or}
 use Rattle.tables.specs.Tables.{Table, table_of}
 use Rattle.tables.specs.Runs.{run, randoms}
 use Rattle.tables.specs.Packing.{tape_of}
-use Rattle.tables.specs.Inside.{HasOutputs}
 
 -- the q output wires that the bytes s state, each with a value in vs, and room for their values in out
-pub record OutputsReady (s : List ℕ) (g q : ℕ) (vs out : List ℕ) : Type 0 where
-  pub stated : HasOutputs s g q
+pub record OutputsReady (s : List ℕ) (q : ℕ) (vs out : List ℕ) : Type 0 where
   pub wires : (o : ℕ) → o < q → get_or (table_of s).outputs o 0 < length vs
   pub room : q ≤ length out
 
