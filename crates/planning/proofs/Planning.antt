@@ -1,7 +1,7 @@
 -- Which of refusals 1 to 8 answers for a plain table and an order, and the sizes where none does.
 -- Assumes nothing.
 use mathlib.Core.Path.{◌≡◌, refl, sym, ap, subst, ◌∙◌}
-use mathlib.Core.Bool.{Bool, true, false, ◌||◌, not, cond}
+use mathlib.Core.Bool.{Bool, true, false, ◌||◌, not}
 use mathlib.Core.List.{List}
 use Prim.Native.Nat.{ℕ, zero, suc, ◌+◌, ◌*◌, ◌≤◌, ◌<◌}
 use native.Mathlib.Nat.{mul-le-mul}
@@ -15,22 +15,19 @@ use Rattle.tables.specs.declared.Refusal as DRefusal
 use Rattle.tables.specs.Refusals.{Fault, fault, none, passed, or_else, refused_if}
 use Rattle.tables.specs.Tables.{Kind, NOT, XOR, AND, RANDOM, CONSTANT, OR, UNKNOWN, kind_of, Gate, no_gate, gate_of, Table, wires, table_of}
 use Rattle.tables.specs.Tables.{table_bytes, table_fault, is_random, random_fault}
+use Rattle.tables.specs.Refusing.{fault_of}
+use Rattle.tables.proofs.Answers.{none_passed, first_of, second_of}
 use Rattle.tables.specs.Counted.{counts_of}
-use Rattle.tables.specs.Inside.{Refused}
-use Rattle.tables.proofs.Tests.{both_passed, first_passed, not_refused, or_else_assoc}
-use Rattle.tables.proofs.Answers.{refused_is, refused_same, refused_passed, refused_fails, first_of}
-use Rattle.tables.proofs.Total.{total_below, total_small}
-use Rattle.tables.proofs.Format.{table_long_lem}
-use Rattle.tables.proofs.Accept.{gates_of_length, accepted_few}
+use Rattle.tables.proofs.Tests.{first_passed, not_refused, or_else_assoc}
+use Rattle.tables.proofs.Total.{count_plain, total_below, total_small}
+use Rattle.tables.proofs.Format.{table_long_lem, passed_sound_gates, sound_at, known_byte}
+use Rattle.tables.proofs.Accept.{accepted_long, gates_are, gates_of_length, outputs_of_length, accepted_few, has_gates, has_outputs}
+use Rattle.tables.specs.Inside.{HasGates, HasOutputs}
 use Rattle.tables.specs.declared.Counts as DCounts
 use Rattle.planning.specs.declared.Totals as DTotals
 use Rattle.planning.specs.declared.Plan as DPlan
 use Rattle.planning.specs.declared.Tally as DTally
 use Rattle.planning.specs.declared.Masked as DMasked
-use Rattle.planning.specs.declared.Tallied as DTallied
-use Rattle.planning.specs.declared.Tallied.TheVariants as Tallied
-use Rattle.planning.specs.declared.Planned as DPlanned
-use Rattle.planning.specs.declared.Planned.TheVariants as Planned
 use Rattle.construction.specs.Shares.{shares_of}
 use Rattle.construction.specs.declared.And as DAnd
 use Rattle.construction.specs.declared.And.TheVariants.{Isw}
@@ -39,8 +36,8 @@ use Rattle.construction.specs.Wires.{cost, masked_table, tape_long}
 use Rattle.construction.specs.Says.{order_ok, order_fault, too_many, plain_fault}
 use Rattle.construction.specs.Counts.{draws, counted, figures_by}
 use Rattle.planning.specs.Maskable.{maskable_fault}
-use Rattle.planning.specs.Plans.{Maskable, FewGates, TotalsSay, Countable, TallyOf, TalliedSays, MaskedBy, too_large}
-use Rattle.planning.specs.Plans.{no_plan, plan_of, PlannedBy, planned_fault, planned_sizes, PlanReady, PlanSays, PlanFits, plan_bytes}
+use Rattle.planning.specs.Plans.{Maskable, FewGates, TotalsSay, Countable, TallyOf, Tallied, MaskedBy, too_large}
+use Rattle.planning.specs.Plans.{PlanReady, PlanFits, plan_bytes}
 use Rattle.construction.proofs.Passed.{PlainPassed, plain_passed}
 use Rattle.construction.proofs.Orders.{order_range}
 use Rattle.construction.proofs.Lawful.{lawful}
@@ -81,6 +78,8 @@ module _ {t : Table} {i b : ℕ} (S : Searching t i) (h : i < length t.gates) (e
 pub search_end : {t : Table} {i : ℕ} → Searching t i → length t.gates ≤ i → random_fault 0 t.gates ≡ none
 unfolding random_fault
 search_end {t} {i} S h = S.rest ∙ rw (drop_of_length-le t.gates {i = i} h)
+
+pub ruleset search_laws = (count_plain, gates_are, search_found, search_turn, search_end)
 
 -- so many gates, inputs or outputs, times what is at most m
 pub few_times : (c v m : ℕ) → c ≤ 65535 → v ≤ m → c * v ≤ 65535 * m
@@ -154,62 +153,33 @@ countable {s} {o} M hi hq e =
           (counts_few (table_of s).gates (omega (arith, gates_of_length s, accepted_few s M.table)));
     }
 
--- an answer that refuses
-pub refuses :
-    {f : Fault} {s : List ℕ} {o : ℕ} {r : DRefusal.Refusal} → Refused f r → (r.number ≡ 0 → ⊥)
-    → PlanSays f s o (Planned.Refused r)
-refuses {f} {s} {o} {r} R h =
-    let fails = refused_fails R h in
-    record {
-      fault = λ i. record { number = R.number i; place = R.place i };
-      order = rw fails;
-      sizes = λ e. let z : ◌≡◌ {A = ℕ} 0 1 = cc in absurd (omega (arith, z));
-    }
+-- what 1 to 7 accept, and its tally
+pub tallied :
+    {s : List ℕ} {o : ℕ} {y : DTally.Tally} → table_fault s ≡ none → order_fault o ≡ none
+    → random_fault 0 (table_of s).gates ≡ none → TallyOf (table_of s) y → y.inputs < 65536 → y.outputs < 65536
+    → (maskable_fault s o ≡ none) × Tallied s o y
+tallied {s} {o} t p r T hi ho =
+    let accepted : Maskable s o = record {
+      table = none_passed t;
+      order = not-false (order_ok o) (not_refused (not (order_ok o)) 6 refl (none_passed p));
+      plain = none_passed r;
+    } in
+    (rw (t, p, r), record { accepted = accepted; tally = T; countable = countable accepted hi ho T.counts })
 
--- the checks of the plan in their order: 1 to 5, then 6 and 7, then 8
-pub table_refused :
-    (s : List ℕ) (o : ℕ) {r : DRefusal.Refusal} → Refused (table_fault s) r → (r.number ≡ 0 → ⊥) → Refused (maskable_fault s o) r
-unfolding maskable_fault
-table_refused s o R h = first_of _ R h
-
-module _ (s : List ℕ) (o : ℕ) {r : DRefusal.Refusal} (T : passed (table_fault s) ≡ true)
-    (R : Refused (or_else (order_fault o) (random_fault 0 (table_of s).gates)) r) where
-  pub chain_refused : Refused (maskable_fault s o) r
-  unfolding maskable_fault
-  chain_refused = rw T R
-
-  pub maskable : r.number ≡ 0 → Maskable s o
-  maskable h =
-      let both = both_passed (order_fault o) (random_fault 0 (table_of s).gates) (refused_passed R h) in
-      record {
-        table = T;
-        order = not-false (order_ok o) (not_refused (not (order_ok o)) 6 refl both.0);
-        plain = both.1;
-      }
+pub ruleset tally_laws = (first_of, second_of, none_passed, accepted_long, has_gates)
 
 pub maskable_passed : {s : List ℕ} {o : ℕ} → Maskable s o → passed (maskable_fault s o) ≡ true
-unfolding maskable_fault
 maskable_passed M = rw (M.table, M.order, M.plain)
 
 eight_last :
     (G : Gadget) (s : List ℕ) (o : ℕ)
     → plain_fault G s o ≡ or_else (maskable_fault s o) (refused_if (too_many G o (table_of s)) 8)
-unfolding plain_fault maskable_fault
+unfolding plain_fault
 eight_last G s o =
     let random = random_fault 0 (table_of s).gates in
     let many = refused_if (too_many G o (table_of s)) 8 in
     ap (λ (f : Fault). or_else (table_fault s) f) (or_else_assoc (order_fault o) random many)
     ∙ or_else_assoc (table_fault s) (or_else (order_fault o) random) many
-
-pub seven_refused :
-    {s : List ℕ} {o : ℕ} {r : DRefusal.Refusal} → TalliedSays s o (Tallied.Refused r)
-    → (a : DAnd.And) → PlanSays (plain_fault (gadget_of a) s o) s o (Planned.Refused r)
-seven_refused {s} {o} {r} R a =
-    refuses (refused_same (eight_last (gadget_of a) s o) (first_of (refused_if (too_many (gadget_of a) o (table_of s)) 8) R.0 R.1)) R.1
-
--- what a tally says, by its case
-pub tallied_as : (s : List ℕ) (o : ℕ) {r q : DTallied.Tallied} → TalliedSays s o r → r ≡ q → TalliedSays s o q
-tallied_as s o T e = subst (λ (x : DTallied.Tallied). TalliedSays s o x) e T
 
 -- the gates' totals at n shares that the code has computed
 pub totals_at : {n m : ℕ} {c : DCounts.Counts} {r : DTotals.Totals} → n ≡ m → TotalsSay c n r → TotalsSay c m r
@@ -237,24 +207,9 @@ masked_fits {o} {i} {q} {c} {m} C M =
       tape = omega (arith, M.tape, few_total_draws C.gates C.order T, inputs);
     }
 
--- 8 by masked sizes, or the plan
-pub planned_large :
-    {o : ℕ} {y : DTally.Tally} {m : DMasked.Masked} {z : DRefusal.Refusal} → too_large m ≡ true → Refused (fault 8 0) z
-    → PlannedBy o y m (Planned.Refused z)
-planned_large {o} {y} {m} e R = record {
-  fault = (λ j. record { number = R.number j; place = R.place j }) ∙ sym (ap (λ (b : Bool). refused_if b 8) e);
-  sizes = sym (ap (λ (b : Bool). cond b no_plan (plan_of o y m)) e);
-}
-
-pub planned_small :
-    {o : ℕ} {y : DTally.Tally} {m : DMasked.Masked} → too_large m ≡ false → PlannedBy o y m (Planned.Ready (plan_of o y m))
-planned_small {o} {y} {m} e = record {
-  fault = sym (ap (λ (b : Bool). refused_if b 8) e);
-  sizes = sym (ap (λ (b : Bool). cond b no_plan (plan_of o y m)) e);
-}
-
 -- the masked sizes of a table by its tally
-module _ {t : Table} {y : DTally.Tally} {o : ℕ} {m : DMasked.Masked} (T : TallyOf t y) (M : MaskedBy o y.inputs y.outputs y.counts m) where
+module _ {t : Table} {y : DTally.Tally} {o : ℕ} {m : DMasked.Masked}
+    (T : TallyOf t y) (M : MaskedBy o y.inputs y.outputs y.counts m) where
   tally_wires : m.wires ≡ (figures_of o t).wires
   tally_wires = M.wires ∙ (λ j. (figures_by o (T.inputs j) (T.outputs j) (T.counts j)).wires)
 
@@ -279,71 +234,6 @@ module _ {t : Table} {y : DTally.Tally} {o : ℕ} {m : DMasked.Masked} (T : Tall
     pub large_many : too_large m ≡ too_many (gadget_of a) o t
     large_many = λ j. ltb 65535 (wires_masked j) || ltb 65535 (tally_outputs j)
 
--- what was planned by the masked sizes of a table's tally is what the table comes to
-pub planned_tally :
-    {s : List ℕ} {o : ℕ} {y : DTally.Tally} {m : DMasked.Masked} {r : DPlanned.Planned} → Maskable s o → TallyOf (table_of s) y
-    → MaskedBy o y.inputs y.outputs y.counts m → PlannedBy o y m r
-    → (a : DAnd.And) → PlanSays (plain_fault (gadget_of a) s o) s o r
-planned_tally {s} {o} {y} {m} {r} S T M P a =
-    by_case (too_large m)
-    (λ b. eight_last (gadget_of b) s o
-    ∙ first_passed (maskable_fault s o) _ (maskable_passed S)
-    ∙ ap (λ (x : Bool). refused_if x 8) (sym (large_many T M b)))
-    P.fault
-    P.sizes
-  where
-    by_case :
-        (b : Bool) → ((a : DAnd.And) → plain_fault (gadget_of a) s o ≡ refused_if b 8) → planned_fault r ≡ refused_if b 8
-        → planned_sizes r ≡ cond b no_plan (plan_of o y m) → PlanSays (plain_fault (gadget_of a) s o) s o r
-    by_case true e f z =
-        subst (λ (x : Fault). PlanSays x s o r) (sym (e a))
-        (record {
-          fault = f;
-          order = ap (λ (p : DPlan.Plan). p.order) z;
-          sizes = λ h. let no : ◌≡◌ {A = ℕ} 0 1 = cc in absurd (omega (arith, no));
-        })
-    by_case false e f z =
-        subst (λ (x : Fault). PlanSays x s o r) (sym (e a))
-        (record {
-          fault = f;
-          order = ap (λ (p : DPlan.Plan). p.order) z;
-          sizes = λ h. subst (λ (p : DPlan.Plan). PlanReady s p) (sym z)
-              (record {
-                none = e;
-                inputs = T.inputs;
-                gates = T.gates;
-                outputs = T.outputs;
-                shares = M.shares;
-                wires = wires_masked T M;
-                tape = tape_masked T M;
-              });
-        })
-
--- what an answer says, by its case
-pub planned_as :
-    {f : Fault} {s : List ℕ} {o : ℕ} {r q : DPlanned.Planned} → PlanSays f s o r → r ≡ q → PlanSays f s o q
-planned_as {f} {s} {o} P e = subst (λ (x : DPlanned.Planned). PlanSays f s o x) e P
-
-pub planned_refused :
-    {f : Fault} {s : List ℕ} {o : ℕ} {r : DRefusal.Refusal} → PlanSays f s o (Planned.Refused r)
-    → Refused f r × (r.number ≡ 0 → ⊥)
-planned_refused {f} {s} {o} {r} P =
-    (refused_is f r (sym P.fault), λ e. no (refused_passed (refused_is f r (sym P.fault)) e))
-  where
-    no : passed f ≡ true → ⊥
-    no h = let z : ◌≡◌ {A = ℕ} 0 (shares_of 0) = (P.sizes h).shares in omega (arith, z)
-
-pub record Planned-Ready (f : Fault) (s : List ℕ) (o : ℕ) (p : DPlan.Plan) : Type 0 where
-  pub none : f ≡ none
-  pub order : p.order ≡ o
-  pub ready : PlanReady s p
-
-pub planned_ready :
-    {f : Fault} {s : List ℕ} {o : ℕ} {p : DPlan.Plan} → PlanSays f s o (Planned.Ready p) → Planned-Ready f s o p
-planned_ready P =
-    let e = sym P.fault in
-    record { none = e; order = P.order ∙ rw e; ready = P.sizes (rw e) }
-
 -- a tape has fewer bits than the masked table has wires
 tape_below : (a : DAnd.And) (o : ℕ) (t : Table) → tape_long (gadget_of a) o t ≤ wires (masked_table (gadget_of a) o t)
 tape_below a o t =
@@ -354,6 +244,10 @@ tape_below a o t =
       total_below (λ k. draws k (shares_of o)) (λ k. cost k (shares_of o)) (λ k. draws_below k (shares_of o)) t.gates,
     )
 
+-- the plan of a table, of the same bytes
+pub ready_at : {s s' : List ℕ} {p : DPlan.Plan} → PlanReady s' p → s' ≡ s → PlanReady s p
+ready_at R e = rw e at R
+
 -- what holds of a plan, with whichever AND
 module _ {s : List ℕ} {p : DPlan.Plan} (R : PlanReady s p) where
   few_outputs : p.shares * p.outputs ≡ shares_of p.order * length (table_of s).outputs
@@ -362,6 +256,18 @@ module _ {s : List ℕ} {p : DPlan.Plan} (R : PlanReady s p) where
   -- 1 to 7 accept, and the sizes are small
   pub plan_passed : PlainPassed isw s p.order
   plan_passed = plain_passed isw s p.order (rw (R.none Isw))
+
+  -- the bytes have all the gates and outputs, and each gate is of a kind that there is
+  pub plan_has_gates : HasGates s p.gates
+  plan_has_gates = has_gates s plan_passed.table (R.gates ∙ gates_of_length s)
+
+  pub plan_has_outputs : HasOutputs s p.gates p.outputs
+  plan_has_outputs = has_outputs s plan_passed.table (R.gates ∙ gates_of_length s) (R.outputs ∙ outputs_of_length s)
+
+  pub plan_known : {g b : ℕ} → g < p.gates → kind_of b ≡ (gate_of (table_of s) g).kind → b ≤ 5
+  plan_known {g} {b} h e =
+      let sound = sound_at (table_of s).inputs (table_of s).gates g (passed_sound_gates s plan_passed.table) (omega (arith, R.gates)) in
+      known_byte b (rw e sound.0)
 
   module _ (a : DAnd.And) where
     pub plan_inputs : p.shares * p.inputs ≡ (masked_table (gadget_of a) p.order (table_of s)).inputs
@@ -384,3 +290,41 @@ module _ {s : List ℕ} {p : DPlan.Plan} (R : PlanReady s p) where
         outputs = omega (arith, few_outputs, q.few_outputs);
         tape = omega (arith, R.wires Isw, R.tape Isw, tape_below Isw p.order (table_of s));
       }
+
+-- the refusals 1 to 7 of a tally, then 8 by the masked sizes
+pub seven_refused :
+    (s : List ℕ) (o : ℕ) (e : DRefusal.Refusal) → maskable_fault s o ≡ fault_of e
+    → (a : DAnd.And) → plain_fault (gadget_of a) s o ≡ fault_of e
+seven_refused s o e h a = eight_last (gadget_of a) s o ∙ first_of _ e h
+
+module _ {s : List ℕ} {o : ℕ} {y : DTally.Tally} {m : DMasked.Masked}
+    (T : Tallied s o y) (M : MaskedBy o y.inputs y.outputs y.counts m) where
+  pub plain_by : (a : DAnd.And) → plain_fault (gadget_of a) s o ≡ refused_if (too_large m) 8
+  plain_by a =
+      eight_last (gadget_of a) s o
+      ∙ first_passed (maskable_fault s o) _ (maskable_passed T.accepted)
+      ∙ ap (λ (x : Bool). refused_if x 8) (sym (large_many T.tally M a))
+
+  pub eight_refused : too_large m ≡ true → (a : DAnd.And) → plain_fault (gadget_of a) s o ≡ fault 8 0
+  eight_refused e a = plain_by a ∙ ap (λ (x : Bool). refused_if x 8) e
+
+  -- the plan of a table that 8 does not refuse either
+  pub planned_ready :
+      too_large m ≡ false → PlanReady s (record {
+        order = o;
+        inputs = y.inputs;
+        gates = y.gates;
+        outputs = y.outputs;
+        shares = m.shares;
+        wires = m.wires;
+        tape = m.tape;
+      })
+  planned_ready e = record {
+    none = λ a. plain_by a ∙ ap (λ (x : Bool). refused_if x 8) e;
+    inputs = T.tally.inputs;
+    gates = T.tally.gates;
+    outputs = T.tally.outputs;
+    shares = M.shares;
+    wires = wires_masked T.tally M;
+    tape = tape_masked T.tally M;
+  }

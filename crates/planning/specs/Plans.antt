@@ -1,20 +1,17 @@
 -- For contracts inside the library only: no promise of a call cites this. What a plain table and an order come to: the refusal
 -- that answers, or the sizes of the masked table.
 -- Assumes nothing.
-use Rattle.std.specs.Prelude.{◌≡◌, Bool, true, ◌||◌, cond, List, ℕ, ◌+◌, ◌-◌, ◌*◌, ◌≤◌, ltb, length}
+use Rattle.std.specs.Prelude.{◌≡◌, Bool, true, ◌||◌, List, ℕ, ◌+◌, ◌-◌, ◌*◌, ◌≤◌, ltb, length, Result}
 use Rattle.tables.specs.declared.Counts as DCounts
 use Rattle.planning.specs.declared.Plan as DPlan
 use Rattle.planning.specs.declared.Totals as DTotals
 use Rattle.planning.specs.declared.Tally as DTally
 use Rattle.planning.specs.declared.Masked as DMasked
-use Rattle.planning.specs.declared.Tallied as DTallied
-use Rattle.planning.specs.declared.Tallied.TheVariants as Tallied
-use Rattle.planning.specs.declared.Planned as DPlanned
-use Rattle.planning.specs.declared.Planned.TheVariants as Planned
-use Rattle.tables.specs.Refusals.{Fault, fault, none, passed, refused_if}
+use Rattle.tables.specs.declared.Refusal as DRefusal
+use Rattle.tables.specs.Refusals.{none, passed}
 use Rattle.tables.specs.Tables.{Table, wires, table_of, table_fault, random_fault, table_long}
 use Rattle.tables.specs.Counted.{counts_of}
-use Rattle.tables.specs.Inside.{Refused}
+use Rattle.tables.specs.Inside.{Outcome}
 use Rattle.construction.specs.Shares.{shares_of}
 use Rattle.construction.specs.declared.And as DAnd
 use Rattle.construction.specs.Gadgets.{gadget_of}
@@ -45,20 +42,6 @@ pub record Maskable (s : List ℕ) (o : ℕ) : Type 0 where
   pub order : order_ok o ≡ true
   pub plain : passed (random_fault 0 (table_of s).gates) ≡ true
 
--- the number and the place of each answer
-abbrev pub planned_fault : DPlanned.Planned → Fault
-planned_fault (Planned.Refused r) = fault r.number r.place
-planned_fault (Planned.Ready p) = none
-
--- all sizes are 0
-abbrev pub no_plan : DPlan.Plan
-no_plan = record { order = 0; inputs = 0; gates = 0; outputs = 0; shares = 0; wires = 0; tape = 0 }
-
--- the sizes of each answer, all 0 on a refusal
-abbrev pub planned_sizes : DPlanned.Planned → DPlan.Plan
-planned_sizes (Planned.Refused r) = no_plan
-planned_sizes (Planned.Ready p) = p
-
 -- the sizes of a plain table, and its gates of each kind
 pub record TallyOf (t : Table) (y : DTally.Tally) : Type 0 where
   pub inputs : y.inputs ≡ t.inputs
@@ -66,10 +49,15 @@ pub record TallyOf (t : Table) (y : DTally.Tally) : Type 0 where
   pub outputs : y.outputs ≡ length t.outputs
   pub counts : y.counts ≡ counts_of t.gates
 
+-- what is tallied of a table that 1 to 7 accept at the order o: its sizes and its gates of each kind
+pub record Tallied (s : List ℕ) (o : ℕ) (y : DTally.Tally) : Type 0 where
+  pub accepted : Maskable s o
+  pub tally : TallyOf (table_of s) y
+  pub countable : Countable o y.inputs y.outputs y.counts
+
 -- the first of 1 to 7, or the sizes and the gates of each kind of a table that they accept
-abbrev pub TalliedSays : List ℕ → ℕ → DTallied.Tallied → Type 0
-TalliedSays s o (Tallied.Refused r) = Refused (maskable_fault s o) r × (r.number ≡ 0 → ⊥)
-TalliedSays s o (Tallied.Ready y) = Maskable s o × TallyOf (table_of s) y × Countable o y.inputs y.outputs y.counts
+abbrev pub TalliedSays : List ℕ → ℕ → Result DTally.Tally DRefusal.Refusal → Type 0
+TalliedSays s o r = Outcome (maskable_fault s o) (Tallied s o) r
 
 -- the masked sizes by the formula, of i inputs, q outputs and the counts c
 pub record MaskedBy (o i q : ℕ) (c : DCounts.Counts) (m : DMasked.Masked) : Type 0 where
@@ -83,23 +71,6 @@ pub record MaskedBy (o i q : ℕ) (c : DCounts.Counts) (m : DMasked.Masked) : Ty
 abbrev pub too_large : DMasked.Masked → Bool
 too_large m = ltb 65535 m.wires || ltb 65535 m.outputs
 
--- the plan of masked sizes
-abbrev pub plan_of : ℕ → DTally.Tally → DMasked.Masked → DPlan.Plan
-plan_of o y m = record {
-  order = o;
-  inputs = y.inputs;
-  gates = y.gates;
-  outputs = y.outputs;
-  shares = m.shares;
-  wires = m.wires;
-  tape = m.tape;
-}
-
--- planning by masked sizes: 8, or the plan
-pub record PlannedBy (o : ℕ) (y : DTally.Tally) (m : DMasked.Masked) (r : DPlanned.Planned) : Type 0 where
-  pub fault : planned_fault r ≡ refused_if (too_large m) 8
-  pub sizes : planned_sizes r ≡ cond (too_large m) no_plan (plan_of o y m)
-
 -- none of 1 to 8 refuses at the plan's order, and these are the sizes of the plain table and of its masked table, with whichever AND
 pub record PlanReady (s : List ℕ) (p : DPlan.Plan) : Type 0 where
   pub none : (a : DAnd.And) → plain_fault (gadget_of a) s p.order ≡ none
@@ -109,12 +80,6 @@ pub record PlanReady (s : List ℕ) (p : DPlan.Plan) : Type 0 where
   pub shares : p.shares ≡ shares_of p.order
   pub wires : (a : DAnd.And) → p.wires ≡ wires (masked_table (gadget_of a) p.order (table_of s))
   pub tape : (a : DAnd.And) → p.tape ≡ tape_long (gadget_of a) p.order (table_of s)
-
--- planning answers the first of 1 to 8 with the fault f, or the sizes
-pub record PlanSays (f : Fault) (s : List ℕ) (o : ℕ) (r : DPlanned.Planned) : Type 0 where
-  pub fault : planned_fault r ≡ f
-  pub order : (planned_sizes r).order ≡ cond (passed f) o 0
-  pub sizes : passed f ≡ true → PlanReady s (planned_sizes r)
 
 -- the length of the masked table of a plan
 abbrev pub plan_bytes : DPlan.Plan → ℕ

@@ -1,17 +1,15 @@
 -- `planning::plan_table` meets its contract: one of 1 to 7, or 8 or the plan by the table's masked sizes.
 -- Assumes nothing.
-use Rattle.planning.proofs.Planning.{tallied_as, seven_refused, planned_tally}
+use mathlib.Core.Path.{sym, ◌∙◌}
+use Rattle.planning.proofs.Planning.{eight_refused, planned_ready, plan_fits}
 use Rattle.planning.proofs.plan_table.Goals as goal
 
-pub returns-in-Refused : goal.returns-in-Refused
-returns-in-Refused c = seven_refused (tallied_as _ _ c.tally_table-tallied.ensures c.in-Refused.is)
+pub returns-then-too_large : goal.returns-then-too_large
+returns-then-too_large c = eight_refused c.in_ok-tally.ensures.1 c.masked_sizes-masked.ensures
+    (sym c.too_large.ensures ∙ c.if-too_large.true)
 
-pub masked_sizes-masked-requires : goal.masked_sizes-masked-requires
-masked_sizes-masked-requires c =
-    (tallied_as _ _ c.tally_table-tallied.ensures c.in-Ready.is).2
-
-pub returns-in-Ready : goal.returns-in-Ready
-returns-in-Ready c =
-    let T = tallied_as _ _ c.tally_table-tallied.ensures
-    c.in-Ready.is in
-    planned_tally T.0 T.1 c.masked_sizes-masked.ensures c.plan_sizes.ensures
+pub invariant_of-result : goal.invariant_of-result
+invariant_of-result c =
+    let ready = planned_ready c.in_ok-tally.ensures.1 c.masked_sizes-masked.ensures
+    (sym c.too_large.ensures ∙ c.if-too_large.false) in
+    record { ready = ready; fits = plan_fits ready }
