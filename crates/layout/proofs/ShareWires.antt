@@ -28,9 +28,6 @@ shares_same m n (suc i) a h k =
 pub share_low : (n i : ℕ) (a : DPlaces.Places) → LowShares n a → i < n → share (share_wires (suc i) a) i < 65536
 share_low n i a low h = subst (λ (w : ℕ). w < 65536) (shares_same n (suc i) i a h (omega arith)) (low i h)
 
-pub low_fewer : (m n : ℕ) (a : DPlaces.Places) → m ≤ n → LowShares n a → LowShares m a
-low_fewer m n a few low i h = subst (λ (w : ℕ). w < 65536) (shares_same n m i a (omega arith) h) (low i (omega arith))
-
 -- what holds of a wire and of all shares holds of the shares of which the first is on that wire
 pub first_each :
     (P : ℕ → Type 0) (n w : ℕ) (a r : DPlaces.Places) → share_wires n r ≡ first_on w (share_wires n a) → P w

@@ -4,7 +4,7 @@
 ghost use Rattle.std.specs.Prelude.{◌≡◌, cond, ◌+◌, ◌-◌, ◌*◌, ◌≤◌, ◌<◌, ℕ, suc, ◌++◌, length};
 ghost use Rattle.construction.specs.Shares.{tri};
 ghost use Rattle.construction.specs.Wires.{share, first_on, and_shares};
-ghost use Rattle.layout.specs.Layout.{share_wires, LowShares, PairReads, LowPair};
+ghost use Rattle.layout.specs.Layout.{share_wires, ReadsShares, PairReads, LowPair};
 ghost use Rattle.tables.specs.Inside.{put_at};
 ghost use Rattle.tables.specs.Tables.{two};
 
@@ -32,18 +32,39 @@ pub struct PairShares {
     pub bi: usize,
 }
 
-impl Operands {
+// What a gate of so many shares reads: its operands' shares, all on wires that a field can hold.
+#[derive(Clone, Copy)]
+pub struct GateReads {
+    pub shares: usize,
+    pub operands: Operands,
+    ghost low: { ReadsShares shares operands },
+}
+
+impl GateReads {
+    // The wires of share i of both operands, counted from 0.
+    pub fn wires(self, i: usize) -> (usize, usize)
+        requires { i < self.shares }
+        ensures left { (result.0 ≡ share (share_wires self.shares self.operands.left) i) × (result.0 < 65536) }
+        ensures right { (result.1 ≡ share (share_wires self.shares self.operands.right) i) × (result.1 < 65536) }
+    {
+        (
+            share_wire(self.operands.left, i),
+            share_wire(self.operands.right, i),
+        )
+    }
+
     // The wires that the products of a pair of shares read.
     pub fn pair(self, p: construction::SharePair) -> PairShares
-        requires { (p.lower < p.upper) × LowShares (suc p.upper) self.left × LowShares (suc p.upper) self.right }
+        requires { (p.lower < p.upper) × (p.upper < self.shares) }
         ensures { LowPair result
-            × ((n : ℕ) → p.upper < n → PairReads (share_wires n self.left) (share_wires n self.right) p result) }
+            × PairReads (share_wires self.shares self.operands.left) (share_wires self.shares self.operands.right) p result }
     {
+        let (ai, bi) = self.wires(p.lower);
         PairShares {
-            ai: share_wire(self.left, p.lower),
-            bj: later_wire(self.right, p.upper),
-            aj: later_wire(self.left, p.upper),
-            bi: share_wire(self.right, p.lower),
+            ai,
+            bj: later_wire(self.operands.right, p.upper),
+            aj: later_wire(self.operands.left, p.upper),
+            bi,
         }
     }
 }

@@ -15,14 +15,13 @@ ghost use Rattle.share_places.specs.Located.{places_at, Room};
 use tables::Kind;
 
 // Writes the operands of an XOR's wires, share by share.
-fn write_xor(ops: &mut [u8], at: usize, n: usize, operands: layout::Operands)
-    requires { ReadsShares n operands × (at + 4 * n ≤ length ops.old) }
-    ensures { ops.new
-        ≡ put_at at (pair_bytes (pieces_from n 0 (xor_gates (share_wires n operands.left) (share_wires n operands.right)))) ops.old }
+fn write_xor(ops: &mut [u8], at: usize, reads: layout::GateReads)
+    requires { at + 4 * reads.shares ≤ length ops.old }
+    ensures { ops.new ≡ put_at at (pair_bytes (pieces_from reads.shares 0
+        (xor_gates (share_wires reads.shares reads.operands.left) (share_wires reads.shares reads.operands.right)))) ops.old }
 {
-    for s in 0..n {
-        let left = layout::share_wire(operands.left, s);
-        let right = layout::share_wire(operands.right, s);
+    for s in 0..reads.shares {
+        let (left, right) = reads.wires(s);
         layout::put_gate(ops, at + 4 * s, left, right);
     }
 }
@@ -39,55 +38,54 @@ fn write_constant(ops: &mut [u8], at: usize, n: usize, value: usize)
 }
 
 // Writes the operands of an AND's wires, from wire w on: the pairs, then the rows.
-fn write_and(
-    and: construction::And,
-    ops: &mut [u8],
-    at: usize,
-    w: usize,
-    n: usize,
-    operands: layout::Operands,
-)
-    requires { ReadsShares n operands × (w + cost AND n ≤ 65536) × (at + 4 * cost AND n ≤ length ops.old) }
-    ensures { ops.new
-        ≡ put_at at (pair_bytes (and_gates (gadget_of and) n w (share_wires n operands.left) (share_wires n operands.right))) ops.old }
+fn write_and(and: construction::And, ops: &mut [u8], at: usize, w: usize, reads: layout::GateReads)
+    requires { (w + cost AND reads.shares ≤ 65536) × (at + 4 * cost AND reads.shares ≤ length ops.old) }
+    ensures { ops.new ≡ put_at at (pair_bytes (and_gates (gadget_of and) reads.shares w
+        (share_wires reads.shares reads.operands.left) (share_wires reads.shares reads.operands.right))) ops.old }
 {
-    let v = mask_pairs::write_pairs(and, ops, at, w, n, operands);
-    mask_rows::write_rows(and, ops, at + 4 * (v - w), v, w, n, operands);
+    let v = mask_pairs::write_pairs(and, ops, at, w, reads);
+    mask_rows::write_rows(and, ops, at + 4 * (v - w), v, w, reads);
 }
 
 // Writes the operands of an OR's wires, from wire w on: the NOTs of both first shares, the AND, the NOT of its first share.
-fn write_or(
-    and: construction::And,
-    ops: &mut [u8],
-    at: usize,
-    w: usize,
-    n: usize,
-    operands: layout::Operands,
-)
-    requires { (1 ≤ n) × ReadsShares n operands × (w + cost OR n ≤ 65536) × (at + 4 * cost OR n ≤ length ops.old) }
-    ensures { ops.new
-        ≡ put_at at (pair_bytes (or_gates (gadget_of and) n w (share_wires n operands.left) (share_wires n operands.right))) ops.old }
+fn write_or(and: construction::And, ops: &mut [u8], at: usize, w: usize, reads: layout::GateReads)
+    requires { (1 ≤ reads.shares) × (w + cost OR reads.shares ≤ 65536) × (at + 4 * cost OR reads.shares ≤ length ops.old) }
+    ensures { ops.new ≡ put_at at (pair_bytes (or_gates (gadget_of and) reads.shares w
+        (share_wires reads.shares reads.operands.left) (share_wires reads.shares reads.operands.right))) ops.old }
 {
+    let n = reads.shares;
+    let operands = reads.operands;
     let last = layout::and_first(n, w + 2);
     let end = at + 8 + 4 * gate_costs::and_cost(n);
-    let inverted = layout::Operands {
-        left: layout::first_on(w, operands.left),
-        right: layout::first_on(w + 1, operands.right),
+    let inverted = layout::GateReads {
+        shares: n,
+        operands: layout::Operands {
+            left: layout::first_on(w, operands.left),
+            right: layout::first_on(w + 1, operands.right),
+        },
     };
     layout::put_gate(ops, at, operands.left.head, 0);
     layout::put_gate(ops, at + 4, operands.right.head, 0);
-    write_and(and, ops, at + 8, w + 2, n, inverted);
+    write_and(and, ops, at + 8, w + 2, inverted);
     layout::put_gate(ops, end, last, 0);
 }
 
-// Where the shares of both operands of a gate are.
-fn operands_at(places: &[share_places::KeptPlaces], left: usize, right: usize) -> layout::Operands
-    requires { Room (left + 1) places.now × Room (right + 1) places.now }
-    ensures { result ≡ operands_at places.now left right }
+// What a gate of n shares reads, where an array says where its operands' shares are.
+fn reads_of(
+    places: &[share_places::KeptPlaces],
+    left: usize,
+    right: usize,
+    n: usize,
+) -> layout::GateReads
+    requires { Room (left + 1) places.now × Room (right + 1) places.now × ReadsShares n (operands_at places.now left right) }
+    ensures { (result.shares ≡ n) × (result.operands ≡ operands_at places.now left right) }
 {
-    layout::Operands {
-        left: share_places::places_at(places, left),
-        right: share_places::places_at(places, right),
+    layout::GateReads {
+        shares: n,
+        operands: layout::Operands {
+            left: share_places::places_at(places, left),
+            right: share_places::places_at(places, right),
+        },
     }
 }
 
@@ -113,10 +111,10 @@ pub fn write_operands_of(
     match kind {
         // A NOT reads one number alone: tables of NOTs took a third more where every kind read all six.
         Kind::Not => layout::put_gate(ops, at, places[left].head as usize, 0),
-        Kind::Xor => write_xor(ops, at, n, operands_at(places, left, right)),
-        Kind::And => write_and(and, ops, at, w, n, operands_at(places, left, right)),
+        Kind::Xor => write_xor(ops, at, reads_of(places, left, right, n)),
+        Kind::And => write_and(and, ops, at, w, reads_of(places, left, right, n)),
         Kind::Random => {}
         Kind::Constant => write_constant(ops, at, n, left),
-        Kind::Or => write_or(and, ops, at, w, n, operands_at(places, left, right)),
+        Kind::Or => write_or(and, ops, at, w, reads_of(places, left, right, n)),
     }
 }

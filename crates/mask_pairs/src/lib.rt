@@ -7,7 +7,7 @@ ghost use Rattle.tables.specs.Tables.{pair_bytes};
 ghost use Rattle.construction.specs.Shares.{in_turn, pairs, tri};
 ghost use Rattle.construction.specs.Gadgets.{all_five, gadget_of};
 ghost use Rattle.mask_pairs.specs.PairRoom.{PairRoom, PairNo};
-ghost use Rattle.layout.specs.Layout.{share_wires, ReadsShares, pair_gates};
+ghost use Rattle.layout.specs.Layout.{share_wires, pair_gates};
 
 // Writes the operands of a pair's five wires, from wire w on.
 fn write_five(and: construction::And, ops: &mut [u8], at: usize, w: usize, x: layout::PairShares)
@@ -23,7 +23,7 @@ fn write_five(and: construction::And, ops: &mut [u8], at: usize, w: usize, x: la
     layout::put_gate(ops, at + 16, w + form.fifth.left, w + form.fifth.right);
 }
 
-// The same. Each AND has its own call, so that the compiler knows the form where it writes.
+// The same. Each AND has its own call, so that the compiler knows the form where it writes: without, masking takes longer.
 fn write_pair(and: construction::And, ops: &mut [u8], at: usize, w: usize, x: layout::PairShares)
     requires { PairRoom w x at ops.old }
     ensures { ops.new
@@ -62,21 +62,19 @@ pub fn write_pairs(
     ops: &mut [u8],
     at: usize,
     w: usize,
-    n: usize,
-    operands: layout::Operands,
+    reads: layout::GateReads,
 ) -> usize
-    requires { ReadsShares n operands × (w + 5 * tri n ≤ 65536) × (at + 20 * tri n ≤ length ops.old) }
-    ensures { (result ≡ w + 5 * tri n)
+    requires { (w + 5 * tri reads.shares ≤ 65536) × (at + 20 * tri reads.shares ≤ length ops.old) }
+    ensures { (result ≡ w + 5 * tri reads.shares)
         × (ops.new
-        ≡ put_at at (pair_bytes (in_turn 5 w (pairs n)
-        (pair_gates (gadget_of and) (share_wires n operands.left) (share_wires n operands.right)))) ops.old) }
+        ≡ put_at at (pair_bytes (in_turn 5 w (pairs reads.shares)
+        (pair_gates (gadget_of and) (share_wires reads.shares reads.operands.left) (share_wires reads.shares reads.operands.right)))) ops.old) }
 {
-    let m = gate_costs::pair_count(n);
+    let m = gate_costs::pair_count(reads.shares);
     let mut p = construction::SharePair { lower: 0, upper: 1 };
     for c in 0..m {
-        let x = operands.pair(p);
-        write_pair(and, ops, at + 20 * c, w + 5 * c, x);
-        p = next_pair(p, n);
+        write_pair(and, ops, at + 20 * c, w + 5 * c, reads.pair(p));
+        p = next_pair(p, reads.shares);
     }
     w + 5 * m
 }

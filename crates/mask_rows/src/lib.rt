@@ -7,7 +7,7 @@ ghost use Rattle.tables.specs.Tables.{pair_bytes};
 ghost use Rattle.construction.specs.Shares.{tri, pair_at};
 ghost use Rattle.construction.specs.Gadgets.{first, gadget_of};
 ghost use Rattle.construction.specs.Wires.{pair_wire};
-ghost use Rattle.layout.specs.Layout.{share_wires, ReadsShares, high_gates, low_gates, row_gates, rows_gates};
+ghost use Rattle.layout.specs.Layout.{share_wires, high_gates, low_gates, row_gates, rows_gates};
 
 // Writes the operands of a row's last m sums, the first of which reads wire last: they add one wire each of m pairs, from
 // wire z on.
@@ -59,16 +59,16 @@ fn write_row(
     at: usize,
     v: usize,
     w: usize,
-    n: usize,
     i: usize,
-    operands: layout::Operands,
+    reads: layout::GateReads,
 )
-    requires { ReadsShares n operands × (i < n) × (v + n ≤ 65536) × (w + 5 * tri n ≤ 65536) × (at + 4 * n ≤ length ops.old) }
-    ensures { ops.new
-        ≡ put_at at (pair_bytes (row_gates (gadget_of and) n w v (share_wires n operands.left) (share_wires n operands.right) i)) ops.old }
+    requires { (i < reads.shares) × (v + reads.shares ≤ 65536) × (w + 5 * tri reads.shares ≤ 65536)
+        × (at + 4 * reads.shares ≤ length ops.old) }
+    ensures { ops.new ≡ put_at at (pair_bytes (row_gates (gadget_of and) reads.shares w v
+        (share_wires reads.shares reads.operands.left) (share_wires reads.shares reads.operands.right) i)) ops.old }
 {
-    let ai = layout::share_wire(operands.left, i);
-    let bi = layout::share_wire(operands.right, i);
+    let n = reads.shares;
+    let (ai, bi) = reads.wires(i);
     layout::put_gate(ops, at, ai, bi);
     let z = write_high_sums(and, ops, at + 4, v, w, n, i);
     write_low_sums(and, ops, at + 4 + 4 * i, v + i, z, n - 1 - i);
@@ -81,17 +81,16 @@ pub fn write_rows(
     at: usize,
     v: usize,
     w: usize,
-    n: usize,
-    operands: layout::Operands,
+    reads: layout::GateReads,
 )
-    requires { ReadsShares n operands
-        × (v + n * n ≤ 65536)
-        × (w + 5 * tri n ≤ 65536)
-        × (at + 4 * (n * n) ≤ length ops.old) }
-    ensures { ops.new
-        ≡ put_at at (pair_bytes (rows_gates (gadget_of and) n w v (share_wires n operands.left) (share_wires n operands.right))) ops.old }
+    requires { (v + reads.shares * reads.shares ≤ 65536)
+        × (w + 5 * tri reads.shares ≤ 65536)
+        × (at + 4 * (reads.shares * reads.shares) ≤ length ops.old) }
+    ensures { ops.new ≡ put_at at (pair_bytes (rows_gates (gadget_of and) reads.shares w v
+        (share_wires reads.shares reads.operands.left) (share_wires reads.shares reads.operands.right))) ops.old }
 {
+    let n = reads.shares;
     for i in 0..n {
-        write_row(and, ops, at + 4 * (n * i), v + n * i, w, n, i, operands);
+        write_row(and, ops, at + 4 * (n * i), v + n * i, w, i, reads);
     }
 }

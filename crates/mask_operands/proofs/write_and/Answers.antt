@@ -21,10 +21,10 @@ use Rattle.mask_operands.proofs.write_and.Goals as goal
 pub returns : goal.returns
 returns c =
     let G : Gadget = gadget_of c.args.and in
-    let n = c.args.n in
+    let n = c.args.reads.shares in
     let w = c.args.w in
-    let A = share_wires n c.args.operands.left in
-    let B = share_wires n c.args.operands.right in
+    let A = share_wires n c.args.reads.operands.left in
+    let B = share_wires n c.args.reads.operands.right in
     let at = c.args.at in
     let b = c.args.ops.now in
     let all = in_turn 5 w (pairs n) (pair_gates G A B) in
@@ -32,7 +32,7 @@ returns c =
     let long : length (pair_bytes all) ≡ 20 * tri n = omega (arith, pairs_long all, each, pairs_length n 0) in
     let next = c.write_pairs-v.ensures.0 in
     rw pairs_append
-    (put_then at (pair_bytes all) (pair_bytes (rows_gates G n w _ A B)) b (omega (arith, c.requires.2)) c.write_pairs-v.ensures.1
+    (put_then at (pair_bytes all) (pair_bytes (rows_gates G n w _ A B)) b (omega (arith, c.requires.1)) c.write_pairs-v.ensures.1
     (omega (arith, long, next))
     c.write_rows.ensures
     ∙ ap {A = ℕ} {B = List ℕ} (λ v. put_at at (pair_bytes all ++ pair_bytes (rows_gates G n w v A B)) b) next)

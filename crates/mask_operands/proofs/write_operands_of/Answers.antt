@@ -19,15 +19,15 @@ pub returns-in-Xor : goal.returns-in-Xor
 returns-in-Xor c g =
     let a = c.args in
     rw c.in-Xor.is
-    (written_where (gadget_of a.and) XOR a.left a.n g a.w a.at a.ops.now (λ A B. pieces_from a.n 0 (xor_gates A B))
-    (xor_gates_lem (gadget_of a.and) a.left a.n g a.w) c.operands_at.ensures c.write_xor.ensures)
+    (written_where (gadget_of a.and) XOR a.left a.n g a.w a.at a.ops.now (λ n A B. pieces_from n 0 (xor_gates A B))
+    (xor_gates_lem (gadget_of a.and) a.left a.n g a.w) c.reads_of.ensures.0 c.reads_of.ensures.1 c.write_xor.ensures)
 
 pub returns-in-And : goal.returns-in-And
 returns-in-And c g =
     let a = c.args in
     rw c.in-And.is
-    (written_where (gadget_of a.and) AND a.left a.n g a.w a.at a.ops.now (and_gates (gadget_of a.and) a.n a.w)
-    (and_gates_lem (gadget_of a.and) a.n (and_part g) a.w) c.operands_at-in-And.ensures c.write_and.ensures)
+    (written_where (gadget_of a.and) AND a.left a.n g a.w a.at a.ops.now (λ n. and_gates (gadget_of a.and) n a.w)
+    (and_gates_lem (gadget_of a.and) a.n (and_part g) a.w) c.reads_of-in-And.ensures.0 c.reads_of-in-And.ensures.1 c.write_and.ensures)
 
 pub returns-in-Random : goal.returns-in-Random
 unfolding pair_bytes
@@ -44,5 +44,5 @@ pub returns-in-Or : goal.returns-in-Or
 returns-in-Or c g =
     let a = c.args in
     rw c.in-Or.is
-    (written_where (gadget_of a.and) OR a.left a.n g a.w a.at a.ops.now (or_gates (gadget_of a.and) a.n a.w)
-    (or_gates_lem (gadget_of a.and) a.left a.n g a.w) c.operands_at-in-Or.ensures c.write_or.ensures)
+    (written_where (gadget_of a.and) OR a.left a.n g a.w a.at a.ops.now (λ n. or_gates (gadget_of a.and) n a.w)
+    (or_gates_lem (gadget_of a.and) a.left a.n g a.w) c.reads_of-in-Or.ensures.0 c.reads_of-in-Or.ensures.1 c.write_or.ensures)

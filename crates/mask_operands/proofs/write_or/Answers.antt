@@ -8,26 +8,26 @@ use Rattle.layout.proofs.ShareWires.{first_each}
 use Rattle.mask_operands.proofs.OrBytes.{or_bytes}
 use Rattle.mask_operands.proofs.write_or.Goals as goal
 
-pub write_and-requires : goal.write_and-requires
-write_and-requires c =
-    let n = c.args.n in
-    let few : c.args.w + 2 < 65536 = omega (arith, c.requires.2) in (
-      record {
-        few = c.requires.1.few;
-        left = first_each (λ x. x < 65536) n c.args.w c.args.operands.left _ (c.first_on.ensures n) (omega arith) c.requires.1.left;
-        right = first_each (λ x. x < 65536) n (c.args.w + 1) c.args.operands.right _ (c.first_on-2.ensures n) (omega arith) c.requires.1.right;
-      },
-      omega (arith, c.requires.2),
-      omega (arith, c.requires.3),
-    )
+pub invariant_of-inverted : goal.invariant_of-inverted
+invariant_of-inverted c =
+    let n = c.args.reads.shares in
+    let low = c.args.reads.low in
+    let wires : c.args.w + 2 < 65536 = omega (arith, c.requires.1) in
+    record {
+      low = record {
+        few = low.few;
+        left = first_each (λ x. x < 65536) n _ _ _ (c.first_on.ensures n) (omega arith) low.left;
+        right = first_each (λ x. x < 65536) n _ _ _ (c.first_on-2.ensures n) (omega arith) low.right;
+      };
+    }
 
 pub returns : goal.returns
 returns c =
-    let n = c.args.n in
-    or_bytes (gadget_of c.args.and) n c.args.w c.args.at (share_wires n c.args.operands.left) (share_wires n c.args.operands.right) c.args.ops.now
+    let n = c.args.reads.shares in
+    or_bytes (gadget_of c.args.and) n c.args.w c.args.at (share_wires n c.args.reads.operands.left) (share_wires n c.args.reads.operands.right) c.args.ops.now
     {u = c.args.w + 1}
     c.requires.0
-    c.requires.3
+    c.requires.2
     c.put_gate.ensures
     c.put_gate-2.ensures
     (omega arith)

@@ -5,30 +5,18 @@ use mathlib.Core.List.{◌++◌}
 use Prim.Native.Nat.{ℕ}
 use native.Mathlib.Omega.{arith}
 use Rattle.tables.specs.Tables.{two, pair_bytes}
-use Rattle.layout.proofs.ShareWires.{share_low}
 use Rattle.layout.proofs.Bytes.{pairs_pieces, put_pieces_start, put_pieces_turn, put_pieces_end}
 use Rattle.mask_operands.proofs.write_xor.Goals as goal
 
 pub loop-s-init : goal.loop-s-init
 unfolding pair_bytes
 loop-s-init c =
-    put_pieces_start 4 c.args.at _ _ _ _ (λ _ _. refl) (omega arith) c.requires.1
-
-pub share_wire-left-requires : goal.share_wire-left-requires
-share_wire-left-requires c =
-    share_low c.args.n _ c.args.operands.left c.requires.0.left c.loop-s-test.true
-
-pub share_wire-right-requires : goal.share_wire-right-requires
-share_wire-right-requires c =
-    share_low c.args.n _ c.args.operands.right c.requires.0.right c.loop-s-test.true
+    put_pieces_start 4 c.args.at _ _ _ _ (λ _ _. refl) (omega arith) c.requires
 
 pub loop-s-preserved : goal.loop-s-preserved
 unfolding pair_bytes
 loop-s-preserved c =
-    let n = c.args.n in
-    let piece = ap₂ (λ (x y : ℕ). two x ++ two y)
-    (c.share_wire-left.ensures.1 n c.loop-s-test.true)
-    (c.share_wire-right.ensures.1 n c.loop-s-test.true) in
+    let piece = ap₂ (λ (x y : ℕ). two x ++ two y) c.wires-left.ensures.left.0 c.wires-left.ensures.right.0 in
     put_pieces_turn c.loop-s.invariant _ _ (omega arith) refl piece c.put_gate.ensures (omega arith)
 
 pub returns : goal.returns

@@ -7,7 +7,6 @@ use native.Mathlib.Numerals.{add-one}
 use native.Mathlib.Omega.{arith}
 use Rattle.tables.specs.Tables.{Gate, pair_bytes}
 use Rattle.construction.specs.Gadgets.{gadget_of}
-use Rattle.layout.proofs.ShareWires.{low_fewer}
 use Rattle.layout.proofs.Bytes.{pairs_pieces, put_pieces_start, put_pieces_turn, put_pieces_end}
 use Rattle.layout.proofs.Pieces.{pairs_in_turn}
 use Rattle.mask_pairs.proofs.PairNumbers.{pair_piece, pair_first}
@@ -15,19 +14,13 @@ use Rattle.mask_pairs.proofs.write_pairs.Goals as goal
 
 pub loop-c-init : goal.loop-c-init
 unfolding pair_bytes
-loop-c-init c = (put_pieces_start 20 c.args.at _ _ _ _ (λ _ _. refl) (omega arith) c.requires.2, pair_first c.args.n)
-
-pub pair-x-requires : goal.pair-x-requires
-pair-x-requires c =
-    let here = c.loop-c.invariant.1 (omega arith) in
-    (here.rising, low_fewer _ _ _ here.inside c.requires.0.left, low_fewer _ _ _ here.inside c.requires.0.right)
+loop-c-init c = (put_pieces_start 20 c.args.at _ _ _ _ (λ _ _. refl) (omega arith) c.requires.1, pair_first c.args.reads.shares)
 
 pub loop-c-preserved : goal.loop-c-preserved
 unfolding pair_bytes
 loop-c-preserved c =
     let here = c.loop-c.invariant.1 (omega arith) in
-    let reads = c.pair-x.ensures.1 c.args.n here.inside in
-    let piece = pair_piece (gadget_of c.args.and) (c.args.w + 5 * c.loop-c.c) _ _ here reads in (
+    let piece = pair_piece (gadget_of c.args.and) (c.args.w + 5 * c.loop-c.c) _ _ here c.pair.ensures.1 in (
       put_pieces_turn c.loop-c.invariant.0 _ _ (omega arith) refl (ap {A = List Gate} {B = List ℕ} pair_bytes piece)
           c.write_pair.ensures (omega arith),
       rw add-one (c.next_pair-p.ensures c.loop-c.c here),

@@ -21,13 +21,13 @@ row-bytes G n w v A B i h = omega (arith, pairs_long (row_gates G n w (v + n * i
 pub loop-i-init : goal.loop-i-init
 loop-i-init c =
     let a = c.args in
-    put_pieces_start _ a.at _ _ _ _ (row-bytes (gadget_of a.and) a.n a.w a.v (share_wires a.n a.operands.left) (share_wires a.n a.operands.right))
-    (omega arith) (omega (arith, c.requires.3))
+    put_pieces_start _ a.at _ _ _ _ (row-bytes (gadget_of a.and) a.reads.shares a.w a.v (share_wires a.reads.shares a.reads.operands.left) (share_wires a.reads.shares a.reads.operands.right))
+    (omega arith) (omega (arith, c.requires.2))
 
 pub loop-i-preserved : goal.loop-i-preserved
 loop-i-preserved c =
     let a = c.args in
-    let long = row-bytes (gadget_of a.and) a.n a.w a.v (share_wires a.n a.operands.left) (share_wires a.n a.operands.right) _ c.loop-i-test.true in
+    let long = row-bytes (gadget_of a.and) a.reads.shares a.w a.v (share_wires a.reads.shares a.reads.operands.left) (share_wires a.reads.shares a.reads.operands.right) _ c.loop-i-test.true in
     put_pieces_turn c.loop-i.invariant _ _ c.loop-i-test.true long refl c.write_row.ensures (omega arith)
 
 pub returns : goal.returns

@@ -9,5 +9,5 @@ use Rattle.mask_rows.proofs.write_rows.Given as goal
 
 abbrev pub invariant-loop-i : goal.invariant-loop-i
 invariant-loop-i l =
-    PutPieces (4 * l.n) l.at l.n (λ i. pair_bytes (row_gates (gadget_of l.and) l.n l.w (l.v + l.n * i) (share_wires l.n l.operands.left) (share_wires l.n l.operands.right) i)) l.initial.ops
-    (l.at + 4 * (l.n * l.i)) l.i l.ops
+    PutPieces (4 * l.reads.shares) l.at l.reads.shares (λ i. pair_bytes (row_gates (gadget_of l.and) l.reads.shares l.w (l.v + l.reads.shares * i) (share_wires l.reads.shares l.reads.operands.left) (share_wires l.reads.shares l.reads.operands.right) i)) l.initial.ops
+    (l.at + 4 * (l.reads.shares * l.i)) l.i l.ops
