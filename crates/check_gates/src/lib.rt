@@ -93,7 +93,7 @@ fn gates_good(gates: &fields::Gates, inputs: usize) -> bool
     (flaws == 0) & (largest <= Kind::Or as u8)
 }
 
-// The first faulty gate: it is looked for only where there is one.
+// The first faulty gate: it is looked for only where there is one. The labelled break, in place of a `?`, is a form of document 01.
 #[tactic(auto, using(crate::proofs::Gates::loop_laws))]
 pub fn gates_fault(gates: &fields::Gates, inputs: usize) -> Result<(), Refusal>
     requires { inputs + gates.now.count ≤ 65535 }
@@ -102,8 +102,12 @@ pub fn gates_fault(gates: &fields::Gates, inputs: usize) -> Result<(), Refusal>
     if gates_good(gates, inputs) {
         return Ok(());
     }
-    for g in 0..gates.count {
-        gate_fault(gates.at(g), g, inputs + g)?;
+    'gates: {
+        for g in 0..gates.count {
+            if let Err(refusal) = gate_fault(gates.at(g), g, inputs + g) {
+                break 'gates Err(refusal);
+            }
+        }
+        Ok(())
     }
-    Ok(())
 }
