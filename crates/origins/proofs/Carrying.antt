@@ -1,111 +1,58 @@
 -- The share numbers that probes carry, for each case that the code tells apart.
 -- Assumes nothing.
-use mathlib.Core.Path.{◌≡◌, refl, sym, ap, ◌∙◌}
-use mathlib.Core.Bool.{Bool, true, false, ◌&&◌, ◌||◌, cond}
+use mathlib.Core.Path.{◌≡◌, refl, sym, ◌∙◌}
+use mathlib.Core.Bool.{Bool, true, false, ◌||◌, cond}
 use mathlib.Core.List.{List, [], ◌∷◌}
-use Prim.Native.Nat.{ℕ, zero, suc, ◌+◌, ◌-◌, ◌*◌, ◌%◌, ◌≤◌, ◌<◌}
+use Prim.Native.Nat.{ℕ, suc, ◌+◌, ◌-◌, ◌*◌, ◌%◌, ◌≤◌, ◌<◌}
 use native.Mathlib.Numerals.{add-one}
 use native.Mathlib.Omega.{arith}
 use borrow.Author.Tests.{ltb-true, ltb-false, eqb-true, eqb-false, le-leb, lt-leb}
 use Rattle.tables.proofs.Tests.{or_false}
 use lib.Dec.{eqb, ltb, leb}
-use lib.ListN.{length}
-use Rattle.tables.specs.Refusals.{fault, none}
-use Rattle.tables.specs.Tables.{XOR, AND, CONSTANT, OR, kind_of, gate, Table, wires, table_of}
+use lib.ListN.{length, get_or}
+use Rattle.std.specs.Prelude.{None, Ok, Err}
+use Rattle.tables.specs.Refusals.{fault, none, refused_if}
+use Rattle.tables.specs.Refusing.{fault_of}
+use Rattle.tables.specs.Kinds.{kind_is}
+use Rattle.tables.specs.Tables.{NOT, XOR, AND, CONSTANT, OR, gate, Table, wires, table_of}
 use Rattle.tables.specs.declared.Refusal as DRefusal
+use Rattle.tables.specs.declared.Refusal.TheVariants as Refusal
 use Rattle.planning.specs.declared.Plan as DPlan
 use Rattle.origins.specs.declared.NewWire as DNewWire
-use Rattle.origins.specs.declared.Carried as DCarried
+use Rattle.construction.specs.declared.Carried as DCarried
 use Rattle.origins.specs.declared.AndPart as DAndPart
 use Rattle.origins.specs.declared.AndPart.TheVariants.{Pair, Own, Sum}
 use Rattle.construction.specs.Shares.{shares_of}
 use Rattle.construction.specs.declared.And as DAnd
-use Rattle.construction.specs.Gadgets.{index_of, Gadget, gadget_of}
-use Rattle.construction.specs.PinMarks.{with_pins, pair_marks}
-use Rattle.construction.specs.Wires.{in_and, xor_share, and_part, constant_share, or_part, part_marks, marks, share, first_on, and_cost, cost}
+use Rattle.construction.specs.Gadgets.{Gadget, gadget_of}
+use Rattle.construction.specs.PinMarks.{with_pins}
+use Rattle.construction.specs.Wires.{in_and, xor_share, and_part, constant_share, or_part, marks, share, first_on, and_cost, cost}
 use Rattle.construction.specs.Wires.{masked_table, origins, origin_at, probe_marks}
 use Rattle.construction.specs.Says.{plain_fault, marks_fault, MarksSay}
-use Rattle.planning.specs.declared.Planned.TheVariants as Planned
-use Rattle.planning.specs.Plans.{PlanReady, PlanSays}
-use Rattle.planning.proofs.Planning.{Planned-Ready, planned_refused}
+use Rattle.construction.specs.Told.{second_of, marks_of}
+use Rattle.planning.specs.Plans.{PlanReady}
 use Rattle.tables.proofs.Answers.{refused_fails, first_of}
-use Rattle.origins.specs.Origins.{five_of, part_of, Among, PartSays, CarriedSays, PartMarksSay, GateMarksSay, NewWireSays}
-use Rattle.ands.specs.declared.PairForm as DPairForm
-use Rattle.ands.specs.Forms.{FormSays}
+use Rattle.origins.specs.Origins.{Among, second_in, PartSays, CarriedSays, PartMarksSay, GateMarksSay, NewWireSays}
+use Rattle.gate_costs.proofs.Figures.{tri_small, square_small}
 use Rattle.construction.proofs.Lawful.{lawful}
 use Rattle.construction.proofs.Passed.{plain_passed}
 use Rattle.construction.proofs.Pins.{probe_marks_lem}
 use Rattle.construction.proofs.Origins.{origins_input, not_origin, share_origin, first_origin, last_origin, inner_origin}
 
--- one share number, or two
+-- one share number
 abbrev pub one : ℕ → DCarried.Carried
-one i = record { first = i + 1; second = 0 }
-
-abbrev pub both : ℕ → ℕ → DCarried.Carried
-both i j = record { first = i + 1; second = j + 1 }
-
-is_one :
-    {G : Gadget} {p : DAndPart.AndPart} (i : ℕ) → part_marks G (part_of p) ≡ suc i ∷ [] → PartMarksSay G p (one i)
-is_one i h = record { carried = record { first = rw h (add-one i); second = rw h } }
-
-is_both :
-    {G : Gadget} {p : DAndPart.AndPart} (i j : ℕ) → part_marks G (part_of p) ≡ suc i ∷ suc j ∷ [] → PartMarksSay G p (both i j)
-is_both i j h = record { carried = record { first = rw h (add-one i); second = rw h (add-one j) } }
-
-index_five : (f : ℕ) → f < 5 → index_of (five_of f) ≡ f
-index_five zero h = refl
-index_five (suc zero) h = refl
-index_five (suc (suc zero)) h = refl
-index_five (suc (suc (suc zero))) h = refl
-index_five (suc (suc (suc (suc zero)))) h = refl
-index_five (suc (suc (suc (suc (suc f))))) h = absurd (omega arith)
-
-pub pair_among :
-    {p : DAndPart.AndPart} (f i j : ℕ) → p ≡ Pair f i j → Among 31 p → (f < 5) × (i < j) × (j < 31)
-pair_among f i j e a = rw e at a
-
--- a wire of a pair, by the form of the AND's pairs
-module _
-    {G : Gadget} {r : DPairForm.PairForm} (F : FormSays G r) {p : DAndPart.AndPart} (f i j : ℕ) (e : p ≡ Pair f i j) (A : Among 31 p)
-  where
-    marks_are : part_marks (with_pins G) (part_of p) ≡ pair_marks r.low (suc i) (suc j) f
-    marks_are =
-        let among = pair_among f i j e A in
-        rw e
-        (F.marks (suc i) (suc j) (omega arith) (five_of f) ∙ ap (pair_marks r.low (suc i) (suc j)) (index_five f among.0))
-
-    -- the first one, where row i adds it
-    pub alone_marks : eqb f 0 && eqb f r.low ≡ true → PartMarksSay (with_pins G) p (one i)
-    alone_marks h = is_one i (marks_are ∙ rw h)
-
-    -- any other
-    pub cross_marks : eqb f 0 && eqb f r.low ≡ false → PartMarksSay (with_pins G) p (both i j)
-    cross_marks h = is_both i j (marks_are ∙ rw h)
-
-module _ {p : DAndPart.AndPart} (i : ℕ) (e : p ≡ Own i) where
-  pub own_among : {n : ℕ} → Among n p → i < n
-  own_among a = rw e at a
-
-  pub own_marks : {G : Gadget} → PartMarksSay G p (one i)
-  own_marks = rw e (is_one i refl)
-
-module _ {p : DAndPart.AndPart} (i m : ℕ) (e : p ≡ Sum i m) where
-  pub sum_among : {n : ℕ} → Among n p → i < n
-  sum_among a = (rw e at a).0
-
-  pub sum_marks : {G : Gadget} → PartMarksSay G p (one i)
-  sum_marks = rw e (is_one i refl)
+one i = record { first = i + 1; second = None }
 
 -- share 1 alone
-first_alone : {ms : List ℕ} → ms ≡ 1 ∷ [] → CarriedSays ms (record { first = 1; second = 0 })
+first_alone : {ms : List ℕ} → ms ≡ 1 ∷ [] → CarriedSays ms (record { first = 1; second = None })
 first_alone e = rw e (record { first = refl; second = refl })
 
 -- new wire d of an OR, whose last one is number e
 module _ (n d : ℕ) {e : ℕ} (last : e ≡ 2 + and_cost n) where
-  pub or_not_marks : {H : Gadget} → ltb d 2 || eqb d e ≡ true → GateMarksSay H OR n d (record { first = 1; second = 0 })
+  pub or_not_marks : {H : Gadget} → ltb d 2 || eqb d e ≡ true → GateMarksSay H OR n d (record { first = 1; second = None })
   or_not_marks {H} h = go (ltb d 2) refl h
     where
-      go : (t : Bool) → ltb d 2 ≡ t → t || eqb d e ≡ true → GateMarksSay H OR n d (record { first = 1; second = 0 })
+      go : (t : Bool) → ltb d 2 ≡ t → t || eqb d e ≡ true → GateMarksSay H OR n d (record { first = 1; second = None })
       go true t h = record { carried = λ G l g w a b. first_alone (first_origin G l n g w a b H d (ltb-true d 2 t)) }
       go false t h = record { carried = λ G l g w a b. first_alone (last_origin G l n g w a b H d (eqb-true d e h ∙ last)) }
 
@@ -118,7 +65,8 @@ module _ (n d : ℕ) {e : ℕ} (last : e ≡ 2 + and_cost n) where
         (ltb-false d 2 both.0, omega (arith, other, last))
 
     pub or_and_marks :
-        {H : Gadget} {p : DAndPart.AndPart} {r : DCarried.Carried} → PartSays n (d - 2) p → PartMarksSay H p r → GateMarksSay H OR n d r
+        {H : Gadget} {p : DAndPart.AndPart} {r : DCarried.Carried}
+        → PartSays n (d - 2) p → PartMarksSay H p r → GateMarksSay H OR n d r
     or_and_marks P M =
         record {
           carried = λ G l g w a b.
@@ -130,63 +78,32 @@ module _ (n d : ℕ) {e : ℕ} (last : e ≡ 2 + and_cost n) where
               M.carried;
         }
 
--- new wire d of the gate of kind k
-module _ (k n d : ℕ) (h : d < cost (kind_of k) n) where
-  pub not_marks : {H : Gadget} → k ≡ 0 → GateMarksSay H (kind_of k) n d (record { first = 1; second = 0 })
-  not_marks e =
-      let small : d < 1 = rw e at h in
-      rw e (record { carried = λ G l g w a b. rw (not_origin G l n g w a b d small) (record { first = refl; second = refl }) })
+pub ruleset or_laws = (tri_small, square_small, or_not_marks, or_and_marks)
 
-  -- an XOR or a constant
-  pub share_below : eqb k 1 || eqb k 4 ≡ true → d < n
-  share_below e = go (eqb k 1) refl e
-    where
-      go : (t : Bool) → eqb k 1 ≡ t → t || eqb k 4 ≡ true → d < n
-      go true t e = rw (eqb-true k 1 t) at h
-      go false t e = rw (eqb-true k 4 e) at h
+-- new wire d of a gate of each other kind
+module _ (n d : ℕ) {H : Gadget} where
+  pub not_marks : d < cost NOT n → GateMarksSay H NOT n d (record { first = 1; second = None })
+  not_marks h = record { carried = λ G l g w a b. rw (not_origin G l n g w a b d h) (record { first = refl; second = refl }) }
 
-  pub share_marks : {H : Gadget} → eqb k 1 || eqb k 4 ≡ true → GateMarksSay H (kind_of k) n d (one d)
-  share_marks {H} e = go (eqb k 1) refl e (share_below e)
-    where
-      go : (t : Bool) → eqb k 1 ≡ t → t || eqb k 4 ≡ true → d < n → GateMarksSay H (kind_of k) n d (one d)
-      go true t e below =
-          rw (eqb-true k 1 t)
-          (record {
-            carried = λ G l g w a b.
-                rw (share_origin n (λ s. gate XOR (share a s) (share b s)) (xor_share g) d below) (record { first = add-one d; second = refl });
-          })
-      go false t e below =
-          rw (eqb-true k 4 e)
-          (record {
-            carried = λ G l g w a b.
-                rw (share_origin n (λ s. gate CONSTANT (cond (eqb s 0) l 0) 0) (constant_share g) d below)
-                (record { first = add-one d; second = refl });
-          })
+  pub xor_marks : d < cost XOR n → GateMarksSay H XOR n d (one d)
+  xor_marks h =
+      record {
+        carried = λ G l g w a b.
+            rw (share_origin n (λ s. gate XOR (share a s) (share b s)) (xor_share g) d h) (record { first = add-one d; second = refl });
+      }
 
-  pub and_below : k ≡ 2 → d < cost AND n
-  and_below e = rw e at h
+  pub constant_marks : d < cost CONSTANT n → GateMarksSay H CONSTANT n d (one d)
+  constant_marks h =
+      record {
+        carried = λ G l g w a b.
+            rw (share_origin n (λ s. gate CONSTANT (cond (eqb s 0) l 0) 0) (constant_share g) d h)
+            (record { first = add-one d; second = refl });
+      }
 
-  pub and_marks :
-      {H : Gadget} {p : DAndPart.AndPart} {r : DCarried.Carried} → k ≡ 2 → PartSays n d p → PartMarksSay H p r → GateMarksSay H (kind_of k) n d r
-  and_marks e P M = rw e (record { carried = λ G l g w a b. rw (P.origin G (and_part g) w a b) M.carried })
+  pub and_marks : {p : DAndPart.AndPart} {r : DCarried.Carried} → PartSays n d p → PartMarksSay H p r → GateMarksSay H AND n d r
+  and_marks P M = record { carried = λ G l g w a b. rw (P.origin G (and_part g) w a b) M.carried }
 
-  -- a gate with new wires of no other kind
-  pub is_or : (k ≡ 0 → ⊥) → eqb k 1 || eqb k 4 ≡ false → (k ≡ 2 → ⊥) → kind_of k ≡ OR
-  is_or p q r =
-      let both = or_false (eqb k 1) (eqb k 4) q in
-      go k p (eqb-false k 1 both.0) r (eqb-false k 4 both.1) h
-    where
-      go : (k : ℕ) → (k ≡ 0 → ⊥) → (k ≡ 1 → ⊥) → (k ≡ 2 → ⊥) → (k ≡ 4 → ⊥) → d < cost (kind_of k) n → kind_of k ≡ OR
-      go zero p q r s h = absurd (p refl)
-      go (suc zero) p q r s h = absurd (q refl)
-      go (suc (suc zero)) p q r s h = absurd (r refl)
-      go (suc (suc (suc zero))) p q r s h = absurd (omega arith)
-      go (suc (suc (suc (suc zero)))) p q r s h = absurd (s refl)
-      go (suc (suc (suc (suc (suc zero))))) p q r s h = refl
-      go (suc (suc (suc (suc (suc (suc k)))))) p q r s h = absurd (omega arith)
-
-  pub or_marks : {H : Gadget} {r : DCarried.Carried} → kind_of k ≡ OR → GateMarksSay H OR n d r → GateMarksSay H (kind_of k) n d r
-  or_marks e M = rw e M
+pub ruleset gate_laws = (not_marks, xor_marks, constant_marks, and_marks)
 
 pub among_more : {n m : ℕ} (p : DAndPart.AndPart) → n ≤ m → Among n p → Among m p
 among_more (Pair f i j) h a = omega arith
@@ -218,45 +135,53 @@ module _ (a : DAnd.And) {s : List ℕ} {p : DPlan.Plan} {w : ℕ} (R : PlanReady
       rw (R.shares, joined_marks.0, origins_input G p.order t w (omega arith))
       (record { first = add-one (w % shares_of p.order); second = refl })
 
-  pub new_below : {x : DNewWire.NewWire} → NewWireSays G t p.order w x → x.place < cost (kind_of x.kind) p.shares
+  pub new_below : {x : DNewWire.NewWire} → NewWireSays G t p.order w x → x.place < cost (kind_is x.kind) p.shares
   new_below N = rw R.shares N.below
 
   pub new_carried :
       {x : DNewWire.NewWire} {r : DCarried.Carried} → NewWireSays G t p.order w x
-      → GateMarksSay (with_pins G) (kind_of x.kind) p.shares x.place r → CarriedSays (probe_marks G p.order t w) r
+      → GateMarksSay (with_pins G) (kind_is x.kind) p.shares x.place r → CarriedSays (probe_marks G p.order t w) r
   new_carried {x} N M =
       rw (joined_marks.0, N.origin) ((rw R.shares at M).carried G N.operand x.gate N.start N.left N.right)
 
+-- the second of one or two share numbers, as C is told of it
+second_is : (ms : List ℕ) → second_of (second_in ms) ≡ get_or ms 1 0
+second_is [] = refl
+second_is (a ∷ []) = refl
+second_is (a ∷ b ∷ ms) = refl
+
 -- the marks call: 1 to 8, 13, and the share numbers
 pub marks_refused :
-    (G : Gadget) {s : List ℕ} {o : ℕ} {r : DRefusal.Refusal} (w : ℕ) → PlanSays (plain_fault G s o) s o (Planned.Refused r)
-    → MarksSay G (probe_marks G) s o w (record { number = r.number; place = r.place; first = 0; second = 0 })
+    (G : Gadget) (s : List ℕ) (o w : ℕ) (e : DRefusal.Refusal) → plain_fault G s o ≡ fault_of e
+    → MarksSay G (probe_marks G) s o w (marks_of (Err e))
 unfolding marks_fault
-marks_refused G w P =
-    let R = planned_refused P in
-    let F = first_of _ R.0 R.1 in
-    let fails = refused_fails F R.1 in
-    record { number = F.number; place = F.place; first = rw fails; second = rw fails }
+marks_refused G s o w e h =
+    let F = first_of (refused_if (leb (wires (masked_table G o (table_of s))) w) 13) e h in
+    let fails = refused_fails e F in
+    record { number = rw F; place = rw F; first = rw fails; second = rw fails }
 
-module _ (a : DAnd.And) {s : List ℕ} {o : ℕ} {p : DPlan.Plan} (P : Planned-Ready (plain_fault (gadget_of a) s o) s o p) where
+module _ (a : DAnd.And) (o w : ℕ) {s s' : List ℕ} {p : DPlan.Plan} (R : PlanReady s' p) (same : (s' ≡ s) × (p.order ≡ o)) where
   masked_wires_are : wires (masked_table (gadget_of a) o (table_of s)) ≡ p.wires
-  masked_wires_are = rw (← P.order) (sym (P.ready.wires a))
+  masked_wires_are = rw (← same.0, ← same.1) (sym (R.wires a))
+
+  none_at : plain_fault (gadget_of a) s o ≡ none
+  none_at = rw (same.0, same.1) at (R.none a)
 
   pub marks_outside :
-      (w : ℕ) → p.wires ≤ w
-      → MarksSay (gadget_of a) (probe_marks (gadget_of a)) s o w (record { number = 13; place = 0; first = 0; second = 0 })
+      p.wires ≤ w → MarksSay (gadget_of a) (probe_marks (gadget_of a)) s o w (marks_of (Err (Refusal.NoWire 0)))
   unfolding marks_fault
-  marks_outside w h =
+  marks_outside h =
       let past : leb (wires (masked_table (gadget_of a) o (table_of s))) w ≡ true = le-leb _ w (omega (arith, masked_wires_are)) in
-      let e : marks_fault (gadget_of a) s o w ≡ fault 13 0 = rw (P.none, past) in
+      let e : marks_fault (gadget_of a) s o w ≡ fault 13 0 = rw (none_at, past) in
       record { number = rw e; place = rw e; first = rw e; second = rw e }
 
   pub marks_inside :
-      (w : ℕ) {c : DCarried.Carried} → w < p.wires → CarriedSays (probe_marks (gadget_of a) p.order (table_of s) w) c
-      → MarksSay (gadget_of a) (probe_marks (gadget_of a)) s o w (record { number = 0; place = 0; first = c.first; second = c.second })
+      {c : DCarried.Carried} → w < p.wires → CarriedSays (probe_marks (gadget_of a) p.order (table_of s') w) c
+      → MarksSay (gadget_of a) (probe_marks (gadget_of a)) s o w (marks_of (Ok c))
   unfolding marks_fault
-  marks_inside w h C =
+  marks_inside h C =
       let before : leb (wires (masked_table (gadget_of a) o (table_of s))) w ≡ false = lt-leb _ w (omega (arith, masked_wires_are)) in
-      let e : marks_fault (gadget_of a) s o w ≡ none = rw (P.none, before) in
-      let D = rw P.order at C in
-      record { number = rw e; place = rw e; first = rw e D.first; second = rw e D.second }
+      let e : marks_fault (gadget_of a) s o w ≡ none = rw (none_at, before) in
+      let D = rw (same.0, same.1) at C in
+      let second = second_is (probe_marks (gadget_of a) o (table_of s) w) in
+      record { number = rw e; place = rw e; first = rw e D.first; second = rw (e, D.second) second }

@@ -7,7 +7,9 @@ use native.Mathlib.Numerals.{add-one}
 use native.Mathlib.Omega.{arith}
 use lib.ListN.{length, get_or, drop, get_or-append}
 use lib.Seq.{get_or-append-add, drop-cons}
-use Rattle.tables.specs.Tables.{kind_of, no_gate, Table, gate_of, table_of, total}
+use Rattle.tables.specs.declared.Kind as DKind
+use Rattle.tables.specs.Kinds.{kind_is}
+use Rattle.tables.specs.Tables.{no_gate, Table, gate_of, table_of, total}
 use Rattle.tables.proofs.Total.{total_next, total_none}
 use Rattle.planning.specs.declared.Plan as DPlan
 use Rattle.construction.specs.Shares.{shares_of, up_from, pair_of, pairs_from, pairs, tri}
@@ -16,7 +18,7 @@ use Rattle.construction.specs.Gadgets.{Gadget, isw}
 use Rattle.construction.specs.Wires.{origin_of, cost, new_shares, input_shares, masked}
 use Rattle.construction.specs.Wires.{origins, origin_at}
 use Rattle.planning.specs.Plans.{PlanReady}
-use Rattle.origins.specs.Origins.{NewWireSays}
+use Rattle.origins.specs.Origins.{PairSays, NewWireSays}
 use Rattle.construction.proofs.Sum.{up_length, up_at}
 use Rattle.construction.proofs.Costs.{masked_wires_lem}
 use Rattle.construction.proofs.Origins.{origins_gate, masked_here, masked_past}
@@ -70,6 +72,22 @@ pair_end {n} {q} {lower} {left} {after} L h =
     ∙ up_at after (suc lower) (λ j. pair_of lower j) left (pair_of 0 0) h
     ∙ rw add-one)
 
+-- the same as the code counts: how many shares stand after share `lower` follows from `lower`
+pub pair_first : {n q after : ℕ} → q < tri n → after ≡ n - 1 - 0 → PairLeft n q 0 q after
+pair_first {n} {q} h e = let same : n - 1 - 0 ≡ n - 1 = omega arith in rw (e, same) (pair_start n q h)
+
+pub pair_next :
+    {n q lower left after next : ℕ} → PairLeft n q lower left after → after ≤ left → next ≡ n - 1 - (lower + 1)
+    → PairLeft n q (lower + 1) (left - after) next
+pair_next {n} {q} {lower} {left} {after} L h e =
+    let same : n - 1 - (lower + 1) ≡ after - 1 = omega (arith, L.shares) in rw (e, same) (pair_turn after L h)
+
+pub pair_found :
+    {n q lower left after upper : ℕ} → PairLeft n q lower left after → left < after → upper ≡ lower + 1 + left
+    → PairSays n q (record { lower = lower; upper = upper })
+pair_found L h e =
+    rw e (record { is = pair_end L h; ordered = omega arith; inside = omega (arith, L.shares) })
+
 -- the search for the plain gate of a wire, at gate g, whose first new wire is `start`: the wire is among the new wires of the
 -- gates left
 pub record Seeking (t : Table) (n wire g start : ℕ) : Type 0 where
@@ -113,7 +131,7 @@ module _ {t : Table} {n wire g start : ℕ} (S : Seeking t n wire g start) where
 
   -- gate g and its c new wires are passed
   pub seek_turn :
-      {c : ℕ} (b : ℕ) → kind_of b ≡ (gate_of t g).kind → c ≡ cost (kind_of b) n → start + c ≤ wire
+      {c : ℕ} (b : DKind.Kind) → kind_is b ≡ (gate_of t g).kind → c ≡ cost (kind_is b) n → start + c ≤ wire
       → Seeking t n wire (g + 1) (start + c)
   seek_turn {c} b k e h =
       let x = gate_of t g in
@@ -132,7 +150,8 @@ module _ {t : Table} {n wire g start : ℕ} (S : Seeking t n wire g start) where
 
   -- the wire is one of gate g's c new wires
   pub seek_end :
-      {b c o : ℕ} → n ≡ shares_of o → kind_of b ≡ (gate_of t g).kind → c ≡ cost (kind_of b) n → wire < start + c
+      {b : DKind.Kind} {c o : ℕ} → n ≡ shares_of o → kind_is b ≡ (gate_of t g).kind → c ≡ cost (kind_is b) n
+      → wire < start + c
       → (G : Gadget) → NewWireSays G t o wire (record { gate = g; kind = b; place = wire - start })
   seek_end {b} {c} {o} en k e h G =
       let x = gate_of t g in

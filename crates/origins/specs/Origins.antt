@@ -2,11 +2,12 @@
 -- answers it: the pair of shares at a place, the part of an AND that
 -- is one of its wires, and the share numbers that an origin carries.
 -- Assumes nothing.
-use Rattle.std.specs.Prelude.{◌≡◌, List, map, ℕ, zero, suc, ◌<◌, get_or}
+use Rattle.std.specs.Prelude.{◌≡◌, List, [], ◌∷◌, map, ℕ, zero, suc, ◌<◌, get_or, Option, Some, None}
 use Rattle.construction.specs.declared.SharePair as DSharePair
-use Rattle.origins.specs.declared.Carried as DCarried
+use Rattle.construction.specs.declared.Carried as DCarried
 use Rattle.origins.specs.declared.NewWire as DNewWire
-use Rattle.tables.specs.Tables.{Kind, kind_of, Table}
+use Rattle.tables.specs.Tables.{Kind, Table}
+use Rattle.tables.specs.Kinds.{kind_is}
 use Rattle.origins.specs.declared.AndPart as DAndPart
 use Rattle.origins.specs.declared.AndPart.TheVariants.{Pair, Own, Sum}
 use Rattle.construction.specs.Shares.{shares_of, pair_of, pairs}
@@ -46,10 +47,16 @@ pub record PartSays (n d : ℕ) (r : DAndPart.AndPart) : Type 0 where
       → origin_at (map origin_of (and_wires G n part w a b)) d ≡ part (part_of r)
   pub among : Among n r
 
--- the share numbers ms, 0 for none
+-- the second number of a list, where it has one
+abbrev pub second_in : List ℕ → Option ℕ
+second_in [] = None
+second_in (a ∷ []) = None
+second_in (a ∷ b ∷ ms) = Some b
+
+-- the share numbers ms: the first, and the second where there is one
 pub record CarriedSays (ms : List ℕ) (r : DCarried.Carried) : Type 0 where
   pub first : r.first ≡ get_or ms 0 0
-  pub second : r.second ≡ get_or ms 1 0
+  pub second : r.second ≡ second_in ms
 
 -- those of a part of an AND, inside an OR too, by the marks of H
 pub record PartMarksSay (H : Gadget) (p : DAndPart.AndPart) (r : DCarried.Carried) : Type 0 where
@@ -68,7 +75,7 @@ pub record NewWireSays (G : Gadget) (t : Table) (o wire : ℕ) (r : DNewWire.New
   pub operand : ℕ
   pub left : List ℕ
   pub right : List ℕ
-  pub below : r.place < cost (kind_of r.kind) (shares_of o)
+  pub below : r.place < cost (kind_is r.kind) (shares_of o)
   pub origin :
       origin_at (origins G o t) wire
-      ≡ origin_at (map origin_of (new_wires G (kind_of r.kind) operand (shares_of o) r.gate start left right)) r.place
+      ≡ origin_at (map origin_of (new_wires G (kind_is r.kind) operand (shares_of o) r.gate start left right)) r.place

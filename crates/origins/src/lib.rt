@@ -3,21 +3,18 @@
 #![tactic(auto)]
 
 ghost use Rattle.std.specs.Prelude.{◌*◌, ◌≤◌, ◌<◌};
-ghost use Rattle.tables.specs.Tables.{kind_of, table_of, AND, OR};
+ghost use Rattle.tables.specs.Tables.{table_of, AND, OR};
+ghost use Rattle.tables.specs.Kinds.{kind_is};
 ghost use Rattle.construction.specs.Shares.{tri};
 ghost use Rattle.construction.specs.Wires.{cost, probe_marks};
 ghost use Rattle.construction.specs.PinMarks.{with_pins};
 ghost use Rattle.construction.specs.Says.{MarksSay};
-ghost use Rattle.planning.specs.Plans.{PlanReady};
+ghost use Rattle.construction.specs.Told.{marks_of};
 ghost use Rattle.construction.specs.Gadgets.{Gadget, gadget_of};
 ghost use Rattle.origins.specs.Origins.{PairSays, Among, PartSays, CarriedSays, PartMarksSay, GateMarksSay, NewWireSays};
 
-// The share numbers that a probe carries, ascending, 0 for none.
-#[derive(Clone, Copy)]
-pub struct Carried {
-    pub first: u8,
-    pub second: u8,
-}
+use construction::Carried;
+use tables::{Kind, Refusal};
 
 // A wire of a masked AND: one of the five of a pair, a row's own product, or a row's sum of some terms. Wires of a pair, shares
 // and rows are counted from 0.
@@ -32,30 +29,32 @@ pub enum AndPart {
 #[derive(Clone, Copy)]
 pub struct NewWire {
     pub gate: usize,
-    pub kind: u8,
+    pub kind: Kind,
     pub place: usize,
 }
 
 // The pair of shares that stands at place q among the pairs of n shares.
+#[tactic(auto, using(crate::proofs::Finding::pair_found))]
 pub fn pair_of(n: usize, q: usize) -> construction::SharePair
     requires { q < tri n }
     ensures { PairSays n q result }
 {
-    let mut lower = 0;
     let mut left = q;
-    let mut after = n - 1;
-    while after <= left {
+    for lower in 0..n {
+        let after = n - 1 - lower;
+        if left < after {
+            return construction::SharePair {
+                lower,
+                upper: lower + 1 + left,
+            };
+        }
         left -= after;
-        after -= 1;
-        lower += 1;
     }
-    construction::SharePair {
-        lower: lower,
-        upper: lower + 1 + left,
-    }
+    unreachable!()
 }
 
 // The part that wire d of a masked AND of n shares is.
+#[tactic(auto, using(gate_costs::proofs::Figures::tri_small, crate::proofs::Origins::own_says, crate::proofs::Origins::sum_says))]
 pub fn and_part(n: usize, d: usize) -> AndPart
     requires { (n ≤ 31) × (d < cost AND n) }
     ensures { PartSays n d result }
@@ -90,29 +89,21 @@ pub fn part_marks(and: construction::And, part: AndPart) -> Carried
         AndPart::Pair { wire, lower, upper } => {
             let form = ands::pair_form(and);
             let at = wire as usize;
-            if (at == 0) & (at == form.low) {
-                return Carried {
-                    first: lower + 1,
-                    second: 0,
-                };
-            }
+            let alone = (at == 0) & (at == form.low);
             Carried {
                 first: lower + 1,
-                second: upper + 1,
+                second: if alone { None } else { Some(upper + 1) },
             }
         }
-        AndPart::Own { row } => Carried {
+        AndPart::Own { row } | AndPart::Sum { row, terms: _ } => Carried {
             first: row + 1,
-            second: 0,
-        },
-        AndPart::Sum { row: i, terms: _ } => Carried {
-            first: i + 1,
-            second: 0,
+            second: None,
         },
     }
 }
 
 // The share numbers that a probe on new wire d of an OR carries: its NOTs share 1, the others what those of an AND carry.
+#[tactic(auto, using(crate::proofs::Carrying::or_laws))]
 fn or_marks(and: construction::And, n: usize, d: usize) -> Carried
     requires { (n ≤ 31) × (d < cost OR n) }
     ensures { GateMarksSay (with_pins (gadget_of and)) OR n d result }
@@ -120,105 +111,93 @@ fn or_marks(and: construction::And, n: usize, d: usize) -> Carried
     if (d < 2) | (d == 2 + gate_costs::and_cost(n)) {
         return Carried {
             first: 1,
-            second: 0,
+            second: None,
         };
     }
     part_marks(and, and_part(n, d - 2))
 }
 
 // The share numbers that a probe on new wire d of a plain gate carries.
-fn gate_marks(and: construction::And, kind: u8, n: usize, d: usize) -> Carried
-    requires { (n ≤ 31) × (d < cost (kind_of kind) n) }
-    ensures { GateMarksSay (with_pins (gadget_of and)) (kind_of kind) n d result }
+#[tactic(auto, using(crate::proofs::Carrying::gate_laws))]
+fn gate_marks(and: construction::And, kind: Kind, n: usize, d: usize) -> Carried
+    requires { (n ≤ 31) × (d < cost (kind_is kind) n) }
+    ensures { GateMarksSay (with_pins (gadget_of and)) (kind_is kind) n d result }
 {
-    if kind == 0 {
-        return Carried {
+    match kind {
+        Kind::Not => Carried {
             first: 1,
-            second: 0,
-        };
-    }
-    if (kind == 1) | (kind == 4) {
-        return Carried {
+            second: None,
+        },
+        Kind::Xor | Kind::Constant => Carried {
             first: (d + 1) as u8,
-            second: 0,
-        };
+            second: None,
+        },
+        Kind::And => part_marks(and, and_part(n, d)),
+        Kind::Or => or_marks(and, n, d),
+        Kind::Random => unreachable!(),
     }
-    if kind == 2 {
-        return part_marks(and, and_part(n, d));
-    }
-    or_marks(and, n, d)
 }
 
 // The plain gate that a wire past the input shares is a new wire of.
-pub fn find_gate(table: &[u8], p: planning::Plan, wire: usize) -> NewWire
-    requires { PlanReady table.now p × (p.shares * p.inputs ≤ wire) × (wire < p.wires) }
-    ensures { (G : Gadget) → NewWireSays G (table_of table.now) p.order wire result }
+#[tactic(auto, using(crate::proofs::Finding::seek_start, crate::proofs::Finding::seek_turn, crate::proofs::Finding::seek_end))]
+pub fn find_gate(planned: &planning::Planned, wire: usize) -> NewWire
+    requires { (planned.now.plan.shares * planned.now.plan.inputs ≤ wire) × (wire < planned.now.plan.wires) }
+    ensures { (G : Gadget) → NewWireSays G (table_of planned.now.table.now) planned.now.plan.order wire result }
 {
-    let n = p.shares;
-    let gates = p.gates;
-    let mut costs = [0u16; 6];
-    gate_costs::note_costs(n, &mut costs);
-    let mut start = n * p.inputs;
-    let mut g = 0;
-    loop {
-        let x = fields::gate_at(table, gates, g);
-        let next = start + gate_costs::noted_cost(&costs, x.kind);
+    let n = planned.plan.shares;
+    let gates = fields::Gates {
+        table: planned.table,
+        count: planned.plan.gates,
+    };
+    let costs = gate_costs::GateCosts::new(n);
+    let mut start = n * planned.plan.inputs;
+    for g in 0..gates.count {
+        let kind = gates.at(g).known_kind();
+        let next = start + costs.of(kind);
         if wire < next {
             return NewWire {
                 gate: g,
-                kind: x.kind,
+                kind,
                 place: wire - start,
             };
         }
         start = next;
-        g += 1;
     }
+    unreachable!()
 }
 
 // The share numbers that a probe on a wire of the masked table carries.
-pub fn marks_at(and: construction::And, table: &[u8], p: planning::Plan, wire: usize) -> Carried
-    requires { PlanReady table.now p × (wire < p.wires) }
-    ensures { CarriedSays (probe_marks (gadget_of and) p.order (table_of table.now) wire) result }
+pub fn marks_at(and: construction::And, planned: &planning::Planned, wire: usize) -> Carried
+    requires { wire < planned.now.plan.wires }
+    ensures { CarriedSays
+        (probe_marks (gadget_of and) planned.now.plan.order (table_of planned.now.table.now) wire)
+        result }
 {
-    let n = p.shares;
-    if wire < n * p.inputs {
+    let n = planned.plan.shares;
+    if wire < n * planned.plan.inputs {
         return Carried {
             first: (wire % n + 1) as u8,
-            second: 0,
+            second: None,
         };
     }
-    let x = find_gate(table, p, wire);
+    let x = find_gate(planned, wire);
     gate_marks(and, x.kind, n, x.place)
 }
 
 // The share numbers that a probe on a wire of the masked table of a plain table carries, or the refusal.
-pub fn wire_marks(and: construction::And, table: &[u8], order: u8, wire: u32) -> construction::Marks
-    ensures { MarksSay (gadget_of and) (probe_marks (gadget_of and)) table.now order wire result }
+#[tactic(auto, using(crate::proofs::Carrying::marks_refused))]
+pub fn wire_marks(
+    and: construction::And,
+    table: &[u8],
+    order: u8,
+    wire: u32,
+) -> Result<Carried, Refusal>
+    ensures { MarksSay (gadget_of and) (probe_marks (gadget_of and)) table.now order wire (marks_of result) }
 {
-    match planning::plan_table(table, order) {
-        planning::Planned::Refused(r) => construction::Marks {
-            number: r.number,
-            place: r.place,
-            first: 0,
-            second: 0,
-        },
-        planning::Planned::Ready(p) => {
-            let w = wire as usize;
-            if p.wires <= w {
-                return construction::Marks {
-                    number: 13,
-                    place: 0,
-                    first: 0,
-                    second: 0,
-                };
-            }
-            let c = marks_at(and, table, p, w);
-            construction::Marks {
-                number: 0,
-                place: 0,
-                first: c.first,
-                second: c.second,
-            }
-        }
+    let planned = planning::plan_table(table, order)?;
+    let w = wire as usize;
+    if planned.plan.wires <= w {
+        return Err(Refusal::NoWire { probe: 0 });
     }
+    Ok(marks_at(and, &planned, w))
 }
