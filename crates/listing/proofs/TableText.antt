@@ -5,12 +5,12 @@ use mathlib.Core.Bool.{Bool, true, false}
 use mathlib.Core.List.{List, [], ◌∷◌, ◌++◌, flatten}
 use Prim.Native.Nat.{ℕ, ◌+◌, ◌*◌, ◌≤◌, ◌<◌}
 use native.Mathlib.Omega.{arith}
-use borrow.Author.Tests.{eq-eqb, ne_eqb}
 use lib.ListN.{length, get_or, take, length-append}
 use Rattle.tables.specs.declared.Refusal as DRefusal
-use Rattle.tables.specs.Refusals.{passed}
-use Rattle.tables.specs.Tables.{word, table_of, table_fault}
-use Rattle.tables.specs.Inside.{Refused}
+use Rattle.tables.specs.Refusals.{none, passed}
+use Rattle.tables.specs.Refusing.{fault_of}
+use Rattle.tables.specs.Tables.{table_of, table_fault}
+use Rattle.tables.proofs.Answers.{refusal_fails, none_passed}
 use Rattle.tables.proofs.Accept.{accepted, outputs_of_length}
 use Rattle.tables.proofs.Format.{Bytes, passed_sound}
 use Rattle.tables.proofs.Cut.{cut_fault, cut_refused}
@@ -19,7 +19,7 @@ use Rattle.text.proofs.Writing.{refusal_long}
 use Rattle.tables.proofs.Lists.{All}
 use Rattle.list_lines.specs.Lines.{inputs_line, gate_lines, output_lines, table_lines}
 use Rattle.list_lines.specs.Listed.{Listed}
-use Rattle.list_lines.proofs.Lines.{inputs_fit, gates_fit, outputs_fit, gate_lines_length, output_lines_length, lines_length}
+use Rattle.list_lines.proofs.Lines.{inputs_fit, gates_fit, outputs_fit, gate_lines_length, output_lines_length}
 use Rattle.listing.specs.Listing.{table_text, list_room, ListSays}
 
 flatten_long : (k : ℕ) (ls : List (List ℕ)) → All (λ l. length l ≤ k) ls → length (flatten ls) ≤ k * length ls
@@ -55,31 +55,18 @@ module _ (s : List ℕ) (H : Listed s) where
         H.1,
       )
 
--- the call's answer: the refusal, nothing, or the lines
-module _ (s : List ℕ) {f : DRefusal.Refusal} (R : Refused (table_fault s) f) where
-  pub list_refused :
-      {b out : List ℕ} {r : ℕ} → (f.number ≡ 0 → ⊥) → PutsAll (refusal_line f.number f.place) b out r → ListSays s b out r
-  unfolding table_text
-  list_refused n P =
-      let bad : passed (table_fault s) ≡ false = rw (← R.number) (ne_eqb f.number 0 n) in
-      rw (bad, ← R.number, ← R.place) P
+-- the call's answer: the refusal, or the lines
+pub list_refused :
+    (s : List ℕ) (e : DRefusal.Refusal) {b out : List ℕ} {r : ℕ} → table_fault s ≡ fault_of e
+    → PutsAll (refusal_line (fault_of e).number (fault_of e).place) b out r → ListSays s b out r
+unfolding table_text
+list_refused s e h P = rw (h, refusal_fails e) P
 
-  list_passed : f.number ≡ 0 → passed (table_fault s) ≡ true
-  list_passed e = rw (← R.number) (eq-eqb f.number 0 e)
-
-  pub list_six : f.number ≡ 0 → 6 ≤ length s
-  list_six e = omega (arith, (accepted s (list_passed e)).long)
-
-  pub list_sizes :
-      {g o : ℕ} → f.number ≡ 0 → g ≡ word s 2 → (o ≡ word s 4) × (o < 65536)
-      → Listed s × (1 + g + o ≡ length (table_lines (table_of s)))
-  list_sizes e eg eo =
-      let H : Listed s = (list_passed e, omega (arith, eo.0, eo.1)) in (H, omega (arith, eg, eo.0, lines_length s H))
-
-  pub list_lines :
-      {b out : List ℕ} {r : ℕ} → f.number ≡ 0 → PutsAll (flatten (table_lines (table_of s))) b out r → ListSays s b out r
-  unfolding table_text
-  list_lines e P = rw (list_passed e) P
+pub list_lines :
+    (s : List ℕ) {b out : List ℕ} {r : ℕ} → table_fault s ≡ none
+    → PutsAll (flatten (table_lines (table_of s))) b out r → ListSays s b out r
+unfolding table_text
+list_lines s h P = rw (none_passed h) P
 
 -- ROOM bytes hold the text of every table
 pub text_short : (s : List ℕ) → Bytes s → length (table_text s) ≤ list_room

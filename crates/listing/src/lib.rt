@@ -3,51 +3,47 @@
 
 ghost use Rattle.std.specs.Prelude.{◌≡◌, ◌≤◌, length};
 ghost use Rattle.tables.specs.Tables.{table_of};
+ghost use Rattle.tables.specs.Refusing.{fault_of};
 ghost use Rattle.text.specs.Text.{refusal_line, Puts, PutsAll};
 ghost use mathlib.Core.List.{flatten};
 ghost use Rattle.list_lines.specs.Lines.{table_lines};
-ghost use Rattle.list_lines.specs.Listed.{Listed};
 ghost use Rattle.listing.specs.Listing.{ListSays};
+
+use list_lines::TableLines;
 
 // Bytes that hold the text of every table: 27 a gate and 18 an output, 65,536 of each; a table has fewer, so that its first line of 13
 // fits too.
 pub const ROOM: usize = 2949120;
 
 // How long the lines of a table are together.
-fn lines_long(table: &[u8], lines: usize) -> usize
-    requires { Listed table.now × (lines ≡ length (table_lines (table_of table.now))) }
-    ensures { result ≡ length (flatten (table_lines (table_of table.now))) }
+fn lines_long(lines: &TableLines) -> usize
+    ensures { result ≡ length (flatten (table_lines (table_of lines.now.table.now))) }
 {
     let mut long = 0;
-    let mut j = 0;
-    while j < lines {
-        long += list_lines::line_long(table, j);
-        j += 1;
+    for j in 0..lines.count() {
+        long += lines.long(j);
     }
     long
 }
 
 // Puts the lines of a table at the front, and answers their length.
-fn put_lines(out: &mut [u8], table: &[u8], lines: usize) -> usize
-    requires { Listed table.now × (lines ≡ length (table_lines (table_of table.now)))
-        × (length (flatten (table_lines (table_of table.now))) ≤ length out.old) }
-    ensures { Puts 0 (flatten (table_lines (table_of table.now))) out.old out.new result }
+fn put_lines(out: &mut [u8], lines: &TableLines) -> usize
+    requires { length (flatten (table_lines (table_of lines.now.table.now))) ≤ length out.old }
+    ensures { Puts 0 (flatten (table_lines (table_of lines.now.table.now))) out.old out.new result }
 {
     let mut at = 0;
-    let mut j = 0;
-    while j < lines {
-        at = list_lines::put_line(out, at, table, j);
-        j += 1;
+    for j in 0..lines.count() {
+        at = lines.put(out, at, j);
     }
     at
 }
 
 // Writes the line of a refusal at the front of the lent bytes, and answers its length; 0 where it does not fit.
 fn list_refusal(found: tables::Refusal, out: &mut [u8]) -> usize
-    ensures { PutsAll (refusal_line found.number found.place) out.old out.new result }
+    ensures { PutsAll (refusal_line (fault_of found).number (fault_of found).place) out.old out.new result }
 {
     let mut line = [0u8; 64];
-    let long = text::put_refusal(&mut line, found.number as u32, found.place);
+    let long = text::put_refusal(&mut line, u32::from(found.number()), found.place());
     text::put_all(out, &line[..long])
 }
 
@@ -56,14 +52,12 @@ fn list_refusal(found: tables::Refusal, out: &mut [u8]) -> usize
 pub fn list_table(table: &[u8], out: &mut [u8]) -> usize
     ensures { ListSays table.now out.old out.new result }
 {
-    let found = checking::table_fault(table);
-    if found.number != 0 {
+    if let Err(found) = checking::table_fault(table) {
         return list_refusal(found, out);
     }
-    let lines = 1 + fields::field(table, 2) + fields::field(table, 4);
-    let long = lines_long(table, lines);
-    if out.len() < long {
+    let lines = TableLines { table };
+    if out.len() < lines_long(&lines) {
         return 0;
     }
-    put_lines(out, table, lines)
+    put_lines(out, &lines)
 }

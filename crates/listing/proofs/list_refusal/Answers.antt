@@ -7,19 +7,17 @@ use Rattle.text.proofs.Writing.{put_elsewhere, refusal_long}
 use Rattle.listing.proofs.list_refusal.Goals as goal
 
 pub put_refusal-long-requires : goal.put_refusal-long-requires
-put_refusal-long-requires c =
-    let found = c.args.found in
-    omega (arith, refusal_long found.number found.place)
+put_refusal-long-requires c = omega (arith, refusal_long c.from.result c.place.result)
 
 pub slice_bounds-line-end : goal.slice_bounds-line-end
 slice_bounds-line-end c =
-    let found = c.args.found in
-    omega (arith, c.put_refusal-long.ensures.next, refusal_long found.number found.place)
+    omega (arith, c.put_refusal-long.ensures.next, refusal_long c.from.result c.place.result)
 
 pub slice_bounds-put_all-end : goal.slice_bounds-put_all-end
 slice_bounds-put_all-end c =
-    let found = c.args.found in
-    sym (length-take-le _ _ (omega (arith, c.put_refusal-long.ensures.next, refusal_long found.number found.place)))
+    sym (length-take-le _ _ (omega (arith, c.put_refusal-long.ensures.next, refusal_long c.from.result c.place.result)))
 
 pub returns : goal.returns
-returns c = put_elsewhere c.put_refusal-long.ensures c.put_all.ensures
+returns c =
+    rw (← c.number.ensures, ← c.place.ensures, ← c.from.ensures)
+    (put_elsewhere c.put_refusal-long.ensures c.put_all.ensures)
