@@ -1,2 +1,2 @@
 -- Laws of the refusals of mapping.
-mod Faults
+pub mod Faults

@@ -1,130 +1,121 @@
 // The refusals of a mapping call.
 #![tactic(auto)]
 
-ghost use Rattle.std.specs.Prelude.{◌≤◌};
-ghost use Rattle.tables.specs.Inside.{Refused};
+ghost use Rattle.std.specs.Prelude.{◌≡◌, ◌≤◌, leb, position};
+ghost use Rattle.tables.specs.Inside.{Refused, Outcome};
 ghost use Rattle.construction.specs.declared.And as DAnd;
 ghost use Rattle.construction.specs.Gadgets.{gadget_of};
-ghost use Rattle.planning.specs.Plans.{PlanSays};
 ghost use Rattle.secrecy.specs.Says.{supply_fault, probes_fault, room_fault, call_fault, map_fault};
 
+use tables::Refusal;
+
+// What a mapping call is given besides a table and an order: both secrets, a tape and the probes.
+#[derive(Clone, Copy)]
+pub struct Given<'a> {
+    pub first: &'a [u8],
+    pub second: &'a [u8],
+    pub tape: &'a [u8],
+    pub probes: &'a [u32],
+}
+
+// How long the buffers are that a mapping call is lent: for the mapped tape, and for the values of each run.
+#[derive(Clone, Copy)]
+pub struct Lent {
+    pub mapped: usize,
+    pub one: usize,
+    pub other: usize,
+}
+
 // What is supplied to a plan: wrong counts, then a byte above 1 of both secrets joined, then a set unused bit of the tape.
-fn supply_fault(p: planning::Plan, first: &[u8], second: &[u8], tape: &[u8]) -> tables::Refusal
+#[tactic(auto, using(secrecy::proofs::Faults::bad_both), unfolding(secrecy::specs::Says::supply_fault))]
+fn supply_fault(p: planning::Plan, given: &Given) -> Result<(), Refusal>
     requires { (p.inputs ≤ 65535) × (p.tape ≤ 65535) }
-    ensures { Refused (supply_fault p.inputs p.tape first.now second.now tape.now) result }
+    ensures { Refused
+        (supply_fault p.inputs p.tape given.now.first.now given.now.second.now given.now.tape.now)
+        result }
 {
-    if first.len() != p.inputs {
-        return answers::refuse(10, 0);
+    let first = given.first.len();
+    let second = given.second.len();
+    if first != p.inputs || second != p.inputs || given.tape.len() != bits::bytes_for(p.tape) {
+        return Err(Refusal::Counts);
     }
-    if second.len() != p.inputs {
-        return answers::refuse(10, 0);
-    }
-    if tape.len() != bits::bytes_for(p.tape) {
-        return answers::refuse(10, 0);
-    }
-    let one = bits::bits_fault(first, 0);
-    let other = bits::bits_fault(second, first.len());
-    let unused = bits::spare_fault(tape, p.tape, first.len() + second.len());
-    answers::first_of(answers::first_of(one, other), unused)
+    bits::bits_fault(given.first, 0)?;
+    bits::bits_fault(given.second, first)?;
+    bits::spare_fault(given.tape, p.tape, first + second)
+}
+
+// The position of the first probe that is no wire of a masked table of so many wires.
+fn first_outside(wires: usize, probes: &[u32]) -> Option<usize>
+    ensures { result ≡ position (λ p. leb wires p) probes.now }
+{
+    probes.iter().position(|probe| *probe as usize >= wires)
 }
 
 // The probes: more than the order, then one that is no wire of the masked table.
-fn probes_fault(order: u8, wires: usize, probes: &[u32]) -> tables::Refusal
+#[tactic(auto, using(crate::proofs::Faults::probes_pass, crate::proofs::Faults::probes_stop), unfolding(secrecy::specs::Says::probes_fault))]
+fn probes_fault(order: u8, wires: usize, probes: &[u32]) -> Result<(), Refusal>
     ensures { Refused (probes_fault order wires probes.now) result }
 {
     if probes.len() > order as usize {
-        return answers::refuse(12, 0);
+        return Err(Refusal::TooManyProbes);
     }
-    let mut j = 0;
-    while j < probes.len() {
-        if probes[j] as usize >= wires {
-            return answers::refuse(13, j);
-        }
-        j += 1;
+    match first_outside(wires, probes) {
+        None => Ok(()),
+        Some(j) => Err(Refusal::NoWire { probe: j as u32 }),
     }
-    answers::refuse(0, 0)
 }
 
 // A buffer that is shorter than what is written into it.
-fn room_fault(p: planning::Plan, mapped: usize, one: usize, other: usize) -> tables::Refusal
-    ensures { Refused (room_fault p.tape p.wires mapped one other) result }
+#[tactic(auto, unfolding(secrecy::specs::Says::room_fault))]
+fn room_fault(p: planning::Plan, lent: Lent) -> Result<(), Refusal>
+    ensures { Refused (room_fault p.tape p.wires lent.mapped lent.one lent.other) result }
 {
-    if mapped < bits::bytes_for(p.tape) {
-        return answers::refuse(9, 0);
+    if lent.mapped < bits::bytes_for(p.tape) || lent.one < p.wires || lent.other < p.wires {
+        return Err(Refusal::NoRoom);
     }
-    if one < p.wires {
-        return answers::refuse(9, 0);
-    }
-    if other < p.wires {
-        return answers::refuse(9, 0);
-    }
-    answers::refuse(0, 0)
+    Ok(())
 }
 
 // The refusals that follow those of the plan: 10 to 13, then 9.
-fn call_fault(
-    p: planning::Plan,
-    order: u8,
-    first: &[u8],
-    second: &[u8],
-    tape: &[u8],
-    probes: &[u32],
-    mapped: usize,
-    one: usize,
-    other: usize,
-) -> tables::Refusal
+fn call_fault(p: planning::Plan, order: u8, given: &Given, lent: Lent) -> Result<(), Refusal>
     requires { (p.inputs ≤ 65535) × (p.tape ≤ 65535) }
     ensures { Refused
         (call_fault order p.inputs p.tape p.wires
-        first.now
-        second.now
-        tape.now
-        probes.now
-        mapped
-        one
-        other)
+        given.now.first.now
+        given.now.second.now
+        given.now.tape.now
+        given.now.probes.now
+        lent.mapped
+        lent.one
+        lent.other)
         result }
 {
-    let supplied = supply_fault(p, first, second, tape);
-    let probed = probes_fault(order, p.wires, probes);
-    let room = room_fault(p, mapped, one, other);
-    answers::first_of(supplied, answers::first_of(probed, room))
+    supply_fault(p, given)?;
+    probes_fault(order, p.wires, given.probes)?;
+    room_fault(p, lent)
 }
 
-// Whether mapping is refused: the first refusal, or the sizes.
-pub fn map_fault(
-    table: &[u8],
+// Whether mapping is refused: the first refusal, or the plan.
+#[tactic(auto, using(crate::proofs::Faults::map_stopped, crate::proofs::Faults::map_follows))]
+pub fn map_fault<'a>(
+    table: &'a [u8],
     order: u8,
-    first: &[u8],
-    second: &[u8],
-    tape: &[u8],
-    probes: &[u32],
-    mapped: usize,
-    one: usize,
-    other: usize,
-) -> planning::Planned
-    ensures { (a : DAnd.And) → PlanSays
+    given: &Given,
+    lent: Lent,
+) -> Result<planning::Planned<'a>, Refusal>
+    ensures { (a : DAnd.And) → Outcome
         (map_fault (gadget_of a) table.now order
-        first.now
-        second.now
-        tape.now
-        probes.now
-        mapped
-        one
-        other)
-        table.now
-        order
+        given.now.first.now
+        given.now.second.now
+        given.now.tape.now
+        given.now.probes.now
+        lent.mapped
+        lent.one
+        lent.other)
+        (λ planned. (planned.table.now ≡ table.now) × (planned.plan.order ≡ order))
         result }
 {
-    let planned = planning::plan_table(table, order);
-    match planned {
-        planning::Planned::Refused(r) => planning::Planned::Refused(r),
-        planning::Planned::Ready(p) => {
-            let found = call_fault(p, order, first, second, tape, probes, mapped, one, other);
-            if found.number != 0 {
-                return planning::Planned::Refused(found);
-            }
-            planning::Planned::Ready(p)
-        }
-    }
+    let planned = planning::plan_table(table, order)?;
+    call_fault(planned.plan, order, given, lent)?;
+    Ok(planned)
 }
