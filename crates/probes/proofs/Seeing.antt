@@ -1,164 +1,146 @@
 -- The free share: the smallest number that is not seen, where the numbers seen are those that the probes carry.
 -- Assumes nothing.
 use mathlib.Core.Path.{◌≡◌, refl, sym, ◌∙◌}
-use mathlib.Core.Bool.{Bool, true, false, ◌||◌, cond}
-use mathlib.Core.List.{List, [], ◌∷◌, ◌++◌}
-use Prim.Native.Nat.{ℕ, suc, ◌-◌, ◌≤◌, ◌<◌}
+use mathlib.Core.Bool.{Bool, true, false, ◌||◌}
+use mathlib.Core.List.{List, [], ◌∷◌, ◌++◌, append_assoc, append-nil}
+use Prim.Native.Nat.{ℕ, zero, suc, ◌+◌, ◌≤◌, ◌<◌}
+use native.Mathlib.Nat.{add-zero, add-suc, suc-add}
+use native.Mathlib.Numerals.{add-one}
 use native.Mathlib.Omega.{arith}
 use lib.Dec.{eqb}
-use lib.ListN.{length, get_or, drop, set, length-set, drop_of_length-le, replicate, length-replicate, get_or-replicate}
-use lib.Seq.{get_or-set_same, get_or-set_other, drop-cons}
+use lib.ListN.{length, get_or, take, drop, set, length-set, replicate, length-replicate, get_or-replicate, length-drop}
+use lib.Seq.{get_or-set_same, get_or-set_other, get_or-take, get_or-drop, take-suc, length-take-le}
 use borrow.Author.Tests.{eqb-true, eqb-false}
-use Rattle.tables.specs.Tables.{table_of}
+use Rattle.std.specs.Prelude.{Option, Some, None, MatchOption}
+use Rattle.std.specs.Option.{unwrap_or}
+use Rattle.std.specs.List.{AllWithin, HoldsAt}
 use Rattle.tables.specs.Runs.{of_each}
 use Rattle.tables.proofs.Lists.{all_get_d}
-use Rattle.construction.specs.Gadgets.{is_in, Gadget}
-use Rattle.construction.specs.Wires.{probe_marks}
-use Rattle.planning.specs.declared.Plan as DPlan
-use Rattle.planning.specs.Plans.{PlanReady}
-use Rattle.secrecy.specs.Maps.{carried, free_from, free_share}
+use Rattle.construction.specs.Gadgets.{is_in}
+use Rattle.construction.specs.declared.Carried as DCarried
+use Rattle.origins.specs.Origins.{second_in, CarriedSays}
+use Rattle.secrecy.specs.Maps.{free_from}
 use Rattle.secrecy.specs.Claims.{all_below}
 use Rattle.secrecy.proofs.Bits.{all_below_lem}
 use Rattle.secrecy.proofs.Free.{free_past, free_here, is_in_join}
-use Rattle.probes.specs.Seeing.{Seen, MarkReady}
+use Rattle.probes.specs.Seeing.{Seen}
 
--- what a byte of the numbers seen says
-seen_false : (t : Bool) → ◌≡◌ {A = ℕ} (cond t 1 0) 0 → t ≡ false
-seen_false true h = absurd (omega arith)
-seen_false false h = refl
+-- the first of c numbers from k on that is not in the list is i numbers further
+free_at :
+    (c k i : ℕ) (cs : List ℕ) → i ≤ c → ((j : ℕ) → j < i → is_in (k + j) cs ≡ true) → (i < c → is_in (k + i) cs ≡ false)
+    → free_from c k cs ≡ k + i
+unfolding free_from
+free_at zero k i cs h before here = omega arith
+free_at (suc c) k zero cs h before here = free_here c k cs (rw add-zero at (here (omega arith))) ∙ omega arith
+free_at (suc c) k (suc i) cs h before here =
+    let next : k + suc i ≡ suc k + i = omega arith in
+    let first : is_in k cs ≡ true = rw add-zero at (before 0 (omega arith)) in
+    free_past c k cs first
+    ∙ rw next
+    (free_at c (suc k) i cs (omega arith)
+    (λ j l. rw (suc-add, ← add-suc) (before (suc j) (omega arith)))
+    (λ l. rw (suc-add, ← add-suc) (here (omega arith))))
 
-seen_true : (t : Bool) → (◌≡◌ {A = ℕ} (cond t 1 0) 0 → ⊥) → t ≡ true
-seen_true true h = refl
-seen_true false h = absurd (h refl)
+-- what is found among the flags of 1 to n
+module _ (cs : List ℕ) (seen : List Bool) (S : Seen cs seen) (n : ℕ) (few : n ≤ 31) (w : ℕ) (e : w ≡ n) where
+  abbrev flags : List Bool
+  flags = take w (drop 1 seen)
 
--- before number k: looking from k on finds what looking from 1 on finds
-pub record Looking (seen : List ℕ) (n k : ℕ) : Type 0 where
-  pub some : 1 ≤ k
-  pub within : k ≤ suc n
-  pub rest : (cs : List ℕ) → Seen cs seen → free_from (suc n - k) k cs ≡ free_from n 1 cs
+  flag : (j : ℕ) → j < n → get_or flags j false ≡ is_in (1 + j) cs
+  flag j h =
+      get_or-take w (drop 1 seen) j false (omega arith)
+      ∙ get_or-drop 1 seen j false
+      ∙ S.marked (1 + j) (omega arith) (omega arith)
 
-pub looking_start : (seen : List ℕ) (n : ℕ) → Looking seen n 1
-looking_start seen n =
-    let all : suc n - 1 ≡ n = omega arith in
-    record { some = omega arith; within = omega arith; rest = λ cs s. rw all }
+  long : length flags ≡ n
+  long = length-take-le w (drop 1 seen) (omega (arith, S.long, length-drop 1 seen)) ∙ e
 
-module _ {seen : List ℕ} {n k : ℕ} (L : Looking seen n k) (few : n ≤ 31) where
-  pub looking_turn : k ≤ n → (get_or seen k 0 ≡ 0 → ⊥) → Looking seen n (suc k)
-  looking_turn h x =
-      let one : suc n - k ≡ suc (n - k) = omega arith in
-      let next : suc n - suc k ≡ n - k = omega arith in
-      record {
-        some = omega arith;
-        within = omega arith;
-        rest = λ cs s.
-            let there : is_in k cs ≡ true =
-            seen_true (is_in k cs) (λ e. x (s.marked k L.some (omega arith) ∙ e)) in
-            rw next (sym (free_past (n - k) k cs there) ∙ rw one at (L.rest cs s));
-      }
-
-  pub looking_found : k ≤ n → get_or seen k 0 ≡ 0 → (cs : List ℕ) → Seen cs seen → k ≡ free_from n 1 cs
-  looking_found h x cs s =
-      let one : suc n - k ≡ suc (n - k) = omega arith in
-      let gone : is_in k cs ≡ false =
-      seen_false (is_in k cs) (sym (s.marked k L.some (omega arith)) ∙ x) in
-      sym (free_here (n - k) k cs gone) ∙ rw one at (L.rest cs s)
-
-  pub looking_end : n < k → (cs : List ℕ) → Seen cs seen → k ≡ free_from n 1 cs
-  unfolding free_from
-  looking_end h cs s =
-      let none_left : suc n - k ≡ 0 = omega arith in
-      rw none_left at (L.rest cs s)
+  pub free_found :
+      (r : Option ℕ)
+      → MatchOption r
+      (AllWithin (λ b. b ≡ true) flags 0 (length flags))
+      (λ i. (i < length flags) × HoldsAt (λ b. b ≡ false) flags i × AllWithin (λ b. b ≡ true) flags 0 i)
+      → unwrap_or r n + 1 ≡ free_from n 1 cs
+  free_found None h =
+      let found =
+      free_at n 1 n cs (omega arith) (λ j l. sym (flag j l) ∙ h j false (omega arith) (omega (arith, long)))
+      (λ l. absurd (omega arith)) in
+      omega (arith, found)
+  free_found (Some i) h =
+      let within : i < n = omega (arith, h.0, long) in
+      let found =
+      free_at n 1 i cs (omega arith) (λ j l. sym (flag j (omega arith)) ∙ h.2 j false (omega arith) l)
+      (λ l. sym (flag i l) ∙ h.1 false) in
+      omega (arith, found)
 
 -- a number marked
 mark_one :
-    (seen : List ℕ) (m i : ℕ) → i < length seen → get_or (set seen m 1) i 0 ≡ cond (eqb i m) 1 (get_or seen i 0)
+    (seen : List Bool) (m i : ℕ) → i < length seen → get_or (set seen m true) i false ≡ eqb i m || get_or seen i false
 mark_one seen m i h = go (eqb i m) refl
   where
-    go : (t : Bool) → eqb i m ≡ t → get_or (set seen m 1) i 0 ≡ cond t 1 (get_or seen i 0)
-    go true e = rw (← eqb-true i m e) (get_or-set_same seen i 1 0 h)
-    go false e = get_or-set_other seen m i 1 0 (eqb-false i m e)
+    go : (t : Bool) → eqb i m ≡ t → get_or (set seen m true) i false ≡ t || get_or seen i false
+    go true e = rw (← eqb-true i m e) (get_or-set_same seen i true false h)
+    go false e = get_or-set_other seen m i true false (eqb-false i m e)
 
-cond_or : (a b : Bool) (v : ℕ) → cond (a || b) 1 v ≡ cond b 1 (cond a 1 v)
-cond_or true true v = refl
-cond_or true false v = refl
-cond_or false b v = refl
-
-or_nothing : (t : Bool) → t || false ≡ t
-or_nothing true = refl
-or_nothing false = refl
-
--- number 0, for none
-mark_none : (seen : List ℕ) (i : ℕ) → 1 ≤ i → get_or (set seen 0 1) i 0 ≡ get_or seen i 0
-mark_none seen i h = get_or-set_other seen 0 i 1 0 (λ e. omega arith)
-
--- both numbers of a wire marked; a wire has one or two
+-- both numbers of a wire marked, a single one twice
 mark_both :
-    (seen ms : List ℕ) (i : ℕ) → length ms ≤ 2 → 1 ≤ i → i < length seen
-    → get_or (set (set seen (get_or ms 0 0) 1) (get_or ms 1 0) 1) i 0 ≡ cond (is_in i ms) 1 (get_or seen i 0)
-mark_both seen [] i few h l = mark_none (set seen 0 1) i h ∙ mark_none seen i h
+    (seen : List Bool) (ms : List ℕ) (i : ℕ) → length ms ≤ 2 → 1 ≤ i → i < length seen
+    → get_or (set (set seen (get_or ms 0 0) true) (unwrap_or (second_in ms) (get_or ms 0 0)) true) i false
+    ≡ is_in i ms || get_or seen i false
+mark_both seen [] i few h l =
+    get_or-set_other (set seen 0 true) 0 i true false (λ e. omega arith) ∙ get_or-set_other seen 0 i true false (λ e. omega arith)
 mark_both seen (a ∷ []) i few h l =
-    rw or_nothing (mark_none (set seen a 1) i h ∙ mark_one seen a i l)
+    mark_one (set seen a true) a i (simp length-set l) ∙ rw (mark_one seen a i l) (twice (eqb i a) (get_or seen i false))
+  where
+    twice : (t v : Bool) → t || (t || v) ≡ (t || false) || v
+    twice true v = refl
+    twice false v = refl
 mark_both seen (a ∷ b ∷ []) i few h l =
-    rw (or_nothing (eqb i b), cond_or (eqb i a) (eqb i b) (get_or seen i 0), ← mark_one seen a i l)
-    (mark_one (set seen a 1) b i (simp length-set l))
+    mark_one (set seen a true) b i (simp length-set l)
+    ∙ rw (mark_one seen a i l) (swap (eqb i a) (eqb i b) (get_or seen i false))
+  where
+    swap : (t u v : Bool) → u || (t || v) ≡ (t || (u || false)) || v
+    swap true true v = refl
+    swap true false v = refl
+    swap false true v = refl
+    swap false false v = refl
 mark_both seen (a ∷ b ∷ c ∷ ms) i few h l = absurd (omega arith)
 
--- before probe j: the numbers of the probes from j on are left to mark; f gives those of a probe
-pub record Marking (f : ℕ → List ℕ) (ps seen : List ℕ) (j : ℕ) : Type 0 where
-  pub within : j ≤ length ps
-  pub long : length seen ≡ 256
-  pub rest :
-      (i : ℕ) → 1 ≤ i → i < 256
-      → cond (is_in i (of_each f (drop j ps))) 1 (get_or seen i 0) ≡ cond (is_in i (of_each f ps)) 1 0
+-- nothing is marked yet
+pub marking_start : Seen [] (replicate 256 false)
+marking_start = record { long = length-replicate 256 false; marked = λ i h l. get_or-replicate 256 i false false l }
 
-pub marking_start :
-    (f : ℕ → List ℕ) (ps seen : List ℕ) → length seen ≡ 256 → ((i : ℕ) → i < 256 → get_or seen i 0 ≡ 0) → Marking f ps seen 0
-marking_start f ps seen l z =
-    record { within = omega arith; long = l; rest = λ i h k. rw (z i k) }
+-- one probe more
+of_each_next :
+    (f : ℕ → List ℕ) (ps : List ℕ) (j : ℕ) → j < length ps → of_each f (take (j + 1) ps) ≡ of_each f (take j ps) ++ f (get_or ps j 0)
+unfolding of_each
+of_each_next f ps j h = rw (add-one, take-suc ps j 0 h) (go (take j ps))
+  where
+    go : (qs : List ℕ) → of_each f (qs ++ (get_or ps j 0 ∷ [])) ≡ of_each f qs ++ f (get_or ps j 0)
+    go [] = append-nil (f (get_or ps j 0))
+    go (q ∷ qs) = rw (go qs) (sym (append_assoc (f q) (of_each f qs) (f (get_or ps j 0))))
 
-module _ {f : ℕ → List ℕ} {ps seen : List ℕ} {j : ℕ} (M : Marking f ps seen j) where
-  pub marking_turn :
-      {a b : ℕ} → length (f (get_or ps j 0)) ≤ 2 → j < length ps → a ≡ get_or (f (get_or ps j 0)) 0 0 → b ≡ get_or (f (get_or ps j 0)) 1 0
-      → Marking f ps (set (set seen a 1) b 1) (suc j)
-  unfolding of_each
-  marking_turn {a} {b} two h ea eb =
-      let ms = f (get_or ps j 0) in
-      let rest = of_each f (drop (suc j) ps) in
-      let next : of_each f (drop j ps) ≡ ms ++ rest = rw (drop-cons ps j 0 h) in
-      record {
-        within = omega arith;
-        long = simp length-set M.long;
-        rest = λ i l k.
-            let all : ℕ = cond (is_in i (of_each f ps)) 1 0 in
-            let before : cond (is_in i (ms ++ rest)) 1 (get_or seen i 0) ≡ all = rw next at (M.rest i l k) in
-            let both = mark_both seen ms i two l (omega (arith, M.long)) in
-            rw (ea, eb, both, ← cond_or (is_in i ms) (is_in i rest) (get_or seen i 0), ← is_in_join i ms rest) before;
-      }
+or_swap : (t u : Bool) → t || u ≡ u || t
+or_swap true true = refl
+or_swap true false = refl
+or_swap false true = refl
+or_swap false false = refl
 
-  pub marking_end : length ps ≤ j → Seen (of_each f ps) seen
-  unfolding of_each
-  marking_end h =
-      record {
-        long = M.long;
-        marked = λ i l k.
-            let none : drop j ps ≡ [] = drop_of_length-le ps {i = j} h in
-            rw none at (M.rest i l k);
-      }
+pub marking_turn :
+    (f : ℕ → List ℕ) (ps : List ℕ) (seen : List Bool) (j : ℕ) {r : DCarried.Carried} {b : ℕ}
+    → Seen (of_each f (take j ps)) seen → j < length ps → length (f (get_or ps j 0)) ≤ 2
+    → CarriedSays (f (get_or ps j 0)) r → b ≡ unwrap_or r.second r.first
+    → Seen (of_each f (take (j + 1) ps)) (set (set seen r.first true) b true)
+marking_turn f ps seen j {r} {b} S h two C e =
+    let ms = f (get_or ps j 0) in
+    record {
+      long = simp length-set S.long;
+      marked = λ i l m.
+          let both = mark_both seen ms i two l (omega (arith, S.long)) in
+          rw (e, C.first, C.second, both, of_each_next f ps j h, is_in_join i (of_each f (take j ps)) ms, S.marked i l m)
+          (or_swap (is_in i ms) (is_in i (of_each f (take j ps))));
+    }
 
 -- a probe is a wire
-pub probe_below : {ps : List ℕ} {w : ℕ} {seen : List ℕ} {j : ℕ} → MarkReady ps w seen → j < length ps → get_or ps j 0 < w
-probe_below {ps} {w} {seen} {j} M h = all_get_d (λ p. p < w) ps j 0 (all_below_lem w ps M.probes) h
-
--- nothing is marked yet
-pub mark_ready : (ps : List ℕ) (w : ℕ) → all_below w ps ≡ true → MarkReady ps w (replicate 256 0)
-mark_ready ps w h =
-    record { probes = h; long = length-replicate {A = ℕ} 256 0; none = λ i k. get_or-replicate 256 i 0 0 k }
-
--- what is found in the numbers that the probes carry is the free share
-pub free_share_is :
-    (G : Gadget) {s : List ℕ} {p : DPlan.Plan} (ps : List ℕ) {seen : List ℕ} {r : ℕ} → PlanReady s p
-    → Seen (carried (probe_marks G) p.order (table_of s) ps) seen
-    → ((cs : List ℕ) → Seen cs seen → r ≡ free_from p.shares 1 cs)
-    → r ≡ free_share (probe_marks G) p.order (table_of s) ps
-unfolding free_share
-free_share_is G ps R S f = rw R.shares at (f _ S)
+pub probe_below : (w : ℕ) (ps : List ℕ) (j : ℕ) → all_below w ps ≡ true → j < length ps → get_or ps j 0 < w
+probe_below w ps j h l = all_get_d (λ p. p < w) ps j 0 (all_below_lem w ps h) l

@@ -1,21 +1,16 @@
--- `probes::free_of` meets its contract.
+-- `probes::free_of` meets its contract: what `position` finds among the flags of 1 to n is the first number that is not seen.
 -- Assumes nothing.
-use native.Mathlib.Numerals.{add-one}
-use Rattle.probes.proofs.Seeing.{looking_start, looking_turn, looking_found, looking_end}
+use Rattle.std.proofs.Common.{◌≡◌, ◌+◌, ◌-◌, true, false, rules, tests}
+use Rattle.std.proofs.lemmas.Iterator.{IsFirst-from_position, YieldsList-from_slice}
+use native.Mathlib.Omega.{arith}
+use Rattle.probes.proofs.Seeing.{free_found}
 use Rattle.probes.proofs.free_of.Goals as goal
 
-pub loop-k-init : goal.loop-k-init
-loop-k-init c = looking_start _ _
-
-pub returns-then-seen-k-eq0 : goal.returns-then-seen-k-eq0
-returns-then-seen-k-eq0 c =
-    looking_found c.loop-k.invariant c.requires
-    c.loop-k-test.true c.if-seen-k-eq0.true
-
-pub loop-k-preserved : goal.loop-k-preserved
-loop-k-preserved c =
-    rw add-one (looking_turn c.loop-k.invariant c.requires
-    c.loop-k-test.true c.if-seen-k-eq0.false)
-
 pub returns : goal.returns
-returns c = looking_end c.loop-k.invariant c.requires c.loop-k-test.false
+returns c cs S =
+    let width : c.args.n + 1 - 1 ≡ c.args.n = omega arith in
+    let first =
+    IsFirst-from_position _ _ _ (λ b. b ≡ false) (λ b. b ≡ true) c.position.ensures.ran (YieldsList-from_slice _ cc)
+    (λ x q k. search (rules, tests))
+    (λ x q k. search (rules, tests)) in
+    rw c.unwrap_or.ensures (free_found cs c.args.seen.now S c.args.n c.requires _ width c.position.result first)

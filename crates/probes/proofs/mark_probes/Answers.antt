@@ -1,29 +1,28 @@
 -- `probes::mark_probes` meets its contract.
 -- Assumes nothing.
-use native.Mathlib.Numerals.{add-one}
-use native.Mathlib.Omega.{arith}
+use Rattle.tables.specs.Tables.{table_of}
+use Rattle.tables.specs.Runs.{of_each}
+use Rattle.construction.specs.Gadgets.{gadget_of}
+use Rattle.construction.specs.Wires.{probe_marks}
 use Rattle.origins.proofs.Carrying.{two_carried}
-use Rattle.probes.proofs.Seeing.{probe_below, marking_start, marking_turn, marking_end}
+use Rattle.probes.proofs.Seeing.{marking_start, marking_turn, probe_below}
 use Rattle.probes.proofs.mark_probes.Goals as goal
 
-pub loop-j-init : goal.loop-j-init
-loop-j-init c =
-    let ready = c.requires.1 in
-    marking_start _ _ _ ready.long ready.none
+pub loop-probe-init : goal.loop-probe-init
+unfolding of_each
+loop-probe-init c = marking_start
 
-pub overflow_cast-probes : goal.overflow_cast-probes
-overflow_cast-probes c = omega (arith, c.shared_slice_known-in-loop-j-1.given c.loop-j.j)
+pub marks_at-carried-requires : goal.marks_at-carried-requires
+marks_at-carried-requires c =
+    probe_below c.args.planned.now.plan.wires c.args.probes.now c.loop-probe.probe-index c.requires c.loop-probe-test.true
 
-pub marks_at-c-requires : goal.marks_at-c-requires
-marks_at-c-requires c =
-    (c.requires.0, probe_below c.requires.1 c.loop-j-test.true)
-
-pub loop-j-preserved : goal.loop-j-preserved
-loop-j-preserved c =
-    let some = c.loop-j-test.true in
-    rw add-one (marking_turn c.loop-j.invariant
-    (two_carried c.args.and c.requires.0 (probe_below c.requires.1 some)) some
-    c.marks_at-c.ensures.first c.marks_at-c.ensures.second)
-
-pub returns : goal.returns
-returns c = marking_end c.loop-j.invariant c.loop-j-test.false
+pub loop-probe-preserved : goal.loop-probe-preserved
+loop-probe-preserved c =
+    let l = c.loop-probe in
+    let ps = c.args.probes.now in
+    let planned = c.args.planned.now in
+    let some = c.loop-probe-test.true in
+    let wire = probe_below planned.plan.wires ps l.probe-index c.requires some in
+    let f = probe_marks (gadget_of c.args.and) planned.plan.order (table_of planned.table.now) in
+    marking_turn f ps l.seen l.probe-index l.invariant some (two_carried c.args.and planned.ready wire)
+    c.marks_at-carried.ensures c.unwrap_or-second.ensures

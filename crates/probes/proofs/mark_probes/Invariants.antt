@@ -1,16 +1,16 @@
--- The loop's invariant in `probes::mark_probes`: the numbers of the probes from j on are left to mark.
+-- The loop's invariant in `probes::mark_probes`: the numbers that the probes so far carry are marked.
 -- Assumes nothing.
-use Prim.Native.Nat.{◌-◌}
-use lib.ListN.{length}
+use Rattle.std.proofs.Common.{take}
 use Rattle.tables.specs.Tables.{table_of}
 use Rattle.construction.specs.Gadgets.{gadget_of}
 use Rattle.construction.specs.Wires.{probe_marks}
-use Rattle.probes.proofs.Seeing.{Marking}
+use Rattle.secrecy.specs.Maps.{carried}
+use Rattle.probes.specs.Seeing.{Seen}
 use Rattle.probes.proofs.mark_probes.Given as goal
 
-abbrev pub invariant-loop-j : goal.invariant-loop-j
-invariant-loop-j l =
-    Marking (probe_marks (gadget_of l.and) l.p.order (table_of l.table)) l.probes l.seen l.j
-
-abbrev pub decreases-loop-j : goal.decreases-loop-j
-decreases-loop-j l = length l.probes - l.j
+abbrev pub invariant-loop-probe : goal.invariant-loop-probe
+invariant-loop-probe l =
+    let planned = l.planned in
+    Seen
+    (carried (probe_marks (gadget_of l.and)) planned.plan.order (table_of planned.table.now) (take l.probe-index l.probes))
+    l.seen
