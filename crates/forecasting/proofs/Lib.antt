@@ -1,3 +1,3 @@
 -- Laws that the proofs of forecasting cite.
-mod Forecast
-mod Line
+pub mod Forecast
+pub mod Line

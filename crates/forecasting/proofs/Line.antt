@@ -1,13 +1,20 @@
 -- The forecast program's line: what the forecast of an input says of it, and that 64 bytes hold it.
 -- Assumes nothing.
-use mathlib.Core.Path.{◌≡◌, refl}
+use mathlib.Core.Path.{◌≡◌, refl, ◌∙◌}
 use mathlib.Core.Bool.{Bool, true, false, cond}
 use mathlib.Core.List.{List, [], ◌∷◌, ◌++◌}
 use Prim.Native.Nat.{ℕ, ◌-◌, ◌≤◌, ◌<◌}
 use native.Mathlib.Omega.{arith}
-use borrow.Author.Tests.{lt-ltb, le-ltb, eq-eqb, ne_eqb}
+use borrow.Author.Tests.{lt-ltb, le-ltb}
 use lib.ListN.{length, get_or, take, drop}
+use lib.Dec.{eqb}
+use Rattle.std.specs.Prelude.{Result, Ok, Err}
+use Rattle.tables.specs.declared.Refusal as DRefusal
+use Rattle.tables.specs.declared.Refusal.TheVariants as Refusal
 use Rattle.tables.specs.Refusals.{passed}
+use Rattle.tables.proofs.Answers.{refusal_fails}
+use Rattle.construction.specs.declared.Figures as DFigures
+use Rattle.construction.specs.Told.{sizes_of}
 use Rattle.tables.specs.Tables.{wires, table_of, table_bytes}
 use Rattle.tables.proofs.Cut.{input_empty, input_part}
 use Rattle.construction.specs.declared.Sizes as DSizes
@@ -18,22 +25,11 @@ use Rattle.construction.specs.Says.{plain_fault, ForecastSays}
 use Rattle.text.specs.Text.{decimal, line_of, refusal_line}
 use Rattle.text.proofs.Writing.{number_long, refusal_long}
 use Rattle.forecasting.specs.Lines.{line_fault, figures_line, forecast_line}
-use Rattle.forecasting.specs.Figures.{sizes_line}
-
--- the number says which line
-pub refused_line : (z : DSizes.Sizes) → (z.number ≡ 0 → ⊥) → refusal_line z.number z.place ≡ sizes_line z
-unfolding sizes_line
-refused_line z h = rw (ne_eqb z.number 0 h)
-
-pub figures_line_lem : (z : DSizes.Sizes) → z.number ≡ 0 → figures_line z.shares z.wires z.tape z.bytes ≡ sizes_line z
-unfolding sizes_line
-figures_line_lem z h = rw (eq-eqb z.number 0 h)
+use Rattle.forecasting.specs.Figures.{told_line}
 
 -- an input that is too long
-pub line_long :
-    (s : List ℕ) → 65536 < length s
-    → sizes_line (record { number = 9; place = 0; shares = 0; wires = 0; tape = 0; bytes = 0 }) ≡ forecast_line s
-unfolding line_fault forecast_line sizes_line
+pub line_long : (s : List ℕ) → 65536 < length s → told_line (Err Refusal.NoRoom) ≡ forecast_line s
+unfolding line_fault forecast_line
 line_long s h = rw (lt-ltb 65536 (length s) h) refl
 
 -- figures that count only where the test holds
@@ -43,27 +39,40 @@ same_line :
 same_line true a b c d x = refl
 same_line false a b c d x = refl
 
+-- the line of what C is told
+sizes_line : DSizes.Sizes → List ℕ
+sizes_line z = cond (eqb z.number 0) (figures_line z.shares z.wires z.tape z.bytes) (refusal_line z.number z.place)
+
+line_of_sizes : (r : Result DFigures.Figures DRefusal.Refusal) → told_line r ≡ sizes_line (sizes_of r)
+unfolding sizes_line
+line_of_sizes (Ok z) = refl
+line_of_sizes (Err e) = rw (refusal_fails e) refl
+
 line_forecast :
-    (s : List ℕ) (r : DSizes.Sizes) → length s ≤ 65536 → ForecastSays isw (drop 1 s) (get_or s 0 0) r → sizes_line r ≡ forecast_line s
+    (s : List ℕ) (r : Result DFigures.Figures DRefusal.Refusal) → length s ≤ 65536
+    → ForecastSays isw (drop 1 s) (get_or s 0 0) (sizes_of r) → told_line r ≡ forecast_line s
 unfolding line_fault forecast_line sizes_line
 line_forecast s r h F =
     let o = get_or s 0 0 in
     let t = table_of (drop 1 s) in
     let m = masked_table isw o t in
     let f = plain_fault isw (drop 1 s) o in
-    rw (le-ltb 65536 (length s) h, F.number, F.place, F.shares, F.wires, F.tape, F.bytes)
+    line_of_sizes r
+    ∙ rw (le-ltb 65536 (length s) h, F.number, F.place, F.shares, F.wires, F.tape, F.bytes)
     (same_line (passed f) (shares_of o) (wires m) (tape_long isw o t) (length (table_bytes m)) (refusal_line f.number f.place))
 
 -- "No input counts as order 0 and an empty table"
 pub line_empty :
-    (s : List ℕ) (r : DSizes.Sizes) → length s ≡ 0 → ForecastSays isw s 0 r → sizes_line r ≡ forecast_line s
-line_empty s r e F = line_forecast s r (omega (arith, e)) (input_empty (λ t o. ForecastSays isw t o r) s e F)
+    (s : List ℕ) (r : Result DFigures.Figures DRefusal.Refusal) → length s ≡ 0 → ForecastSays isw s 0 (sizes_of r) → told_line r ≡ forecast_line s
+line_empty s r e F = line_forecast s r (omega (arith, e)) (input_empty (λ t o. ForecastSays isw t o (sizes_of r)) s e F)
 
 -- the order byte and what follows it
 pub line_part :
-    (s : List ℕ) (r : DSizes.Sizes) → length s ≤ 65536 → ForecastSays isw (take (length s - 1) (drop 1 s)) (get_or s 0 0) r
-    → sizes_line r ≡ forecast_line s
-line_part s r h F = line_forecast s r h (input_part (λ t o. ForecastSays isw t o r) s F)
+    (s : List ℕ) (r : Result DFigures.Figures DRefusal.Refusal) → length s ≤ 65536
+    → ForecastSays isw (take (length s - 1) (drop 1 s)) (get_or s 0 0) (sizes_of r) → told_line r ≡ forecast_line s
+line_part s r h F = line_forecast s r h (input_part (λ t o. ForecastSays isw t o (sizes_of r)) s F)
+
+pub ruleset input_laws = (line_long, line_empty, line_part)
 
 -- 64 bytes hold the line
 figures_short : (a b c d : ℕ) → length (figures_line a b c d) ≤ 64

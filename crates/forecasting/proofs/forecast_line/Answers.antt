@@ -8,27 +8,14 @@ use Rattle.text.proofs.Writing.{puts_as, put_elsewhere}
 use Rattle.forecasting.proofs.Line.{line_fits}
 use Rattle.forecasting.proofs.forecast_line.Goals as goal
 
-pub put_line-long-requires : goal.put_line-long-requires
-put_line-long-requires c =
-    let s = c.args.input.now in
-    omega (arith, ap length c.line_sizes-sizes.ensures, line_fits s)
-
-pub slice_bounds-line-end : goal.slice_bounds-line-end
-slice_bounds-line-end c =
-    let s = c.args.input.now in
-    omega (arith, c.put_line-long.ensures.next, ap length c.line_sizes-sizes.ensures, line_fits s)
-
 pub slice_bounds-put_all-end : goal.slice_bounds-put_all-end
 slice_bounds-put_all-end c =
-    let s = c.args.input.now in
-    sym (length-take-le _ _ (omega (arith, c.put_line-long.ensures.next, ap length c.line_sizes-sizes.ensures, line_fits s)))
+    let long = line_fits c.args.input.now in
+    sym (length-take-le _ _ (omega (arith, c.put_line-long.ensures.next, ap length c.input_forecast.ensures, long)))
 
 pub returns : goal.returns
 returns c =
-    let s = c.args.input.now in
     record {
-      fits = line_fits s;
-      line = put_elsewhere
-          (puts_as c.line_sizes-sizes.ensures c.put_line-long.ensures)
-          c.put_all.ensures;
+      fits = line_fits c.args.input.now;
+      line = put_elsewhere (puts_as c.input_forecast.ensures c.put_line-long.ensures) c.put_all.ensures;
     }
