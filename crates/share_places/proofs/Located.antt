@@ -10,12 +10,17 @@ use lib.Dec.{eqb}
 use lib.ListN.{length, get_or, take, drop, length-set, length-append, take-append-drop, get_or-append}
 use lib.Seq.{get_or-set_same, get_or-set_other, length-take-le, take-suc, take-length, get_or-append_seam}
 use borrow.Author.Tests.{eqb-true, eqb-false}
-use Rattle.tables.specs.Tables.{Kind, OR, kind_of, Gate, no_gate, Table, wires, gate_of, total}
+use denote.Enum.Bare.{sameb}
+use Rattle.tables.specs.declared.Kind as DKind
+use Rattle.tables.specs.declared.Kind.TheVariants as Named
+use Rattle.tables.specs.contracts.Kind.{the_type}
+use Rattle.tables.specs.Kinds.{kind_is}
+use Rattle.tables.specs.Tables.{Kind, is_random, Gate, no_gate, Table, wires, gate_of, total}
 use Rattle.tables.proofs.Run.{total_append}
 use Rattle.layout.specs.declared.Places as DPlaces
 use Rattle.share_places.specs.declared.KeptPlaces as DKeptPlaces
 use Rattle.construction.specs.Shares.{up_from, tri}
-use Rattle.construction.specs.Wires.{first_on, and_cost, cost, new_shares, input_shares, shares_after}
+use Rattle.construction.specs.Wires.{and_cost, and_shares, cost, new_shares, input_shares, shares_after}
 use Rattle.layout.specs.Layout.{share_wires}
 use Rattle.share_places.specs.Located.{kept, places_at, Small, Room, Put, Holds, Noted, shares_to, all_shares, Located, gate_wire}
 use Rattle.construction.proofs.Sum.{up_length, up_plus, up_shift, up_cong}
@@ -61,36 +66,35 @@ square_more : (n : ℕ) → n + n ≤ n * n + 1
 square_more zero = omega arith
 square_more (suc m) = omega (arith, square_more m)
 
--- the places as the code chooses them, by the byte of the kind
-pub new_places_are :
-    {first head base step other-base other_step : ℕ} (k n w : ℕ) (a : DPlaces.Places) → k ≤ 2 → 1 ≤ n → n ≤ 31
-    → w + cost (kind_of k) n ≤ 65535 → Small a → first ≡ w + 5 * tri n + (n - 1) → other-base ≡ cond (eqb k 1) (w + 1) (first + n)
-    → other_step ≡ cond (eqb k 1) 1 n → head ≡ cond (eqb k 2) first w → base ≡ cond (eqb k 0) a.base other-base
-    → step ≡ cond (eqb k 0) a.step other_step
-    → (share_wires n (with_places head base step) ≡ new_shares (kind_of k) n w (share_wires n a)) × Small (with_places head base step)
-new_places_are zero n w a h some few fits small e p q f b t =
-    rw (f, b, t) (refl, record { head = omega arith; base = small.base; step = small.step })
-new_places_are (suc zero) n w a h some few fits small e p q f b t =
-    rw (f, b, t, p, q) (shares_run n w some, record { head = omega arith; base = omega arith; step = omega arith })
-new_places_are (suc (suc zero)) n w a h some few fits small e p q f b t =
-    rw (f, b, t, p, q, e) (
-      shares_rows n (w + 5 * tri n) (w + 5 * tri n + (n - 1)) some refl,
-      record { head = omega (arith, square_more n); base = omega (arith, square_more n); step = omega arith },
-    )
-new_places_are (suc (suc (suc k))) n w a h some few fits small e p q f b t = absurd (omega arith)
+-- an AND's shares
+pub and_places_are :
+    {first : ℕ} (n w : ℕ) → 1 ≤ n → first ≡ w + 5 * tri n + (n - 1) → share_wires n (with_places first (first + n) n) ≡ and_shares n w
+and_places_are {first} n w some e = shares_rows n (w + 5 * tri n) first some e
 
--- an OR's shares: those of its AND, with share 1 on its last wire
-pub or_places_are :
-    {first cost-of : ℕ} (n w : ℕ) → 1 ≤ n → n ≤ 31 → w + cost OR n ≤ 65535 → first ≡ w + 2 + 5 * tri n + (n - 1) → cost-of ≡ and_cost n
-    → ((a : List ℕ) → share_wires n (with_places (w + 2 + cost-of) (first + n) n) ≡ new_shares OR n w a)
-    × Small (with_places (w + 2 + cost-of) (first + n) n)
-or_places_are n w some few fits e c =
-    let v = suc (suc w) in
-    let same : w + 2 ≡ v = omega arith in
-    rw (e, c, same) (
-      (λ a. ap {A = List ℕ} {B = List ℕ} (first_on (v + and_cost n)) (shares_rows n (v + 5 * tri n) (v + 5 * tri n + (n - 1)) some refl)),
-      record { head = omega arith; base = omega (arith, square_more n); step = omega arith },
-    )
+pub and_places_small :
+    {first : ℕ} (n w : ℕ) → first ≡ w + 5 * tri n + (n - 1) → w + and_cost n ≤ 65535 → Small (with_places first (first + n) n)
+and_places_small n w e fits =
+    record { head = omega (arith, square_more n); base = omega (arith, square_more n); step = omega (arith, square_more n) }
+
+-- the places of a NOT, an XOR or an AND as the code chooses them, where an AND's would be at d
+pub few_places_are :
+    {xor not and : Bool} {head base step base' step' : ℕ} (k : DKind.Kind) (n w : ℕ) (a d : DPlaces.Places)
+    → is_random (kind_is k) ≡ false → (k ≡ Named.Constant → ⊥) → (k ≡ Named.Or → ⊥) → 1 ≤ n → n ≤ 31 → w + cost (kind_is k) n ≤ 65535
+    → Small a → share_wires n d ≡ and_shares n w → (w + and_cost n ≤ 65535 → Small d)
+    → xor ≡ sameb the_type k Named.Xor → not ≡ sameb the_type k Named.Not → and ≡ sameb the_type k Named.And
+    → head ≡ cond and d.head w → base' ≡ cond xor (w + 1) d.base → base ≡ cond not a.base base' → step' ≡ cond xor 1 d.step
+    → step ≡ cond not a.step step'
+    → (share_wires n (with_places head base step) ≡ new_shares (kind_is k) n w (share_wires n a)) × Small (with_places head base step)
+few_places_are Named.Not n w a d r c o some few fits small are low x i p h b' b t' t =
+    rw (h, b, t, b', t', p, x, i) (refl, record { head = omega arith; base = small.base; step = small.step })
+few_places_are Named.Xor n w a d r c o some few fits small are low x i p h b' b t' t =
+    rw (h, b, t, b', t', p, x, i) (shares_run n w some, record { head = omega arith; base = omega arith; step = omega arith })
+few_places_are Named.And n w a d r c o some few fits small are low x i p h b' b t' t =
+    rw (h, b, t, b', t', p, x, i) (are, low fits)
+few_places_are Named.Random n w a d r c o some few fits small are low x i p h b' b t' t =
+    let z : ◌≡◌ {A = ℕ} 0 1 = cc in absurd (omega arith)
+few_places_are Named.Constant n w a d r c o some few fits small are low x i p h b' b t' t = absurd (c refl)
+few_places_are Named.Or n w a d r c o some few fits small are low x i p h b' b t' t = absurd (o refl)
 
 -- the places of one wire written: there, and everywhere else
 module _ {p : ℕ} {a : DPlaces.Places} {L L' : List DKeptPlaces.KeptPlaces} (W : Put p a L L') where

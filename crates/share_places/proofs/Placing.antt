@@ -7,9 +7,8 @@ use native.Mathlib.Nat.{zero-add}
 use native.Mathlib.Numerals.{add-one}
 use native.Mathlib.Omega.{arith}
 use lib.ListN.{length, get_or, replicate, length-replicate}
-use Rattle.tables.specs.declared.GateFields as DGateFields
-use Rattle.tables.specs.Tables.{kind_of, Table, gate_of, table_of, operands_of, total}
-use Rattle.tables.specs.Inside.{GateIs}
+use Rattle.tables.specs.Kinds.{kind_is}
+use Rattle.tables.specs.Tables.{Table, gate_of, table_of, operands_of, total}
 use Rattle.tables.proofs.Run.{OfLeft, read_left}
 use Rattle.layout.specs.declared.Places as DPlaces
 use Rattle.construction.specs.Shares.{up_from}
@@ -20,7 +19,8 @@ use Rattle.planning.specs.declared.Plan as DPlan
 use Rattle.planning.specs.Plans.{PlanReady}
 use Rattle.layout.specs.Layout.{share_wires}
 use Rattle.share_places.specs.declared.KeptPlaces as DKeptPlaces
-use Rattle.share_places.specs.Located.{places_at, Room, Put, Holds, Noted, Located, shares_to, all_shares, gate_wire}
+use Rattle.share_places.specs.declared.PlainGate as DPlainGate
+use Rattle.share_places.specs.Located.{PlainGateIs, places_at, Room, Put, Holds, Noted, Located, shares_to, all_shares, gate_wire}
 use Rattle.share_places.proofs.Located.{with_places, shares_run, noted_start, noted_next, shares_to_all, shares_to_length}
 use Rattle.share_places.proofs.Located.{gate_wire_next, shares_to_next}
 use Rattle.share_places.proofs.Turns.{turn}
@@ -84,10 +84,10 @@ module _ {s : List ℕ} {p : DPlan.Plan} (R : PlanReady s p) where
     placing_end h = rw (← shares_to_all p.shares (table_of s) g (h ∙ R.gates)) P.noted
 
     pub placing_turn :
-        {L' : List DKeptPlaces.KeptPlaces} {u : ℕ} {x : DGateFields.GateFields} {a r : DPlaces.Places} → g < p.gates
-        → GateIs (gate_of (table_of s) g) x
-        → a ≡ places_at L x.left → share_wires p.shares r ≡ new_shares (kind_of x.kind) p.shares w (share_wires p.shares a)
-        → Room (p.inputs + g + 1) L → Put (p.inputs + g) r L L' → u ≡ cost (kind_of x.kind) p.shares
+        {L' : List DKeptPlaces.KeptPlaces} {u : ℕ} {x : DPlainGate.PlainGate} {a r : DPlaces.Places} → g < p.gates
+        → PlainGateIs (gate_of (table_of s) g) x
+        → a ≡ places_at L x.left → share_wires p.shares r ≡ new_shares (kind_is x.kind) p.shares w (share_wires p.shares a)
+        → Room (p.inputs + g + 1) L → Put (p.inputs + g) r L L' → u ≡ cost (kind_is x.kind) p.shares
         → Placing (table_of s) p.shares L₀ L' (g + 1) (w + u)
     placing_turn {L'} {u} {x} {a} {r} h is places new room W e =
         let t = table_of s in
@@ -95,12 +95,12 @@ module _ {s : List ℕ} {p : DPlan.Plan} (R : PlanReady s p) where
         let inside : g < length t.gates = omega (arith, R.gates) in
         let S = shares_to n t g in
         let long : length S ≡ t.inputs + g = shares_to_length n t g (omega arith) in
-        let old : OfLeft (operands_of (kind_of x.kind)) (share_wires n a ≡ get_or S (gate_of t g).left []) =
-        read_left (operands_of (kind_of x.kind)) (p.inputs + g) x.left x.right (turn R h P.wire is).reads
+        let old : OfLeft (operands_of (kind_is x.kind)) (share_wires n a ≡ get_or S (gate_of t g).left []) =
+        read_left (operands_of (kind_is x.kind)) (p.inputs + g) x.left x.right (turn R h P.wire is).reads
         (λ k. rw (places, ← is.left) (P.noted.holds x.left (omega (arith, long, R.inputs)))) in
         let one : share_wires n r ≡ new_shares (gate_of t g).kind n (gate_wire n t g) (get_or S (gate_of t g).left []) =
         subst (λ (v : ℕ). share_wires n r ≡ new_shares (gate_of t g).kind n v (get_or S (gate_of t g).left [])) P.wire
-        (rw is.kind at (new ∙ new_shares_read (kind_of x.kind) n w (share_wires n a) (get_or S (gate_of t g).left []) old)) in
+        (rw is.kind at (new ∙ new_shares_read (kind_is x.kind) n w (share_wires n a) (get_or S (gate_of t g).left []) old)) in
         rw add-one
         (record {
           noted = rw (shares_to_next n t g inside, ← one) (noted_next P.noted (omega (arith, long, R.inputs)) room W);

@@ -1,10 +1,13 @@
 -- For contracts inside the library only: no promise of a call cites this. An array keeps, for every plain wire, where its shares
 -- are among the masked wires.
 -- Assumes nothing.
-use Rattle.std.specs.Prelude.{◌≡◌, List, [], ℕ, ◌+◌, ◌*◌, ◌≤◌, ◌<◌, length, get_or, take, set}
-use Rattle.tables.specs.Tables.{Table, wires, total}
+use Rattle.std.specs.Prelude.{◌≡◌, false, List, [], ℕ, ◌+◌, ◌*◌, ◌≤◌, ◌<◌, length, get_or, take, set}
+use Rattle.tables.specs.Tables.{Gate, is_random, Table, wires, total}
+use Rattle.tables.specs.Kinds.{kind_is}
 use Rattle.layout.specs.declared.Places as DPlaces
+use Rattle.layout.specs.declared.Operands as DOperands
 use Rattle.share_places.specs.declared.KeptPlaces as DKeptPlaces
+use Rattle.share_places.specs.declared.PlainGate as DPlainGate
 use Rattle.construction.specs.Wires.{cost, input_shares, shares_after}
 use Rattle.layout.specs.Layout.{share_wires}
 
@@ -19,6 +22,19 @@ kept a = record { head = a.head; base = a.base; step = a.step }
 -- where the array says that the shares of plain wire p are
 abbrev pub places_at : List DKeptPlaces.KeptPlaces → ℕ → DPlaces.Places
 places_at L p = places_of (get_or L p (record { head = 0; base = 0; step = 0 }))
+
+-- where it says that the shares of two plain wires are
+abbrev pub operands_at : List DKeptPlaces.KeptPlaces → ℕ → ℕ → DOperands.Operands
+operands_at L l r = record { left = places_at L l; right = places_at L r }
+
+-- a gate of a plain table as it was read
+pub record PlainGateIs (g : Gate) (r : DPlainGate.PlainGate) : Type 0 where
+  pub kind : kind_is r.kind ≡ g.kind
+  pub plain : is_random g.kind ≡ false
+  pub left : r.left ≡ g.left
+  pub right : r.right ≡ g.right
+  pub left_small : r.left < 65536
+  pub right_small : r.right < 65536
 
 -- three numbers of 16 bits
 pub record Small (a : DPlaces.Places) : Type 0 where

@@ -12,17 +12,17 @@ use Rattle.share_places.proofs.locate.Goals as goal
 
 pub place_inputs-requires : goal.place_inputs-requires
 place_inputs-requires c =
-    let z = plan_sized c.requires.0 in
-    (omega (arith, z.some), z.inputs, omega (arith, c.requires.1))
+    let z = plan_sized c.args.planned.now.ready in
+    (omega (arith, z.some), z.inputs, omega (arith, c.requires))
 
 pub returns : goal.returns
 returns c =
-    let p = c.args.p in
-    let R = c.requires.0 in
+    let p = c.args.planned.now.plan in
+    let R = c.args.planned.now.ready in
     noted_both c.place_inputs.ensures c.place_gates.ensures
     (omega (
       arith,
       up_length p.inputs 0 (λ i. up_from p.shares (p.shares * i) (λ w. w)),
-      all_shares_length p.shares (table_of c.args.table.now),
+      all_shares_length p.shares (table_of c.args.planned.now.table.now),
       R.inputs,
     ))

@@ -5,4 +5,4 @@ use Rattle.tables.specs.Tables.{table_of}
 use Rattle.share_places.proofs.place_gates.Given as goal
 
 abbrev pub invariant-loop-g : goal.invariant-loop-g
-invariant-loop-g l = Placing (table_of l.table) l.n l.initial.places l.places l.g l.w
+invariant-loop-g l = Placing (table_of l.planned.table.now) l.n l.initial.places l.places l.g l.w

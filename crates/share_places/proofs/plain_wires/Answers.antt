@@ -6,7 +6,7 @@ use Rattle.share_places.proofs.Turns.{plan_sized}
 use Rattle.share_places.proofs.plain_wires.Goals as goal
 
 pub overflow_add-result : goal.overflow_add-result
-overflow_add-result c = omega (arith, (plan_sized c.requires).plain)
+overflow_add-result c = omega (arith, (plan_sized c.args.planned.now.ready).plain)
 
 pub returns : goal.returns
-returns c = (refl, (plan_sized c.requires).plain)
+returns c = (refl, (plan_sized c.args.planned.now.ready).plain)
