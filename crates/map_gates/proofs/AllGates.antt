@@ -7,9 +7,9 @@ use native.Mathlib.Numerals.{add-one}
 use native.Mathlib.Omega.{arith}
 use lib.ListN.{length, get_or, take, drop, drop_of_length-le}
 use lib.Seq.{drop-cons}
-use Rattle.tables.specs.declared.GateFields as DGateFields
-use Rattle.tables.specs.Tables.{kind_of, Gate, no_gate, Table, gate_of, table_of, operands_of, total}
-use Rattle.tables.specs.Inside.{ran_on, GateIs}
+use Rattle.tables.specs.Kinds.{kind_is}
+use Rattle.tables.specs.Tables.{Gate, no_gate, Table, gate_of, table_of, operands_of, total}
+use Rattle.tables.specs.Inside.{ran_on}
 use Rattle.tables.proofs.Run.{read_left, read_right}
 use Rattle.construction.specs.Gadgets.{Gadget}
 use Rattle.construction.specs.Wires.{driver_of, share, new_wires, new_shares, cost, masked, input_shares, shares_after}
@@ -20,18 +20,19 @@ use Rattle.planning.specs.declared.Plan as DPlan
 use Rattle.planning.specs.Plans.{PlanReady}
 use Rattle.planning.proofs.Planning.{plan_passed}
 use Rattle.secrecy.specs.Maps.{flipped, gate_flips, map_gates}
-use Rattle.secrecy.specs.Both.{BothFlip, BothReady, flips_at}
+use Rattle.secrecy.specs.Both.{BothFlip, flips_at}
 use Rattle.construction.proofs.Placed.{plain_inputs}
 use Rattle.secrecy.proofs.Flips.{gate_flips_read}
 use Rattle.secrecy.proofs.Both.{left_long}
 use Rattle.secrecy.proofs.MapGates.{GatesLeft, gates_start, gates_ready, gates_more, gates_end}
-use Rattle.layout.specs.declared.Places as DPlaces
+use Rattle.layout.specs.declared.Operands as DOperands
 use Rattle.layout.specs.Layout.{share_wires}
 use Rattle.share_places.specs.declared.KeptPlaces as DKeptPlaces
-use Rattle.share_places.specs.Located.{places_at, Room, Located, shares_to, gate_wire}
+use Rattle.share_places.specs.declared.PlainGate as DPlainGate
+use Rattle.share_places.specs.Located.{PlainGateIs, operands_at, Room, Located, shares_to, gate_wire}
 use Rattle.share_places.proofs.Located.{gate_wire_next, shares_to_next, shares_to_length, located_at}
 use Rattle.share_places.proofs.Turns.{Turn, turn, turn_early, turn_value, plan_sized, located_room}
-use Rattle.map_gates.specs.Steps.{StepReady, GateRan}
+use Rattle.map_gates.specs.Steps.{StepReady, GateRan, GatesReady}
 
 -- the gates from g on are left, from wire w and from a place of the tape on; then the buffers are M, A and B
 pub record Stepping (G : Gadget) (t : Table) (n k : ℕ) (ts M A B : List ℕ) (g w at : ℕ) (m x y : List ℕ) : Type 0 where
@@ -60,8 +61,7 @@ Going G t n k ts at₀ m₀ x₀ y₀ g w at m x y =
 
 pub steps_start :
     {G : Gadget} → Lawful G → {s : List ℕ} {p : DPlan.Plan} (k : ℕ) {w at : ℕ} {ts m x y : List ℕ} → PlanReady s p → w ≡ p.shares * p.inputs
-    → BothReady (p.shares * (table_of s).inputs) (total (λ kd. cost kd p.shares) (table_of s).gates) at
-    (total (λ kd. draws kd p.shares) (table_of s).gates) ts m x y
+    → GatesReady p.shares (table_of s) ts at m x y
     → Going G (table_of s) p.shares k ts at m x y 0 w at m x y
 unfolding shares_after total
 steps_start L {s} {p} k {w} R e both =
@@ -80,12 +80,12 @@ steps_start L {s} {p} k {w} R e both =
 
 -- at gate g, whose fields are r, where the array says where its operands' shares are
 module _ {G : Gadget} (L : Lawful G) {s : List ℕ} {p : DPlan.Plan} {k : ℕ} {ts M A B : List ℕ}
-    {g w at : ℕ} {m x y : List ℕ} {r : DGateFields.GateFields}
+    {g w at : ℕ} {m x y : List ℕ} {r : DPlainGate.PlainGate}
     {places : List DKeptPlaces.KeptPlaces}
     (R : PlanReady s p)
     (P : Stepping G (table_of s) p.shares k ts M A B g w at m x y)
     (h : g < p.gates)
-    (is : GateIs (gate_of (table_of s) g) r)
+    (is : PlainGateIs (gate_of (table_of s) g) r)
     (Z : Located (table_of s) p.shares places) where
   abbrev t : Table
   t = table_of s
@@ -93,11 +93,8 @@ module _ {G : Gadget} (L : Lawful G) {s : List ℕ} {p : DPlan.Plan} {k : ℕ} {
   abbrev n : ℕ
   n = p.shares
 
-  abbrev a : DPlaces.Places
-  a = places_at places r.left
-
-  abbrev b : DPlaces.Places
-  b = places_at places r.right
+  abbrev o : DOperands.Operands
+  o = operands_at places r.left r.right
 
   abbrev this : Gate
   this = gate_of t g
@@ -111,10 +108,10 @@ module _ {G : Gadget} (L : Lawful G) {s : List ℕ} {p : DPlan.Plan} {k : ℕ} {
   facts : Turn p.inputs n g w r
   facts = turn R h P.wire is
 
-  left_are : r.left < p.inputs + g → get_or S this.left [] ≡ share_wires n a
+  left_are : r.left < p.inputs + g → get_or S this.left [] ≡ share_wires n o.left
   left_are h = rw (← is.left) (located_at Z g r.left (omega (arith, inside)) (omega (arith, h, R.inputs)))
 
-  right_are : r.right < p.inputs + g → get_or S this.right [] ≡ share_wires n b
+  right_are : r.right < p.inputs + g → get_or S this.right [] ≡ share_wires n o.right
   right_are h = rw (← is.right) (located_at Z g r.right (omega (arith, inside)) (omega (arith, h, R.inputs)))
 
   -- the gates that are left: this one, and those after it
@@ -134,11 +131,10 @@ module _ {G : Gadget} (L : Lawful G) {s : List ℕ} {p : DPlan.Plan} {k : ℕ} {
     located_room R Z (omega (arith, facts.right)),
   )
 
-  pub step_ready : StepReady r.kind r.left n w a b ts at m x y
+  pub step_ready : StepReady (kind_is r.kind) r.left n w o ts at m x y
   step_ready =
       let z = plan_sized R in
       record {
-        plain = facts.kind;
         value = turn_value facts;
         some = omega (arith, z.some);
         shares = λ c. record {
@@ -156,23 +152,23 @@ module _ {G : Gadget} (L : Lawful G) {s : List ℕ} {p : DPlan.Plan} {k : ℕ} {
 
   -- the gate has run with the share j, which is the free one
   pub step_turn :
-      {c d j : ℕ} {m' x' y' : List ℕ} → GateRan G r.kind r.left n j g w a b ts at m m' x x' y y' → j ≡ k
-      → c ≡ cost (kind_of r.kind) n → d ≡ draws (kind_of r.kind) n → Stepping G t n k ts M A B (g + 1) (w + c) (at + d) m' x' y'
+      {c d j : ℕ} {m' x' y' : List ℕ} → GateRan G (kind_is r.kind) r.left n j g w o ts at m m' x x' y y' → j ≡ k
+      → c ≡ cost (kind_is r.kind) n → d ≡ draws (kind_is r.kind) n → Stepping G t n k ts M A B (g + 1) (w + c) (at + d) m' x' y'
   step_turn {c} {d} {j} {m'} {x'} {y'} ran free size bits =
-      let ran_free = subst (λ (i : ℕ). GateRan G r.kind r.left n i g w a b ts at m m' x x' y y') free ran in
+      let ran_free = subst (λ (i : ℕ). GateRan G (kind_is r.kind) r.left n i g w o ts at m m' x x' y y') free ran in
       let kind = this.kind in
       let l = get_or S this.left [] in
       let e = get_or S this.right [] in
       let v : ℕ → ℕ = λ q. get_or x q 0 in
       let u : ℕ → ℕ = λ q. get_or y q 0 in
-      let read = read_left (operands_of (kind_of r.kind)) (p.inputs + g) r.left r.right facts.reads (λ h. sym (left_are h)) in
-      let read' = read_right (operands_of (kind_of r.kind)) (p.inputs + g) r.left r.right facts.reads (λ h. sym (right_are h)) in
-      let gates : map driver_of (new_wires G (kind_of r.kind) r.left n g w (share_wires n a) (share_wires n b))
+      let read = read_left (operands_of (kind_is r.kind)) (p.inputs + g) r.left r.right facts.reads (λ h. sym (left_are h)) in
+      let read' = read_right (operands_of (kind_is r.kind)) (p.inputs + g) r.left r.right facts.reads (λ h. sym (right_are h)) in
+      let gates : map driver_of (new_wires G (kind_is r.kind) r.left n g w (share_wires n o.left) (share_wires n o.right))
       ≡ map driver_of (new_wires G kind this.left n g w l e) =
-      ap (map driver_of) (new_wires_read G (kind_of r.kind) r.left n g w _ l _ e read read')
+      ap (map driver_of) (new_wires_read G (kind_is r.kind) r.left n g w _ l _ e read read')
       ∙ rw (is.kind, is.left) in
-      let flips : gate_flips G (kind_of r.kind) n k (share_wires n a) (share_wires n b) v u ≡ gate_flips G kind n k l e v u =
-      gate_flips_read G (kind_of r.kind) n k _ l _ e v u read read' ∙ rw is.kind in
+      let flips : gate_flips G (kind_is r.kind) n k (share_wires n o.left) (share_wires n o.right) v u ≡ gate_flips G kind n k l e v u =
+      gate_flips_read G (kind_is r.kind) n k _ l _ e v u read read' ∙ rw is.kind in
       let of_shares : BothFlip (map driver_of (new_wires G kind this.left n g w l e)) (gate_flips G kind n k l e v u) ts at w m m' x x' y y' =
       subst₂ (λ (gs : List Gate) (fs : List ℕ). BothFlip gs fs ts at w m m' x x' y y') gates flips ran_free in
       let next : S ++ (new_shares kind n w (get_or S this.left []) ∷ []) ≡ shares_to n t (suc g) =

@@ -2,12 +2,11 @@
 -- table order.
 -- Assumes nothing.
 use Rattle.std.specs.Prelude.{◌≡◌, Bool, cond, List, [], ◌∷◌, map, ℕ, ◌+◌, ◌*◌, ◌≤◌, get_or, take, drop}
-use Rattle.tables.specs.Tables.{Kind, NOT, AND, OR, kind_of, Gate, gate, Table, total}
-use Rattle.tables.specs.Inside.{PlainByte}
+use Rattle.tables.specs.Tables.{Kind, NOT, AND, CONSTANT, OR, Gate, gate, Table, total}
 use Rattle.construction.specs.Gadgets.{Gadget}
 use Rattle.construction.specs.Wires.{driver_of, share, and_shares, new_wires, cost, masked, input_shares}
 use Rattle.construction.specs.Counts.{draws}
-use Rattle.layout.specs.declared.Places as DPlaces
+use Rattle.layout.specs.declared.Operands as DOperands
 use Rattle.layout.specs.Layout.{share_wires, and_gates, or_gates}
 use Rattle.secrecy.specs.Maps.{gate_flips, map_gates}
 use Rattle.secrecy.specs.Both.{BothRan, BothFlip, BothReady}
@@ -29,24 +28,28 @@ not_gates l r = gate NOT l 0 ∷ gate NOT r 0 ∷ []
 abbrev pub last_gates : ℕ → ℕ → List Gate
 last_gates n w = gate NOT (share (and_shares n w) 0) 0 ∷ []
 
--- a gate of a plain table, from wire w and from a place of the tape on; a constant reads no shares, and its left operand is a bit
-pub record StepReady (kind left n w : ℕ) (a b : DPlaces.Places) (ts : List ℕ) (at : ℕ) (m x y : List ℕ) : Type 0 where
-  pub plain : PlainByte kind
-  pub value : kind ≡ 4 → left ≤ 1
+-- a gate, from wire w and from a place of the tape on; a constant reads no shares, and its left operand is a bit
+pub record StepReady (kind : Kind) (left n w : ℕ) (o : DOperands.Operands) (ts : List ℕ) (at : ℕ) (m x y : List ℕ) : Type 0 where
+  pub value : kind ≡ CONSTANT → left ≤ 1
   pub some : 1 ≤ n
-  pub shares : (kind ≡ 4 → ⊥) → SharesBefore n w a b
-  pub wires : w + cost (kind_of kind) n ≤ 65535
-  pub both : BothReady w (cost (kind_of kind) n) at (draws (kind_of kind) n) ts m x y
+  pub shares : (kind ≡ CONSTANT → ⊥) → SharesBefore n w o.left o.right
+  pub wires : w + cost kind n ≤ 65535
+  pub both : BothReady w (cost kind n) at (draws kind n) ts m x y
 
 -- plain gate g has run on in both runs, and what it flips is read off the values x and y so far
 abbrev pub GateRan :
-    Gadget → ℕ → ℕ → ℕ → ℕ → ℕ → ℕ → DPlaces.Places → DPlaces.Places → List ℕ → ℕ
+    Gadget → Kind → ℕ → ℕ → ℕ → ℕ → ℕ → DOperands.Operands → List ℕ → ℕ
     → List ℕ → List ℕ → List ℕ → List ℕ → List ℕ → List ℕ → Type 0
-GateRan G kind left n k g w a b ts at m m' x x' y y' =
+GateRan G kind left n k g w o ts at m m' x x' y y' =
     BothFlip
-    (map driver_of (new_wires G (kind_of kind) left n g w (share_wires n a) (share_wires n b)))
-    (gate_flips G (kind_of kind) n k (share_wires n a) (share_wires n b) (λ p. get_or x p 0) (λ p. get_or y p 0))
+    (map driver_of (new_wires G kind left n g w (share_wires n o.left) (share_wires n o.right)))
+    (gate_flips G kind n k (share_wires n o.left) (share_wires n o.right) (λ p. get_or x p 0) (λ p. get_or y p 0))
     ts at w m m' x x' y y'
+
+-- all gates, from a place of the tape on
+abbrev pub GatesReady : ℕ → Table → List ℕ → ℕ → List ℕ → List ℕ → List ℕ → Type 0
+GatesReady n t ts at m x y =
+    BothReady (n * t.inputs) (total (λ kd. cost kd n) t.gates) at (total (λ kd. draws kd n) t.gates) ts m x y
 
 -- all gates have run on in both runs, from the values x and y of the inputs' shares, whatever these are: the second run's random
 -- bits are the map's

@@ -3,20 +3,22 @@
 #![tactic(auto)]
 
 ghost use Rattle.std.specs.Prelude.{◌≡◌, true, cond, [], map, ◌+◌, ◌*◌, ◌≤◌, ◌<◌, ℕ, get_or};
-ghost use Rattle.tables.specs.Tables.{AND, table_of, total};
+ghost use Rattle.tables.specs.Tables.{AND, table_of};
+ghost use Rattle.tables.specs.Kinds.{kind_is};
 ghost use Rattle.tables.specs.Inside.{ran_on, RunsTo};
 ghost use Rattle.tables.specs.Packing.{unpacked};
 ghost use Rattle.construction.specs.Shares.{pairs, tri};
 ghost use Rattle.construction.specs.Gadgets.{gadget_of};
 ghost use Rattle.construction.specs.Wires.{and_cost, cost};
-ghost use Rattle.construction.specs.Counts.{draws};
 ghost use Rattle.secrecy.specs.Maps.{gate_flips};
 ghost use Rattle.secrecy.specs.Both.{wires_flip, BothFlip, BothReady};
-ghost use Rattle.planning.specs.Plans.{PlanReady};
 ghost use Rattle.layout.specs.Layout.{share_wires, and_gates};
-ghost use Rattle.share_places.specs.Located.{places_at, Room, Located};
+ghost use Rattle.share_places.specs.Located.{operands_at, Room, Located};
 ghost use Rattle.map_values.specs.Driving.{SharesBefore};
-ghost use Rattle.map_gates.specs.Steps.{product_kind, product_gates, not_gates, last_gates, StepReady, GateRan, GatesRan};
+ghost use Rattle.map_gates.specs.Steps.{product_kind, product_gates, not_gates, last_gates, StepReady, GateRan, GatesReady};
+ghost use Rattle.map_gates.specs.Steps.{GatesRan};
+
+use tables::Kind;
 
 // An AND in both runs, from wire w and from a place of the tape on: the pairs, then the rows.
 fn map_and(
@@ -111,12 +113,11 @@ fn map_product(
     run_last_not(or, n, v, one, other);
 }
 
-// A plain gate in both runs, from wire w and from a place of the tape on, where an array says where its operands' shares are.
+// A plain gate in both runs, from wire w and from a place of the tape on, where an array says where its operands' shares are. A NOT
+// reads one number of the array.
 fn map_gate(
     and: construction::And,
-    kind: u8,
-    left: usize,
-    right: usize,
+    gate: share_places::PlainGate,
     k: usize,
     n: usize,
     w: usize,
@@ -127,55 +128,55 @@ fn map_gate(
     one: &mut [u8],
     other: &mut [u8],
 )
-    requires { Room (left + 1) places.now × Room (right + 1) places.now
-        × StepReady kind left n w (places_at places.now left) (places_at places.now right)
+    requires { Room (gate.left + 1) places.now × Room (gate.right + 1) places.now
+        × StepReady (kind_is gate.kind) gate.left n w (operands_at places.now gate.left gate.right)
         (unpacked tape.now) at (unpacked mapped.old) one.old other.old }
-    ensures { (g : ℕ) → GateRan (gadget_of and) kind left n k g w
-        (places_at places.now left)
-        (places_at places.now right)
+    ensures { (g : ℕ) → GateRan (gadget_of and) (kind_is gate.kind) gate.left n k g w
+        (operands_at places.now gate.left gate.right)
         (unpacked tape.now) at
         (unpacked mapped.old) (unpacked mapped.new) one.old
         one.new other.old other.new }
 {
-    if kind == 4 {
-        map_values::run_constants(one, w, n, left as u8);
-        map_values::run_constants(other, w, n, left as u8);
-        return;
+    match gate.kind {
+        Kind::Not => {
+            let head = places[gate.left].head as usize;
+            map_values::run_not(one, w, head);
+            map_values::run_not(other, w, head);
+        }
+        Kind::Xor => {
+            let operands = share_places::operands_at(places, gate.left, gate.right);
+            map_values::run_xors(one, w, n, operands);
+            map_values::run_xors(other, w, n, operands);
+        }
+        Kind::Random => {}
+        Kind::Constant => {
+            map_values::run_constants(one, w, n, gate.left as u8);
+            map_values::run_constants(other, w, n, gate.left as u8);
+        }
+        Kind::And | Kind::Or => {
+            let operands = share_places::operands_at(places, gate.left, gate.right);
+            map_product(
+                and,
+                gate.kind == Kind::Or,
+                k,
+                n,
+                w,
+                operands,
+                tape,
+                at,
+                mapped,
+                one,
+                other,
+            );
+        }
     }
-    let a = share_places::places_at(places, left);
-    if kind == 0 {
-        map_values::run_not(one, w, a.head);
-        map_values::run_not(other, w, a.head);
-        return;
-    }
-    let b = share_places::places_at(places, right);
-    let operands = layout::Operands { left: a, right: b };
-    if kind == 1 {
-        map_values::run_xors(one, w, n, operands);
-        map_values::run_xors(other, w, n, operands);
-        return;
-    }
-    map_product(
-        and,
-        kind == 5,
-        k,
-        n,
-        w,
-        operands,
-        tape,
-        at,
-        mapped,
-        one,
-        other,
-    );
 }
 
 // All gates of a plan in both runs, from a place of the tape on: both runs begin with the values of the inputs' shares, whatever
 // these are.
 pub fn map_gates(
     and: construction::And,
-    table: &[u8],
-    p: planning::Plan,
+    planned: &planning::Planned,
     k: usize,
     places: &[share_places::KeptPlaces],
     tape: &[u8],
@@ -184,25 +185,21 @@ pub fn map_gates(
     one: &mut [u8],
     other: &mut [u8],
 )
-    requires { PlanReady table.now p × Located (table_of table.now) p.shares places.now
-        × BothReady (p.shares * (table_of table.now).inputs) (total (λ kd. cost kd p.shares) (table_of table.now).gates) at
-        (total (λ kd. draws kd p.shares) (table_of table.now).gates) (unpacked tape.now) (unpacked mapped.old) one.old other.old }
-    ensures { GatesRan (gadget_of and) p.shares k (table_of table.now) (unpacked tape.now) at
+    requires { Located (table_of planned.now.table.now) planned.now.plan.shares places.now
+        × GatesReady planned.now.plan.shares (table_of planned.now.table.now) (unpacked tape.now) at
+        (unpacked mapped.old) one.old other.old }
+    ensures { GatesRan (gadget_of and) planned.now.plan.shares k (table_of planned.now.table.now) (unpacked tape.now) at
         (unpacked mapped.old) (unpacked mapped.new) one.old
         one.new other.old other.new }
 {
-    let n = p.shares;
-    let gates = p.gates;
-    let mut costs = [0u16; 6];
-    gate_costs::note_costs(n, &mut costs);
-    let mut w = n * p.inputs;
+    let n = planned.plan.shares;
+    let costs = gate_costs::GateCosts::new(n);
+    let mut w = n * planned.plan.inputs;
     let mut next = at;
-    for g in 0..gates {
-        let x = fields::gate_at(table, gates, g);
-        map_gate(
-            and, x.kind, x.left, x.right, k, n, w, places, tape, next, mapped, one, other,
-        );
-        w += gate_costs::noted_cost(&costs, x.kind);
-        next += gate_costs::gate_draws(x.kind, n);
+    for g in 0..planned.plan.gates {
+        let gate = share_places::plain_gate(planned, g);
+        map_gate(and, gate, k, n, w, places, tape, next, mapped, one, other);
+        w += costs.of(gate.kind);
+        next += gate_costs::gate_draws(gate.kind, n);
     }
 }

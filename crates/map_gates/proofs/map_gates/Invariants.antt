@@ -8,6 +8,6 @@ use Rattle.map_gates.proofs.map_gates.Given as goal
 
 abbrev pub invariant-loop-g : goal.invariant-loop-g
 invariant-loop-g l =
-    Going (gadget_of l.and) (table_of l.table) l.n l.k (unpacked l.tape) l.at
+    Going (gadget_of l.and) (table_of l.planned.table.now) l.n l.k (unpacked l.tape) l.at
     (unpacked l.initial.mapped) l.initial.one l.initial.other
     l.g l.w l.next (unpacked l.mapped) l.one l.other
