@@ -8,8 +8,7 @@ ghost use Rattle.map_runs.specs.Working.{WorkReady, WorkSays};
 // Maps with a table of at most N wires.
 fn map_sized<const N: usize>(
     and: construction::And,
-    table: &[u8],
-    p: planning::Plan,
+    planned: &planning::Planned,
     k: usize,
     first: &[u8],
     second: &[u8],
@@ -18,9 +17,9 @@ fn map_sized<const N: usize>(
     one: &mut [u8],
     other: &mut [u8],
 )
-    requires { WorkReady table.now p k first.now second.now tape.now mapped.old one.old other.old
-        × (p.inputs + p.gates ≤ N) × (N ≤ 65536) }
-    ensures { WorkSays (gadget_of and) table.now p.order k first.now second.now tape.now
+    requires { WorkReady planned.now.plan k first.now second.now tape.now mapped.old one.old other.old
+        × (planned.now.plan.inputs + planned.now.plan.gates ≤ N) × (N ≤ 65536) }
+    ensures { WorkSays (gadget_of and) planned.now.table.now planned.now.plan.order k first.now second.now tape.now
         mapped.old mapped.new one.old one.new other.old other.new }
 {
     let none = share_places::KeptPlaces {
@@ -31,8 +30,7 @@ fn map_sized<const N: usize>(
     let mut places = [none; N];
     map_runs::map_with(
         and,
-        table,
-        p,
+        planned,
         k,
         first,
         second,
@@ -47,8 +45,7 @@ fn map_sized<const N: usize>(
 // Maps with a table of any size.
 fn map_any(
     and: construction::And,
-    table: &[u8],
-    p: planning::Plan,
+    planned: &planning::Planned,
     k: usize,
     first: &[u8],
     second: &[u8],
@@ -57,26 +54,25 @@ fn map_any(
     one: &mut [u8],
     other: &mut [u8],
 )
-    requires { WorkReady table.now p k first.now second.now tape.now mapped.old one.old other.old }
-    ensures { WorkSays (gadget_of and) table.now p.order k first.now second.now tape.now
+    requires { WorkReady planned.now.plan k first.now second.now tape.now mapped.old one.old other.old }
+    ensures { WorkSays (gadget_of and) planned.now.table.now planned.now.plan.order k first.now second.now tape.now
         mapped.old mapped.new one.old one.new other.old other.new }
 {
-    if share_places::plain_wires(table, p) <= 2048 {
-        map_sized::<2048>(and, table, p, k, first, second, tape, mapped, one, other);
+    if share_places::plain_wires(planned) <= 2048 {
+        map_sized::<2048>(and, planned, k, first, second, tape, mapped, one, other);
         return;
     }
-    if share_places::plain_wires(table, p) <= 16384 {
-        map_sized::<16384>(and, table, p, k, first, second, tape, mapped, one, other);
+    if share_places::plain_wires(planned) <= 16384 {
+        map_sized::<16384>(and, planned, k, first, second, tape, mapped, one, other);
         return;
     }
-    map_sized::<65536>(and, table, p, k, first, second, tape, mapped, one, other);
+    map_sized::<65536>(and, planned, k, first, second, tape, mapped, one, other);
 }
 
 // Maps with little stack where the table is tiny: to reserve that of a large one takes time even where it is not used.
 fn map_lean(
     and: construction::And,
-    table: &[u8],
-    p: planning::Plan,
+    planned: &planning::Planned,
     k: usize,
     first: &[u8],
     second: &[u8],
@@ -85,23 +81,22 @@ fn map_lean(
     one: &mut [u8],
     other: &mut [u8],
 )
-    requires { WorkReady table.now p k first.now second.now tape.now mapped.old one.old other.old }
-    ensures { WorkSays (gadget_of and) table.now p.order k first.now second.now tape.now
+    requires { WorkReady planned.now.plan k first.now second.now tape.now mapped.old one.old other.old }
+    ensures { WorkSays (gadget_of and) planned.now.table.now planned.now.plan.order k first.now second.now tape.now
         mapped.old mapped.new one.old one.new other.old other.new }
 {
-    if share_places::plain_wires(table, p) <= 256 {
-        map_sized::<256>(and, table, p, k, first, second, tape, mapped, one, other);
+    if share_places::plain_wires(planned) <= 256 {
+        map_sized::<256>(and, planned, k, first, second, tape, mapped, one, other);
         return;
     }
-    map_any(and, table, p, k, first, second, tape, mapped, one, other);
+    map_any(and, planned, k, first, second, tape, mapped, one, other);
 }
 
 // The mapped tape and both runs, where nothing is refused; k is the free share. As in masking, `map_any` is called in two places, so
 // that its stack is reserved only where it is called.
 pub fn map_work(
     and: construction::And,
-    table: &[u8],
-    p: planning::Plan,
+    planned: &planning::Planned,
     k: usize,
     first: &[u8],
     second: &[u8],
@@ -110,13 +105,13 @@ pub fn map_work(
     one: &mut [u8],
     other: &mut [u8],
 )
-    requires { WorkReady table.now p k first.now second.now tape.now mapped.old one.old other.old }
-    ensures { WorkSays (gadget_of and) table.now p.order k first.now second.now tape.now
+    requires { WorkReady planned.now.plan k first.now second.now tape.now mapped.old one.old other.old }
+    ensures { WorkSays (gadget_of and) planned.now.table.now planned.now.plan.order k first.now second.now tape.now
         mapped.old mapped.new one.old one.new other.old other.new }
 {
-    if share_places::plain_wires(table, p) <= 2048 {
-        map_lean(and, table, p, k, first, second, tape, mapped, one, other);
+    if share_places::plain_wires(planned) <= 2048 {
+        map_lean(and, planned, k, first, second, tape, mapped, one, other);
         return;
     }
-    map_any(and, table, p, k, first, second, tape, mapped, one, other);
+    map_any(and, planned, k, first, second, tape, mapped, one, other);
 }

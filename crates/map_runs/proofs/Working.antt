@@ -41,7 +41,14 @@ use Rattle.map_inputs.specs.Flipping.{BeginReady, BegunSays}
 use Rattle.map_gates.specs.Steps.{GatesRan}
 use Rattle.map_runs.specs.Working.{WorkReady, WorkSays}
 
-module _ (and : DAnd.And) {s : List ℕ} {p : DPlan.Plan} {k : ℕ} {xs ys ts m a b : List ℕ} (W : WorkReady s p k xs ys ts m a b) where
+module _
+    (and : DAnd.And)
+    {s : List ℕ}
+    {p : DPlan.Plan}
+    {k : ℕ}
+    {xs ys ts m a b : List ℕ}
+    (R : PlanReady s p)
+    (W : WorkReady p k xs ys ts m a b) where
   abbrev G : Gadget
   G = gadget_of and
 
@@ -56,9 +63,6 @@ module _ (and : DAnd.And) {s : List ℕ} {p : DPlan.Plan} {k : ℕ} {xs ys ts m 
 
   abbrev M : Table
   M = masked_table G o t
-
-  abbrev R : PlanReady s p
-  R = W.plan
 
   -- the wires of the inputs' shares; the tape bits of the inputs, and those of the random gates
   abbrev w : ℕ

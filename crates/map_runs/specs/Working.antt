@@ -11,12 +11,10 @@ use Rattle.construction.specs.Gadgets.{Gadget}
 use Rattle.construction.specs.Wires.{tape_long}
 use Rattle.construction.specs.Codes.{masked_run}
 use Rattle.planning.specs.declared.Plan as DPlan
-use Rattle.planning.specs.Plans.{PlanReady}
 use Rattle.secrecy.specs.Maps.{mapped_at}
 
--- a plan, a share number k, both secrets, a packed tape, and room for the mapped tape and both runs
-pub record WorkReady (s : List ℕ) (p : DPlan.Plan) (k : ℕ) (xs ys ts m a b : List ℕ) : Type 0 where
-  pub plan : PlanReady s p
+-- of a plain table's plan: a share number k, both secrets, a packed tape, and room for the mapped tape and both runs
+pub record WorkReady (p : DPlan.Plan) (k : ℕ) (xs ys ts m a b : List ℕ) : Type 0 where
   pub from_1 : 1 ≤ k
   pub to_n : k ≤ p.shares
   pub first : length xs ≡ p.inputs

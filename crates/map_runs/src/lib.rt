@@ -9,8 +9,7 @@ ghost use Rattle.map_runs.specs.Working.{WorkReady, WorkSays};
 // Maps with an array that is lent to note where shares are; k is the free share.
 pub fn map_with(
     and: construction::And,
-    table: &[u8],
-    p: planning::Plan,
+    planned: &planning::Planned,
     k: usize,
     first: &[u8],
     second: &[u8],
@@ -20,13 +19,14 @@ pub fn map_with(
     one: &mut [u8],
     other: &mut [u8],
 )
-    requires { WorkReady table.now p k first.now second.now tape.now mapped.old one.old other.old
-        × Room (p.inputs + p.gates) places.old }
-    ensures { WorkSays (gadget_of and) table.now p.order k first.now second.now tape.now
+    requires { WorkReady planned.now.plan k first.now second.now tape.now mapped.old one.old other.old
+        × Room (planned.now.plan.inputs + planned.now.plan.gates) places.old }
+    ensures { WorkSays (gadget_of and) planned.now.table.now planned.now.plan.order k first.now second.now tape.now
         mapped.old mapped.new one.old one.new other.old other.new }
 {
-    let split = 2 * p.order * p.inputs;
-    share_places::locate(table, p, places);
-    map_inputs::begin_runs(p.order, k, first, second, tape, mapped, one, other);
-    map_gates::map_gates(and, table, p, k, places, tape, split, mapped, one, other);
+    let order = planned.plan.order;
+    let split = 2 * order * planned.plan.inputs;
+    share_places::locate(planned, places);
+    map_inputs::begin_runs(order, k, first, second, tape, mapped, one, other);
+    map_gates::map_gates(and, planned, k, places, tape, split, mapped, one, other);
 }
