@@ -7,69 +7,59 @@ ghost use Rattle.tables.specs.Says.{over};
 ghost use Rattle.tables.specs.Inside.{put_at};
 ghost use Rattle.construction.specs.Gadgets.{gadget_of};
 ghost use Rattle.construction.specs.Wires.{cost, masked, output_shares};
-ghost use Rattle.planning.specs.Plans.{PlanReady};
 ghost use Rattle.layout.specs.Layout.{share_wires, LowShares, operand_bytes};
 ghost use Rattle.mask_kinds.specs.Kinds.{gate_kinds};
 ghost use Rattle.share_places.specs.Located.{Located, shares_to, all_shares, gate_wire};
 ghost use Rattle.mask_parts.specs.Stretch.{stretch};
 
+use tables::Kind;
+
 // Writes the kinds of the masked gates of the plain gates from..to: those of XOR gates everywhere, then what is none.
-pub fn write_kinds(table: &[u8], p: planning::Plan, from: usize, to: usize, kinds: &mut [u8])
-    requires { PlanReady table.now p × (from ≤ to) × (to ≤ p.gates)
-        × (total (λ k. cost k p.shares) (stretch (table_of table.now) from to) ≡ length kinds.old) }
-    ensures { kinds.new ≡ gate_kinds p.shares (stretch (table_of table.now) from to) }
+pub fn write_kinds(planned: &planning::Planned, from: usize, to: usize, kinds: &mut [u8])
+    requires { (from ≤ to) × (to ≤ planned.now.plan.gates)
+        × (total (λ k. cost k planned.now.plan.shares) (stretch (table_of planned.now.table.now) from to) ≡ length kinds.old) }
+    ensures { kinds.new ≡ gate_kinds planned.now.plan.shares (stretch (table_of planned.now.table.now) from to) }
 {
-    let n = p.shares;
-    let gates = p.gates;
-    let room = kinds.len();
-    let mut costs = [0u16; 6];
-    gate_costs::note_costs(n, &mut costs);
-    mask_kinds::write_same_kinds(1, kinds, 0, room);
+    let n = planned.plan.shares;
+    let costs = gate_costs::GateCosts::new(n);
+    kinds.fill(Kind::Xor as u8);
     let mut at = 0;
-    let mut g = from;
-    while g < to {
-        let x = fields::gate_at(table, gates, g);
-        mask_kinds::write_kinds_of(x.kind, n, kinds, at);
-        at += gate_costs::noted_cost(&costs, x.kind);
-        g += 1;
+    for g in from..to {
+        let gate = share_places::plain_gate(planned, g);
+        mask_kinds::write_kinds_of(gate.kind, n, kinds, at);
+        at += costs.of(gate.kind);
     }
 }
 
 // Writes the operands of the masked gates of the plain gates from..to, the first of which begins at wire w.
 pub fn write_operands(
     and: construction::And,
-    table: &[u8],
-    p: planning::Plan,
+    planned: &planning::Planned,
     from: usize,
     to: usize,
     w: usize,
-    head: &[u16],
-    base: &[u16],
-    step: &[u16],
+    places: &[share_places::KeptPlaces],
     ops: &mut [u8],
 )
-    requires { PlanReady table.now p × Located (table_of table.now) p.shares head.now base.now step.now
-        × (from ≤ to) × (to ≤ p.gates) × (w ≡ gate_wire p.shares (table_of table.now) from)
-        × (4 * total (λ k. cost k p.shares) (stretch (table_of table.now) from to) ≤ length ops.old) }
-    ensures { ops.new ≡ over (operand_bytes (masked (gadget_of and) p.shares from w
-        (shares_to p.shares (table_of table.now) from) (stretch (table_of table.now) from to))) ops.old }
+    requires { Located (table_of planned.now.table.now) planned.now.plan.shares places.now
+        × (from ≤ to) × (to ≤ planned.now.plan.gates) × (w ≡ gate_wire planned.now.plan.shares (table_of planned.now.table.now) from)
+        × (4 * total (λ k. cost k planned.now.plan.shares) (stretch (table_of planned.now.table.now) from to) ≤ length ops.old) }
+    ensures { ops.new ≡ over (operand_bytes (masked (gadget_of and) planned.now.plan.shares from w
+        (shares_to planned.now.plan.shares (table_of planned.now.table.now) from)
+        (stretch (table_of planned.now.table.now) from to))) ops.old }
 {
-    let n = p.shares;
-    let gates = p.gates;
-    let mut costs = [0u16; 6];
-    gate_costs::note_costs(n, &mut costs);
+    let n = planned.plan.shares;
+    let costs = gate_costs::GateCosts::new(n);
     let mut next = w;
     let mut at = 0;
-    let mut g = from;
-    while g < to {
-        let x = fields::gate_at(table, gates, g);
+    for g in from..to {
+        let gate = share_places::plain_gate(planned, g);
         mask_operands::write_operands_of(
-            and, x.kind, x.left, x.right, n, next, head, base, step, ops, at,
+            and, gate.kind, gate.left, gate.right, n, next, places, ops, at,
         );
-        let new = gate_costs::noted_cost(&costs, x.kind);
+        let new = costs.of(gate.kind);
         next += new;
         at += 4 * new;
-        g += 1;
     }
 }
 
@@ -78,38 +68,33 @@ fn write_shares(a: layout::Places, n: usize, outs: &mut [u8], at: usize)
     requires { (1 ≤ n) × (n ≤ 31) × LowShares n a × (at + 2 * n ≤ length outs.old) }
     ensures { outs.new ≡ put_at at (word_bytes (share_wires n a)) outs.old }
 {
-    let mut i = 0;
-    while i < n {
+    for i in 0..n {
         fields::put_field(outs, at + 2 * i, layout::share_wire(a, i));
-        i += 1;
     }
 }
 
 // Writes the outputs: for each of the plain table's, the wires of its n shares.
 pub fn write_outputs(
-    table: &[u8],
-    p: planning::Plan,
-    head: &[u16],
-    base: &[u16],
-    step: &[u16],
+    planned: &planning::Planned,
+    places: &[share_places::KeptPlaces],
     outs: &mut [u8],
 )
-    requires { PlanReady table.now p × Located (table_of table.now) p.shares head.now base.now step.now
-        × (2 * (p.shares * p.outputs) ≤ length outs.old) }
-    ensures { outs.new ≡ over (word_bytes (output_shares (all_shares p.shares (table_of table.now))
-        (table_of table.now).outputs)) outs.old }
+    requires { Located (table_of planned.now.table.now) planned.now.plan.shares places.now
+        × (2 * (planned.now.plan.shares * planned.now.plan.outputs) ≤ length outs.old) }
+    ensures { outs.new ≡ over (word_bytes (output_shares (all_shares planned.now.plan.shares (table_of planned.now.table.now))
+        (table_of planned.now.table.now).outputs)) outs.old }
 {
-    let n = p.shares;
-    let gates = p.gates;
-    let outputs = p.outputs;
+    let n = planned.plan.shares;
+    let outputs = fields::Outputs {
+        table: planned.table,
+        gates: planned.plan.gates,
+        count: planned.plan.outputs,
+    };
     let mut at = 0;
-    let mut o = 0;
-    while o < outputs {
-        let q = fields::output_at(table, gates, outputs, o);
-        let a = share_places::places_at(head, base, step, q);
+    for o in 0..planned.plan.outputs {
+        let a = share_places::places_at(places, outputs.at(o));
         write_shares(a, n, outs, at);
         at += 2 * n;
-        o += 1;
     }
 }
 

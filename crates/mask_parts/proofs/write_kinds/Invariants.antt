@@ -1,6 +1,5 @@
 -- The loop's invariant in `mask_parts::write_kinds`: the kinds from gate g on are left to write, over those of XOR gates.
 -- Assumes nothing.
-use Prim.Native.Nat.{◌-◌}
 use Rattle.tables.specs.Tables.{table_of}
 use Rattle.mask_kinds.specs.Kinds.{gate_kinds}
 use Rattle.mask_parts.specs.Stretch.{stretch}
@@ -9,7 +8,4 @@ use Rattle.mask_parts.proofs.write_kinds.Given as goal
 
 abbrev pub invariant-loop-g : goal.invariant-loop-g
 invariant-loop-g l =
-    Kinds (table_of l.table) l.n (gate_kinds l.n (stretch (table_of l.table) l.from l.to)) l.initial.kinds l.to l.g l.at l.kinds
-
-abbrev pub decreases-loop-g : goal.decreases-loop-g
-decreases-loop-g l = l.to - l.g
+    Kinds (table_of l.planned.table.now) l.n (gate_kinds l.n (stretch (table_of l.planned.table.now) l.from l.to)) l.initial.kinds l.to l.g l.at l.kinds

@@ -1,119 +1,72 @@
 -- `mask_parts::write_operands` meets its contract.
 -- Assumes nothing.
-use mathlib.Core.Path.{◌≡◌, refl, ◌∙◌}
-use Prim.Native.Nat.{◌+◌, ◌*◌, ◌≤◌}
+use mathlib.Core.Path.{refl, ap, ◌∙◌}
+use Prim.Native.Nat.{ℕ, ◌+◌, ◌<◌}
 use native.Mathlib.Omega.{arith}
-use lib.ListN.{length}
-use Rattle.tables.specs.Tables.{kind_of}
+use Rattle.tables.specs.Kinds.{kind_is}
 use Rattle.construction.specs.Gadgets.{gadget_of}
 use Rattle.construction.specs.Wires.{cost}
-use Rattle.share_places.proofs.Turns.{Turn, plan_sized, located_room}
+use Rattle.share_places.proofs.Turns.{plan_sized, located_room}
 use Rattle.mask_parts.proofs.Stretches.{operands_start, operands_facts, operands_room}
 use Rattle.mask_parts.proofs.Stretches.{operands_turn, operands_end, read_low}
 use Rattle.mask_parts.proofs.write_operands.Goals as goal
 
-pub note_costs-requires : goal.note_costs-requires
-note_costs-requires c = ((plan_sized c.requires.0).few, refl)
+pub new-costs-requires : goal.new-costs-requires
+new-costs-requires c = (plan_sized c.args.planned.now.ready).few
 
 pub loop-g-init : goal.loop-g-init
-loop-g-init c =
-    operands_start (gadget_of c.args.and) c.requires.2 c.requires.4 c.requires.5
+loop-g-init c = operands_start (gadget_of c.args.and) c.requires.3 c.requires.4
 
-pub gate_at-x-requires : goal.gate_at-x-requires
-gate_at-x-requires c =
-    let p = c.requires in
-    ((plan_sized p.0).gates, omega (arith, p.3, c.loop-g-test.true))
+pub plain_gate-gate-requires : goal.plain_gate-gate-requires
+plain_gate-gate-requires c = omega (arith, c.loop-g-test.true, c.requires.2)
 
 pub write_operands_of-requires : goal.write_operands_of-requires
 write_operands_of-requires c =
-    let s = c.args.p in
-    let l = c.loop-g in
-    let p = c.requires in
-    let facts : Turn s.inputs s.shares l.g l.next c.gate_at-x.result =
-    operands_facts p.0 l.invariant c.loop-g-test.true p.3 c.gate_at-x.ensures in
-    let few : l.g + 1 ≤ s.gates = omega (arith, c.loop-g-test.true, p.3) in
-    let room : l.at + 4 * cost (kind_of c.gate_at-x.result.kind) s.shares ≤ length l.ops =
-    operands_room p.0 l.invariant c.loop-g-test.true p.3 c.gate_at-x.ensures p.1 in
-    let z = plan_sized p.0 in (
-      located_room p.0 p.1 (omega (arith, facts.left, few)),
-      located_room p.0 p.1 (omega (arith, facts.right, few)),
+    let R = c.args.planned.now.ready in
+    let P = c.loop-g.invariant in
+    let h = c.loop-g-test.true in
+    let L = c.requires.0 in
+    let facts = operands_facts R P h c.requires.2 c.plain_gate-gate.ensures in
+    let p = c.args.planned.now.plan in
+    let left : c.plain_gate-gate.result.left < p.inputs + p.gates = omega (arith, facts.left, h, c.requires.2) in
+    let right : c.plain_gate-gate.result.right < p.inputs + p.gates = omega (arith, facts.right, h, c.requires.2) in
+    let z = plan_sized R in (
+      located_room R L left,
+      located_room R L right,
       record {
-        plain = facts.kind;
-        small = c.gate_at-x.ensures.left_small;
+        small = c.plain_gate-gate.ensures.left_small;
         some = omega (arith, z.some);
-        shares = record {
-          few = z.few;
-          left = read_low p.0 p.1 (omega (arith, facts.left, few)) refl;
-          right = read_low p.0 p.1 (omega (arith, facts.right, few)) refl;
-        };
+        shares = record { few = z.few; left = read_low R L left refl; right = read_low R L right refl };
         wires = omega (arith, facts.fits);
-        room = room;
+        room = operands_room R P h c.requires.2 c.plain_gate-gate.ensures L;
       },
     )
 
-pub noted_cost-new-requires : goal.noted_cost-new-requires
-noted_cost-new-requires c =
-    let s = c.args.p in
-    let l = c.loop-g in
-    let p = c.requires in
-    let facts : Turn s.inputs s.shares l.g l.next c.gate_at-x.result =
-    operands_facts p.0 l.invariant c.loop-g-test.true p.3 c.gate_at-x.ensures in
-    (facts.kind.0, c.note_costs.ensures.0)
-
 pub overflow_add-next : goal.overflow_add-next
 overflow_add-next c =
-    let s = c.args.p in
-    let l = c.loop-g in
-    let p = c.requires in
-    let facts : Turn s.inputs s.shares l.g l.next c.gate_at-x.result =
-    operands_facts p.0 l.invariant c.loop-g-test.true p.3 c.gate_at-x.ensures in
-    let costs : c.noted_cost-new.result ≡ cost (kind_of c.gate_at-x.result.kind) s.shares =
-    c.noted_cost-new.ensures ∙ c.note_costs.ensures.1 _ facts.kind.0 in
-    omega (arith, facts.fits, costs)
+    let facts = operands_facts c.args.planned.now.ready c.loop-g.invariant c.loop-g-test.true c.requires.2 c.plain_gate-gate.ensures in
+    omega (arith, facts.fits, c.of-new.ensures ∙ ap (λ (n : ℕ). cost (kind_is c.plain_gate-gate.result.kind) n) c.new-costs.ensures)
 
 pub overflow_mul-at : goal.overflow_mul-at
 overflow_mul-at c =
-    let s = c.args.p in
-    let l = c.loop-g in
-    let p = c.requires in
-    let facts : Turn s.inputs s.shares l.g l.next c.gate_at-x.result =
-    operands_facts p.0 l.invariant c.loop-g-test.true p.3 c.gate_at-x.ensures in
-    let costs : c.noted_cost-new.result ≡ cost (kind_of c.gate_at-x.result.kind) s.shares =
-    c.noted_cost-new.ensures ∙ c.note_costs.ensures.1 _ facts.kind.0 in
-    omega (arith, facts.fits, costs)
+    let facts = operands_facts c.args.planned.now.ready c.loop-g.invariant c.loop-g-test.true c.requires.2 c.plain_gate-gate.ensures in
+    omega (arith, facts.fits, c.of-new.ensures ∙ ap (λ (n : ℕ). cost (kind_is c.plain_gate-gate.result.kind) n) c.new-costs.ensures)
 
 pub overflow_add-at : goal.overflow_add-at
 overflow_add-at c =
-    let s = c.args.p in
-    let l = c.loop-g in
-    let p = c.requires in
-    let facts : Turn s.inputs s.shares l.g l.next c.gate_at-x.result =
-    operands_facts p.0 l.invariant c.loop-g-test.true p.3 c.gate_at-x.ensures in
-    let room : l.at + 4 * cost (kind_of c.gate_at-x.result.kind) s.shares ≤ length l.ops =
-    operands_room p.0 l.invariant c.loop-g-test.true p.3 c.gate_at-x.ensures p.1 in
-    let costs : c.noted_cost-new.result ≡ cost (kind_of c.gate_at-x.result.kind) s.shares =
-    c.noted_cost-new.ensures ∙ c.note_costs.ensures.1 _ facts.kind.0 in
-    omega (arith, room, costs, c.loop-g.invariant.long)
-
-pub overflow_add-g : goal.overflow_add-g
-overflow_add-g c =
-    let few : c.loop-g.g + 1 ≤ c.args.p.gates = omega (arith, c.loop-g-test.true, c.requires.3) in
-    omega (arith, few, (plan_sized c.requires.0).plain)
-
-pub loop-g-smaller : goal.loop-g-smaller
-loop-g-smaller c = omega (arith, c.loop-g-test.true)
+    let room = operands_room c.args.planned.now.ready c.loop-g.invariant c.loop-g-test.true c.requires.2 c.plain_gate-gate.ensures c.requires.0 in
+    omega (
+      arith,
+      room,
+      c.of-new.ensures ∙ ap (λ (n : ℕ). cost (kind_is c.plain_gate-gate.result.kind) n) c.new-costs.ensures,
+      c.loop-g.invariant.long,
+    )
 
 pub loop-g-preserved : goal.loop-g-preserved
 loop-g-preserved c =
-    let s = c.args.p in
-    let l = c.loop-g in
-    let p = c.requires in
-    let facts : Turn s.inputs s.shares l.g l.next c.gate_at-x.result =
-    operands_facts p.0 l.invariant c.loop-g-test.true p.3 c.gate_at-x.ensures in
-    let costs : c.noted_cost-new.result ≡ cost (kind_of c.gate_at-x.result.kind) s.shares =
-    c.noted_cost-new.ensures ∙ c.note_costs.ensures.1 _ facts.kind.0 in
-    operands_turn p.0 l.invariant c.loop-g-test.true p.3 c.gate_at-x.ensures p.1
-    (c.write_operands_of.ensures l.g) costs
+    operands_turn c.args.planned.now.ready c.loop-g.invariant c.loop-g-test.true c.requires.2 c.plain_gate-gate.ensures c.requires.0
+    (c.write_operands_of.ensures c.loop-g.g)
+    (c.of-new.ensures ∙ ap (λ (n : ℕ). cost (kind_is c.plain_gate-gate.result.kind) n) c.new-costs.ensures)
 
 pub shape_of-ops : goal.shape_of-ops
 shape_of-ops c = c.loop-g.invariant.long
