@@ -58,11 +58,12 @@ fn map_any(
     ensures { WorkSays (gadget_of and) planned.now.table.now planned.now.plan.order k first.now second.now tape.now
         mapped.old mapped.new one.old one.new other.old other.new }
 {
-    if share_places::plain_wires(planned) <= 2048 {
+    let wires = share_places::plain_wires(planned);
+    if wires <= 2048 {
         map_sized::<2048>(and, planned, k, first, second, tape, mapped, one, other);
         return;
     }
-    if share_places::plain_wires(planned) <= 16384 {
+    if wires <= 16384 {
         map_sized::<16384>(and, planned, k, first, second, tape, mapped, one, other);
         return;
     }
