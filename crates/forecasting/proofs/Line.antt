@@ -63,7 +63,8 @@ line_forecast s r h F =
 
 -- "No input counts as order 0 and an empty table"
 pub line_empty :
-    (s : List ℕ) (r : Result DFigures.Figures DRefusal.Refusal) → length s ≡ 0 → ForecastSays isw s 0 (sizes_of r) → told_line r ≡ forecast_line s
+    (s : List ℕ) (r : Result DFigures.Figures DRefusal.Refusal) → length s ≡ 0 → ForecastSays isw s 0 (sizes_of r)
+    → told_line r ≡ forecast_line s
 line_empty s r e F = line_forecast s r (omega (arith, e)) (input_empty (λ t o. ForecastSays isw t o (sizes_of r)) s e F)
 
 -- the order byte and what follows it

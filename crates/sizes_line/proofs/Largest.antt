@@ -42,7 +42,7 @@ pub record Trying (y : DTally.Tally) (o : ℕ) : Type 0 where
 pub trying_start : (y : DTally.Tally) → Trying y 15
 trying_start y = record { within = omega arith; left = λ t T. refl }
 
-module _ {y : DTally.Tally} {o : ℕ} {m : DMasked.Masked} (S : Trying y o) (M : MaskedBy o y.inputs y.outputs y.counts m) (h : 0 < o) where
+module _ {y : DTally.Tally} {o : ℕ} {m : DMasked.Masked} (S : Trying y o) (h : 1 ≤ o) (M : MaskedBy o y.inputs y.outputs y.counts m) where
   pub trying_found : too_large m ≡ false → (t : Table) → TallyOf t y → o ≡ largest_order t
   trying_found e t T = sym (S.left t T ∙ fits_here t o h (sym (large_many T M Isw) ∙ e))
 
@@ -52,5 +52,7 @@ module _ {y : DTally.Tally} {o : ℕ} {m : DMasked.Masked} (S : Trying y o) (M :
     left = λ t T. S.left t T ∙ fits_below t o (o - 1) (omega (arith, h)) (sym (large_many T M Isw) ∙ e);
   }
 
-pub trying_end : {y : DTally.Tally} {o : ℕ} → Trying y o → o ≤ 0 → (t : Table) → TallyOf t y → 0 ≡ largest_order t
-trying_end {y} {o} S h t T = sym (S.left t T ∙ none_left t o h)
+pub trying_end : {y : DTally.Tally} {o : ℕ} → Trying y o → o < 1 → (t : Table) → TallyOf t y → 0 ≡ largest_order t
+trying_end {y} {o} S h t T = sym (S.left t T ∙ none_left t o (omega arith))
+
+pub ruleset largest_laws = (countable_at, trying_start)

@@ -1,3 +1,3 @@
 -- Laws that the proofs of the sizes program's line cite.
-mod Largest
-mod Line
+pub mod Largest
+pub mod Line

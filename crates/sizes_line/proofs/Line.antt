@@ -7,7 +7,9 @@ use Prim.Native.Nat.{ℕ, zero, suc, ◌*◌, ◌-◌, ◌≤◌, ◌<◌}
 use native.Mathlib.Omega.{arith}
 use lib.ListN.{length, get_or, take, drop}
 use Rattle.tables.specs.declared.Refusal as DRefusal
+use Rattle.std.specs.Prelude.{Result, Ok, Err}
 use Rattle.tables.specs.Refusals.{Fault, passed}
+use Rattle.tables.specs.Refusing.{fault_of}
 use Rattle.tables.specs.Tables.{table_of, table_long, table_fault}
 use Rattle.tables.proofs.Tests.{first_refused}
 use Rattle.tables.proofs.Answers.{refused_fails}
@@ -19,15 +21,13 @@ use Rattle.construction.specs.Shares.{shares_of}
 use Rattle.construction.specs.Gadgets.{isw}
 use Rattle.construction.specs.Wires.{masked_table}
 use Rattle.construction.proofs.Placed.{masked_outputs}
-use Rattle.planning.specs.declared.Tallied.TheVariants as Tallied
+use Rattle.planning.specs.declared.Tally as DTally
 use Rattle.planning.specs.Maskable.{maskable_fault}
-use Rattle.planning.specs.Plans.{Maskable, TalliedSays}
+use Rattle.planning.specs.Plans.{Tallied}
 use Rattle.planning.proofs.Planning.{maskable_passed}
 use Rattle.sizes_line.specs.declared.Six as DSix
-use Rattle.sizes_line.specs.declared.Told as DTold
-use Rattle.sizes_line.specs.declared.Told.TheVariants as Told
 use Rattle.sizes_line.specs.Lines.{six_line, table_line, printed}
-use Rattle.sizes_line.specs.Inside.{SixOf, six_text, told_line}
+use Rattle.sizes_line.specs.Inside.{SixOf, told_line}
 
 -- the line of a table that 1 to 7 refuse
 line_refused :
@@ -36,17 +36,20 @@ line_refused :
 unfolding table_line
 line_refused s o e = rw e
 
-pub told_refused :
-    (s : List ℕ) (o : ℕ) {r : DRefusal.Refusal} → TalliedSays s o (Tallied.Refused r) → told_line (Told.Refused r) ≡ table_line s o
-unfolding told_line
-told_refused s o R =
-    (λ j. refusal_line (R.0.number j) (R.0.place j)) ∙ sym (line_refused s o (refused_fails R.0 R.1))
+-- what is told of a table: a refusal of 1 to 7, or its six figures
+abbrev pub ToldSix : Type 0
+ToldSix = Result DSix.Six DRefusal.Refusal
+
+pub told_refused : (s : List ℕ) (o : ℕ) (e : DRefusal.Refusal) → maskable_fault s o ≡ fault_of e → told_line (Err e) ≡ table_line s o
+told_refused s o e h =
+    (λ j. refusal_line (sym h j).number (sym h j).place) ∙ sym (line_refused s o (refused_fails e h))
 
 -- and of one that they accept
 pub told_six :
-    {s : List ℕ} {o : ℕ} {z : DSix.Six} → Maskable s o → SixOf o (table_of s) z → told_line (Told.Figures z) ≡ table_line s o
-unfolding told_line table_line
-told_six {s} {o} {z} S F =
+    {s : List ℕ} {o : ℕ} {y : DTally.Tally} {z : DSix.Six} → Tallied s o y → SixOf o (table_of s) z → told_line (Ok z) ≡ table_line s o
+unfolding table_line
+told_six {s} {o} {y} {z} T F =
+    let S = T.accepted in
     let m = masked_table isw o (table_of s) in
     let outputs : shares_of o * length (table_of s).outputs ≡ length m.outputs =
     sym (masked_outputs isw o (table_of s) (accepted_plain s S.table S.plain)).0 in
@@ -55,22 +58,13 @@ told_six {s} {o} {z} S F =
     rw (maskable_passed S)
     (λ j. six_line (F.shares j) (F.wires j) (F.tape j) (bytes j) ((F.outputs ∙ outputs) j) (F.largest j))
 
--- the line by the case of what is told
-pub refusal_told : {x : DTold.Told} {r : DRefusal.Refusal} → x ≡ Told.Refused r → refusal_line r.number r.place ≡ told_line x
-unfolding told_line
-refusal_told e = sym (ap told_line e)
-
-pub six_told : {x : DTold.Told} {z : DSix.Six} → x ≡ Told.Figures z → six_text z ≡ told_line x
-unfolding told_line
-six_told e = sym (ap told_line e)
-
 -- "No input counts as order 0 and an empty table"
-pub told_empty : (s : List ℕ) (r : DTold.Told) → length s ≡ 0 → told_line r ≡ table_line s 0 → told_line r ≡ printed s
+pub told_empty : (s : List ℕ) (r : ToldSix) → length s ≡ 0 → told_line r ≡ table_line s 0 → told_line r ≡ printed s
 told_empty s r e h = input_empty (λ t o. told_line r ≡ table_line t o) s e h
 
 -- the order byte and what follows it
 pub told_part :
-    (s : List ℕ) (r : DTold.Told) → told_line r ≡ table_line (take (length s - 1) (drop 1 s)) (get_or s 0 0) → told_line r ≡ printed s
+    (s : List ℕ) (r : ToldSix) → told_line r ≡ table_line (take (length s - 1) (drop 1 s)) (get_or s 0 0) → told_line r ≡ printed s
 told_part s r h = input_part (λ t o. told_line r ≡ table_line t o) s h
 
 -- 66 bytes hold the line
@@ -106,7 +100,6 @@ line_fits s = line_short (drop 1 s) (get_or s 0 0)
 cut_seven :
     (m : ℕ) (s : List ℕ) (o : ℕ) → ((i : ℕ) → get_or s i 0 < 256) → 458746 < m → m ≤ length s
     → (maskable_fault (take m s) o ≡ maskable_fault s o) × (passed (maskable_fault s o) ≡ false)
-unfolding maskable_fault
 cut_seven m s o bytes h k =
     let e = cut_fault m s bytes h k in
     let bad = cut_refused m s bytes h k in

@@ -1,14 +1,14 @@
 -- For contracts inside the library only: no promise of a call cites this. What is told of a plain table at an order.
 -- Assumes nothing.
-use Rattle.std.specs.Prelude.{◌≡◌, List, [], ◌∷◌, ◌++◌, ℕ, ◌*◌, length}
+use Rattle.std.specs.Prelude.{◌≡◌, List, [], ◌∷◌, ◌++◌, ℕ, ◌*◌, length, Result, Ok, Err}
+use Rattle.tables.specs.declared.Refusal as DRefusal
+use Rattle.tables.specs.Refusing.{fault_of}
 use Rattle.tables.specs.Tables.{Table, wires, table_long}
 use Rattle.text.specs.Text.{decimal, refusal_line}
 use Rattle.construction.specs.Shares.{shares_of}
 use Rattle.construction.specs.Gadgets.{isw}
 use Rattle.construction.specs.Wires.{masked_table, tape_long}
 use Rattle.sizes_line.specs.declared.Six as DSix
-use Rattle.sizes_line.specs.declared.Told as DTold
-use Rattle.sizes_line.specs.declared.Told.TheVariants as Told
 use Rattle.sizes_line.specs.Lines.{largest_order, six_line}
 
 -- the six figures of a plain table at an order; the masked table has n outputs for each
@@ -28,6 +28,6 @@ abbrev pub later_text : DSix.Six → List ℕ
 later_text z = 32 ∷ (decimal z.bytes ++ (32 ∷ (decimal z.outputs ++ (32 ∷ (decimal z.largest ++ (10 ∷ []))))))
 
 -- the line of what is told
-unfoldable pub told_line : DTold.Told → List ℕ
-told_line (Told.Refused r) = refusal_line r.number r.place
-told_line (Told.Figures z) = six_text z
+abbrev pub told_line : Result DSix.Six DRefusal.Refusal → List ℕ
+told_line (Ok z) = six_text z
+told_line (Err e) = refusal_line (fault_of e).number (fault_of e).place

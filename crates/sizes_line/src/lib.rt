@@ -8,6 +8,8 @@ ghost use Rattle.planning.specs.Plans.{Countable, TallyOf};
 ghost use Rattle.sizes_line.specs.Lines.{largest_order, table_line, printed, SizesSay};
 ghost use Rattle.sizes_line.specs.Inside.{SixOf, later_text, six_text, told_line};
 
+use tables::Refusal;
+
 // The six figures of a plain table at an order: those of its masked table, and the largest order at which 8 does not refuse it.
 #[derive(Clone, Copy)]
 struct Six {
@@ -19,37 +21,28 @@ struct Six {
     largest: u32,
 }
 
-// What is told of a plain table at an order: a refusal, or the six figures.
-#[derive(Clone, Copy)]
-enum Told {
-    Refused(tables::Refusal),
-    Figures(Six),
-}
-
 // The largest order from 1 to 15 at which 8 does not refuse a table with this tally, 0 where there is none.
+#[tactic(auto, using(crate::proofs::Largest::largest_laws))]
 fn largest_order(tally: planning::Tally) -> u8
     requires { Countable 15 tally.inputs tally.outputs tally.counts }
     ensures { (t : Table) → TallyOf t tally → result ≡ largest_order t }
 {
-    let counts = tally.counts;
-    let mut order: u8 = 15;
-    while order > 0 {
-        let masked = planning::masked_sizes(order, tally.inputs, tally.outputs, counts);
+    for order in (1..=15).rev() {
+        let masked = planning::masked_sizes(order, tally.inputs, tally.outputs, tally.counts);
         if !planning::too_large(masked) {
             return order;
         }
-        order -= 1;
     }
     0
 }
 
 // The six figures at an order of a table with this tally.
+#[tactic(auto, using(planning::proofs::Planning::masked_fits, crate::proofs::Largest::countable_at))]
 fn six_figures(order: u8, tally: planning::Tally) -> Six
     requires { Countable order tally.inputs tally.outputs tally.counts }
     ensures { (t : Table) → TallyOf t tally → SixOf order t result }
 {
-    let counts = tally.counts;
-    let masked = planning::masked_sizes(order, tally.inputs, tally.outputs, counts);
+    let masked = planning::masked_sizes(order, tally.inputs, tally.outputs, tally.counts);
     let bytes = planning::table_bytes(masked.gates, masked.outputs);
     let largest = largest_order(tally);
     Six {
@@ -63,26 +56,20 @@ fn six_figures(order: u8, tally: planning::Tally) -> Six
 }
 
 // What is told of a plain table at an order: the first of refusals 1 to 7, or the six figures.
-fn tell_table(table: &[u8], order: u8) -> Told
+#[tactic(auto, using(crate::proofs::Line::told_refused))]
+fn tell_table(table: &[u8], order: u8) -> Result<Six, Refusal>
     ensures { told_line result ≡ table_line table.now order }
 {
-    let tallied = planning::tally_table(table, order);
-    match tallied {
-        planning::Tallied::Refused(f) => {
-            return Told::Refused(f);
-        }
-        planning::Tallied::Ready(t) => {
-            let six = six_figures(order, t);
-            return Told::Figures(six);
-        }
-    }
+    let tally = planning::tally_table(table, order)?;
+    Ok(six_figures(order, tally))
 }
 
 // What is told of an input: an order byte, then a table.
-fn tell_input(input: &[u8]) -> Told
+#[tactic(auto, using(crate::proofs::Line::told_empty, crate::proofs::Line::told_part))]
+fn tell_input(input: &[u8]) -> Result<Six, Refusal>
     ensures { told_line result ≡ printed input.now }
 {
-    if input.len() == 0 {
+    if input.is_empty() {
         return tell_table(input, 0);
     }
     tell_table(&input[1..], input[0])
@@ -109,26 +96,22 @@ fn put_six(out: &mut [u8], six: Six) -> usize
 }
 
 // Puts the line of what is told, and answers its length.
-fn put_told(out: &mut [u8], told: Told) -> usize
+fn put_told(out: &mut [u8], told: Result<Six, Refusal>) -> usize
     requires { length (told_line told) ≤ length out.old }
     ensures { Puts 0 (told_line told) out.old out.new result }
 {
     match told {
-        Told::Refused(f) => {
-            return text::put_refusal(out, f.number as u32, f.place);
-        }
-        Told::Figures(six) => {
-            return put_six(out, six);
-        }
+        Ok(six) => put_six(out, six),
+        Err(refusal) => text::put_refusal(out, refusal.number() as u32, refusal.place()),
     }
 }
 
 // Writes the sizes program's line for an input, and answers its length; where it does not fit, writes nothing and answers 0.
+#[tactic(auto, using(crate::proofs::Line::line_fits))]
 pub fn sizes_line(input: &[u8], out: &mut [u8]) -> usize
     ensures { SizesSay input.now out.old out.new result }
 {
-    let told = tell_input(input);
     let mut line = [0u8; 66];
-    let long = put_told(&mut line, told);
+    let long = put_told(&mut line, tell_input(input));
     text::put_all(out, &line[..long])
 }

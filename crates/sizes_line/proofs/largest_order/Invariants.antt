@@ -5,6 +5,3 @@ use Rattle.sizes_line.proofs.largest_order.Given as goal
 
 abbrev pub invariant-loop-order : goal.invariant-loop-order
 invariant-loop-order l = Trying l.tally l.order
-
-abbrev pub decreases-loop-order : goal.decreases-loop-order
-decreases-loop-order l = l.order

@@ -4,45 +4,22 @@ use mathlib.Core.Path.{◌∙◌}
 use native.Mathlib.Omega.{arith}
 use Rattle.tables.specs.Tables.{table_long}
 use Rattle.construction.specs.declared.And.TheVariants.{Isw}
-use Rattle.planning.proofs.Planning.{MaskedFits, masked_fits, tally_outputs, wires_masked, gates_masked, tape_masked}
-use Rattle.sizes_line.proofs.Largest.{countable_at}
+use Rattle.planning.proofs.Planning.{masked_fits, tally_outputs, wires_masked, gates_masked, tape_masked}
 use Rattle.sizes_line.proofs.six_figures.Goals as goal
-
-pub masked_sizes-masked-requires : goal.masked_sizes-masked-requires
-masked_sizes-masked-requires c = c.requires
 
 pub table_bytes-bytes-requires : goal.table_bytes-bytes-requires
 table_bytes-bytes-requires c =
-    let m : MaskedFits c.masked_sizes-masked.result = masked_fits c.requires c.masked_sizes-masked.ensures in
-    (omega (arith, m.gates), omega (arith, m.outputs, c.requires.outputs))
-
-pub largest_order-largest-requires : goal.largest_order-largest-requires
-largest_order-largest-requires c = countable_at 15 (omega arith) c.requires
-
-pub overflow_cast-result : goal.overflow_cast-result
-overflow_cast-result c =
-    let m : MaskedFits c.masked_sizes-masked.result = masked_fits c.requires c.masked_sizes-masked.ensures in
-    record { fits = omega (arith, m.shares) }
+    let m = masked_fits c.requires c.masked_sizes-masked.ensures in (omega (arith, m.gates), omega (arith, m.outputs))
 
 pub overflow_cast-result-2 : goal.overflow_cast-result-2
-overflow_cast-result-2 c =
-    let m : MaskedFits c.masked_sizes-masked.result = masked_fits c.requires c.masked_sizes-masked.ensures in
-    record { fits = omega (arith, m.wires) }
+overflow_cast-result-2 c = omega (arith, (masked_fits c.requires c.masked_sizes-masked.ensures).wires)
 
 pub overflow_cast-result-3 : goal.overflow_cast-result-3
-overflow_cast-result-3 c =
-    let m : MaskedFits c.masked_sizes-masked.result = masked_fits c.requires c.masked_sizes-masked.ensures in
-    record { fits = omega (arith, m.tape) }
+overflow_cast-result-3 c = omega (arith, (masked_fits c.requires c.masked_sizes-masked.ensures).tape)
 
 pub overflow_cast-result-4 : goal.overflow_cast-result-4
 overflow_cast-result-4 c =
-    let m : MaskedFits c.masked_sizes-masked.result = masked_fits c.requires c.masked_sizes-masked.ensures in
-    record { fits = omega (arith, c.table_bytes-bytes.ensures, m.gates, m.outputs, c.requires.outputs) }
-
-pub overflow_cast-result-5 : goal.overflow_cast-result-5
-overflow_cast-result-5 c =
-    let m : MaskedFits c.masked_sizes-masked.result = masked_fits c.requires c.masked_sizes-masked.ensures in
-    record { fits = omega (arith, m.outputs, c.requires.outputs) }
+    let m = masked_fits c.requires c.masked_sizes-masked.ensures in omega (arith, m.gates, m.outputs)
 
 pub returns : goal.returns
 returns c t T =

@@ -11,17 +11,17 @@ use Rattle.sizes_line.proofs.sizes_line.Goals as goal
 pub put_told-long-requires : goal.put_told-long-requires
 put_told-long-requires c =
     let s = c.args.input.now in
-    omega (arith, ap length c.tell_input-told.ensures, line_fits s)
+    omega (arith, ap length c.tell_input.ensures, line_fits s)
 
 pub slice_bounds-line-end : goal.slice_bounds-line-end
 slice_bounds-line-end c =
     let s = c.args.input.now in
-    omega (arith, c.put_told-long.ensures.next, ap length c.tell_input-told.ensures, line_fits s)
+    omega (arith, c.put_told-long.ensures.next, ap length c.tell_input.ensures, line_fits s)
 
 pub slice_bounds-put_all-end : goal.slice_bounds-put_all-end
 slice_bounds-put_all-end c =
     let s = c.args.input.now in
-    sym (length-take-le _ _ (omega (arith, c.put_told-long.ensures.next, ap length c.tell_input-told.ensures, line_fits s)))
+    sym (length-take-le _ _ (omega (arith, c.put_told-long.ensures.next, ap length c.tell_input.ensures, line_fits s)))
 
 pub returns : goal.returns
 returns c =
@@ -29,6 +29,6 @@ returns c =
     record {
       fits = line_fits s;
       line = put_elsewhere
-          (puts_as c.tell_input-told.ensures c.put_told-long.ensures)
+          (puts_as c.tell_input.ensures c.put_told-long.ensures)
           c.put_all.ensures;
     }
