@@ -1,6 +1,6 @@
 -- Which of refusals 1 to 8 answers for a plain table and an order, and the sizes where none does.
 -- Assumes nothing.
-use mathlib.Core.Path.{◌≡◌, refl, sym, ap, subst, ◌∙◌}
+use mathlib.Core.Path.{◌≡◌, refl, sym, ap, ◌∙◌}
 use mathlib.Core.Bool.{Bool, true, false, ◌||◌, not}
 use mathlib.Core.List.{List}
 use Prim.Native.Nat.{ℕ, zero, suc, ◌+◌, ◌*◌, ◌≤◌, ◌<◌}
@@ -22,7 +22,7 @@ use Rattle.tables.proofs.Tests.{first_passed, not_refused, or_else_assoc}
 use Rattle.tables.proofs.Total.{count_plain, total_below, total_small}
 use Rattle.tables.proofs.Format.{table_long_lem, passed_sound_gates, sound_at, known_byte}
 use Rattle.tables.proofs.Accept.{accepted_long, gates_are, gates_of_length, outputs_of_length, accepted_few, has_gates, has_outputs}
-use Rattle.tables.specs.Inside.{HasGates, HasOutputs}
+use Rattle.tables.specs.Inside.{HasGates}
 use Rattle.tables.specs.declared.Counts as DCounts
 use Rattle.planning.specs.declared.Totals as DTotals
 use Rattle.planning.specs.declared.Plan as DPlan
@@ -49,9 +49,6 @@ use Rattle.construction.proofs.Counted.{figures_of, total_counted, wires_counted
 -- the search for a random gate, at gate i: what is left of the gates
 pub record Searching (t : Table) (i : ℕ) : Type 0 where
   pub rest : random_fault 0 t.gates ≡ random_fault i (drop i t.gates)
-
-pub search_start : (t : Table) → Searching t 0
-search_start t = record { rest = refl }
 
 kind_random : (b : ℕ) → b ≡ 3 → is_random (kind_of b) ≡ true
 kind_random b e = rw e
@@ -181,10 +178,6 @@ eight_last G s o =
     ap (λ (f : Fault). or_else (table_fault s) f) (or_else_assoc (order_fault o) random many)
     ∙ or_else_assoc (table_fault s) (or_else (order_fault o) random) many
 
--- the gates' totals at n shares that the code has computed
-pub totals_at : {n m : ℕ} {c : DCounts.Counts} {r : DTotals.Totals} → n ≡ m → TotalsSay c n r → TotalsSay c m r
-totals_at {c = c} {r = r} e T = subst (λ (m : ℕ). TotalsSay c m r) e T
-
 -- masked sizes are small
 pub record MaskedFits (m : DMasked.Masked) : Type 0 where
   pub shares : m.shares ≤ 31
@@ -244,10 +237,6 @@ tape_below a o t =
       total_below (λ k. draws k (shares_of o)) (λ k. cost k (shares_of o)) (λ k. draws_below k (shares_of o)) t.gates,
     )
 
--- the plan of a table, of the same bytes
-pub ready_at : {s s' : List ℕ} {p : DPlan.Plan} → PlanReady s' p → s' ≡ s → PlanReady s p
-ready_at R e = rw e at R
-
 -- what holds of a plan, with whichever AND
 module _ {s : List ℕ} {p : DPlan.Plan} (R : PlanReady s p) where
   few_outputs : p.shares * p.outputs ≡ shares_of p.order * length (table_of s).outputs
@@ -257,12 +246,9 @@ module _ {s : List ℕ} {p : DPlan.Plan} (R : PlanReady s p) where
   pub plan_passed : PlainPassed isw s p.order
   plan_passed = plain_passed isw s p.order (rw (R.none Isw))
 
-  -- the bytes have all the gates and outputs, and each gate is of a kind that there is
+  -- the bytes have all the gates, and each gate is of a kind that there is
   pub plan_has_gates : HasGates s p.gates
   plan_has_gates = has_gates s plan_passed.table (R.gates ∙ gates_of_length s)
-
-  pub plan_has_outputs : HasOutputs s p.gates p.outputs
-  plan_has_outputs = has_outputs s plan_passed.table (R.gates ∙ gates_of_length s) (R.outputs ∙ outputs_of_length s)
 
   pub plan_known : {g b : ℕ} → g < p.gates → kind_of b ≡ (gate_of (table_of s) g).kind → b ≤ 5
   plan_known {g} {b} h e =
