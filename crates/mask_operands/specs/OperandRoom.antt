@@ -7,12 +7,6 @@ use Rattle.tables.specs.Kinds.{kind_is}
 use Rattle.construction.specs.Wires.{cost}
 use Rattle.layout.specs.declared.Operands as DOperands
 use Rattle.layout.specs.Layout.{ReadsShares}
-use Rattle.share_places.specs.declared.KeptPlaces as DKeptPlaces
-use Rattle.share_places.specs.Located.{places_at}
-
--- where the array says that the shares of both operands are
-abbrev pub operands_at : List DKeptPlaces.KeptPlaces → ℕ → ℕ → DOperands.Operands
-operands_at L left right = record { left = places_at L left; right = places_at L right }
 
 -- what writing the operands of a plain gate's new wires takes: wires, or a value, that a field can hold, and room for them
 pub record OperandRoom (kind : DKind.Kind) (value n w : ℕ) (o : DOperands.Operands) (at : ℕ) (ops : List ℕ) : Type 0 where

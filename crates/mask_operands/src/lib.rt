@@ -7,10 +7,10 @@ ghost use Rattle.tables.specs.Kinds.{kind_is};
 ghost use Rattle.tables.specs.Tables.{pair_bytes, AND, OR};
 ghost use Rattle.construction.specs.Gadgets.{gadget_of};
 ghost use Rattle.construction.specs.Wires.{cost, new_wires};
-ghost use Rattle.mask_operands.specs.OperandRoom.{operands_at, OperandRoom};
+ghost use Rattle.mask_operands.specs.OperandRoom.{OperandRoom};
 ghost use Rattle.layout.specs.Layout.{share_wires, operand_bytes, pieces_from, ReadsShares, xor_gates};
 ghost use Rattle.layout.specs.Layout.{constant_gates, and_gates, or_gates};
-ghost use Rattle.share_places.specs.Located.{places_at, Room};
+ghost use Rattle.share_places.specs.Located.{places_at, operands_at, Room};
 
 use tables::Kind;
 
@@ -82,10 +82,7 @@ fn reads_of(
 {
     layout::GateReads {
         shares: n,
-        operands: layout::Operands {
-            left: share_places::places_at(places, left),
-            right: share_places::places_at(places, right),
-        },
+        operands: share_places::operands_at(places, left, right),
     }
 }
 
