@@ -1,87 +1,63 @@
 -- From a plan to masking's answer: the plan's refusal, 9, or the masked table written.
 -- Assumes nothing.
-use mathlib.Core.Path.{◌≡◌, sym, ap, subst, ◌∙◌}
+use mathlib.Core.Path.{◌≡◌, refl, sym, ap, ap₂, ◌∙◌}
 use mathlib.Core.Bool.{false}
 use mathlib.Core.List.{List, [], ◌∷◌}
-use Prim.Native.Nat.{ℕ, zero, suc, ◌-◌, ◌≤◌, ◌<◌}
+use Prim.Native.Nat.{ℕ, zero, suc, ◌≤◌, ◌<◌}
 use native.Mathlib.Omega.{arith}
 use borrow.Author.Tests.{lt-ltb, le-ltb}
-use lib.Dec.{ltb}
+use Rattle.std.specs.Prelude.{Ok, Err}
 use lib.ListN.{length, get_or, take, drop}
-use Rattle.tables.specs.declared.Answer as DAnswer
 use Rattle.tables.specs.declared.Refusal as DRefusal
-use Rattle.tables.specs.Refusals.{Fault, fault, passed, or_else, refused_if}
+use Rattle.tables.specs.declared.Refusal.TheVariants as Refusal
+use Rattle.tables.specs.Refusals.{Fault, none, passed, or_else}
+use Rattle.tables.specs.Refusing.{fault_of}
 use Rattle.tables.specs.Tables.{table_fault}
 use Rattle.tables.specs.Says.{over}
-use Rattle.tables.specs.Inside.{Refused}
+use Rattle.tables.specs.Inside.{answer_of}
 use Rattle.tables.proofs.Tests.{first_refused}
-use Rattle.tables.proofs.Answers.{first_of, writes_refused, writes_done}
-use Rattle.tables.proofs.Cut.{cut_fault, cut_refused, input_empty, input_part}
+use Rattle.tables.proofs.Answers.{first_of, second_of, writes_refused, writes_done}
+use Rattle.tables.proofs.Cut.{cut_fault, cut_refused}
 use Rattle.construction.specs.declared.And as DAnd
-use Rattle.construction.specs.declared.And.TheVariants.{Isw}
 use Rattle.construction.specs.Gadgets.{Gadget, gadget_of}
 use Rattle.construction.specs.Says.{plain_fault, masked_bytes, mask_fault, MaskSays}
 use Rattle.planning.specs.declared.Plan as DPlan
-use Rattle.planning.specs.declared.Planned.TheVariants as Planned
-use Rattle.planning.specs.Plans.{PlanSays, plan_bytes}
-use Rattle.masking.specs.Input.{and_of, OrderedSays, InputSays}
-use Rattle.planning.proofs.Planning.{Planned-Ready, planned_refused, plan_bytes_lem}
+use Rattle.planning.specs.Plans.{PlanReady, plan_bytes}
+use Rattle.masking.specs.Input.{and_of}
+use Rattle.planning.proofs.Planning.{plan_bytes_lem}
 
+-- the plan is refused; a buffer too short; and the masked table written
 pub mask_refused :
-    (G : Gadget) {s : List ℕ} {o : ℕ} {r : DRefusal.Refusal} (b : List ℕ) → PlanSays (plain_fault G s o) s o (Planned.Refused r)
-    → MaskSays G s o b b (record { number = r.number; place = r.place; value = 0 })
+    (G : Gadget) (s : List ℕ) (o : ℕ) (b : List ℕ) (e : DRefusal.Refusal) → plain_fault G s o ≡ fault_of e
+    → MaskSays G s o b b (answer_of (Err e))
 unfolding mask_fault
-mask_refused G {s} {o} b P =
-    let R = planned_refused P in
-    writes_refused (masked_bytes G s o) b
-    (first_of (refused_if (ltb (length b) (length (masked_bytes G s o))) 9) R.0 R.1)
-    R.1
+mask_refused G s o b e h = writes_refused e (masked_bytes G s o) b (first_of _ e h)
 
-module _ (a : DAnd.And) {s : List ℕ} {o : ℕ} {p : DPlan.Plan} (P : Planned-Ready (plain_fault (gadget_of a) s o) s o p) where
-  abbrev bytes : ℕ → List ℕ
-  bytes y = masked_bytes (gadget_of a) s y
+module _ (a : DAnd.And) (s : List ℕ) (o : ℕ) (s' : List ℕ) (p : DPlan.Plan)
+    (R : PlanReady s' p) (es : s' ≡ s) (eo : p.order ≡ o) (none_wrong : plain_fault (gadget_of a) s o ≡ none) where
+  abbrev bytes : List ℕ
+  bytes = masked_bytes (gadget_of a) s o
 
-  masked_long : length (bytes o) ≡ plan_bytes p
-  masked_long = ap (λ (y : ℕ). length (bytes y)) (sym P.order) ∙ plan_bytes_lem P.ready a
+  bytes_are : masked_bytes (gadget_of a) s' p.order ≡ bytes
+  bytes_are = ap₂ (λ (x : List ℕ) (y : ℕ). masked_bytes (gadget_of a) x y) es eo
 
-  pub mask_short :
-      {b : List ℕ} {r : DRefusal.Refusal} → length b < plan_bytes p → Refused (fault 9 0) r
-      → MaskSays (gadget_of a) s o b b (record { number = r.number; place = r.place; value = 0 })
+  long : length bytes ≡ plan_bytes p
+  long = rw (ap length bytes_are) at (plan_bytes_lem R a)
+
+  pub mask_short : (b : List ℕ) → length b < plan_bytes p → MaskSays (gadget_of a) s o b b (answer_of (Err Refusal.NoRoom))
   unfolding mask_fault
-  mask_short {b} h R =
-      rw (P.none, lt-ltb (length b) (length (bytes o)) (omega (arith, h, masked_long)))
-      (writes_refused (bytes o) b R (λ e. omega (arith, R.number, e)))
+  mask_short b h =
+      writes_refused Refusal.NoRoom bytes b
+      (second_of none_wrong (rw (lt-ltb (length b) (length bytes) (omega (arith, h, long))) refl))
 
   pub mask_done :
-      {b b' : List ℕ} {r : DRefusal.Refusal} {v : ℕ} → plan_bytes p ≤ length b → Refused (fault 0 0) r → v ≡ plan_bytes p
-      → b' ≡ over (bytes p.order) b
-      → MaskSays (gadget_of a) s o b b' (record { number = r.number; place = r.place; value = v })
+      (b : List ℕ) {b' : List ℕ} → plan_bytes p ≤ length b → b' ≡ over (masked_bytes (gadget_of a) s' p.order) b
+      → MaskSays (gadget_of a) s o b b' (answer_of (Ok (plan_bytes p)))
   unfolding mask_fault
-  mask_done {b} {b'} h R k w =
-      rw (P.none, le-ltb (length b) (length (bytes o)) (omega (arith, h, masked_long)))
-      (writes_done (bytes o) b R R.number (k ∙ sym masked_long) (w ∙ ap (λ (y : ℕ). over (bytes y) b) P.order))
-
--- nothing, and an order byte with what follows it
-pub ordered_none :
-    (G : Gadget) (s : List ℕ) {b b' : List ℕ} {r : DAnswer.Answer} → length s ≡ 0 → MaskSays G s 0 b b' r → OrderedSays G s b b' r
-ordered_none G s {b} {b'} {r} e M = input_empty (λ t o. MaskSays G t o b b' r) s e M
-
-pub ordered_part :
-    (G : Gadget) (s : List ℕ) {b b' : List ℕ} {r : DAnswer.Answer} → MaskSays G (take (length s - 1) (drop 1 s)) (get_or s 0 0) b b' r
-    → OrderedSays G s b b' r
-ordered_part G s {b} {b'} {r} M = input_part (λ t o. MaskSays G t o b b' r) s M
-
--- no input, and a byte that names the AND with what follows it
-pub mask_none :
-    (s : List ℕ) {b b' : List ℕ} {r : DAnswer.Answer} → length s ≡ 0 → OrderedSays (gadget_of Isw) s b b' r → InputSays s b b' r
-mask_none s {b} {b'} {r} e M = input_empty (λ t o. OrderedSays (gadget_of (and_of o)) t b b' r) s e M
-
-pub mask_part :
-    (s : List ℕ) {a : DAnd.And} {b b' : List ℕ} {r : DAnswer.Answer} → a ≡ and_of (get_or s 0 0)
-    → OrderedSays (gadget_of a) (take (length s - 1) (drop 1 s)) b b' r → InputSays s b b' r
-mask_part s {a} {b} {b'} {r} e M =
-    input_part (λ t o. OrderedSays (gadget_of (and_of o)) t b b' r) s
-    (subst (λ (x : DAnd.And). OrderedSays (gadget_of x) (take (length s - 1) (drop 1 s)) b b' r) e M)
+  mask_done b h w =
+      writes_done bytes b
+      (second_of none_wrong (rw (le-ltb (length b) (length bytes) (omega (arith, h, long))) refl))
+      (sym long) (w ∙ ap (λ (xs : List ℕ). over xs b) bytes_are)
 
 -- an input of more than two bytes and the longest table, and the first m bytes of it, have the same refusal
 two_refused : (f g h : Fault) → passed f ≡ false → or_else (or_else f g) h ≡ f
