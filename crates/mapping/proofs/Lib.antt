@@ -1,2 +1,2 @@
 -- Laws of mapping's answer.
-mod Mapping
+pub mod Mapping
