@@ -9,6 +9,9 @@ ghost use Rattle.construction.specs.Says.{ForecastSays, MaskSays, EncodeSays, De
 ghost use Rattle.secrecy.specs.Says.{MapSays};
 ghost use Rattle.masks_c.specs.Version.{version};
 
+use construction::And;
+use map_refusals::Given;
+
 // The version of include/masks.h, 0.6.0, as one number.
 const VERSION: u32 = 6000;
 
@@ -23,21 +26,21 @@ pub extern "C" fn masks_version() -> u32
 pub extern "C" fn masks_check(table: &[u8]) -> tables::Answer
     ensures { CheckSays table.now result }
 {
-    checking::check_table(table)
+    tables::Answer::from(checking::check_table(table))
 }
 
 #[unsafe(no_mangle)]
 pub extern "C" fn masks_forecast(table: &[u8], order: u8) -> construction::Sizes
     ensures { ForecastSays isw table.now order result }
 {
-    forecasting::forecast_sizes(table, order)
+    construction::Sizes::from(forecasting::forecast_sizes(table, order))
 }
 
 #[unsafe(no_mangle)]
 pub extern "C" fn masks_mask(table: &[u8], order: u8, out: &mut [u8]) -> tables::Answer
     ensures { MaskSays isw table.now order out.old out.new result }
 {
-    masking::mask_table(construction::And::Isw, table, order, out)
+    tables::Answer::from(masking::mask_table(And::Isw, table, order, out))
 }
 
 #[unsafe(no_mangle)]
@@ -49,14 +52,14 @@ pub extern "C" fn masks_encode(
 ) -> tables::Answer
     ensures { EncodeSays order secrets.now tape.now out.old out.new result }
 {
-    encoding::encode_secrets(order, secrets, tape, out)
+    tables::Answer::from(encoding::encode_secrets(order, secrets, tape, out))
 }
 
 #[unsafe(no_mangle)]
 pub extern "C" fn masks_decode(order: u8, shares: &[u8], out: &mut [u8]) -> tables::Answer
     ensures { DecodeSays order shares.now out.old out.new result }
 {
-    decoding::decode_shares(order, shares, out)
+    tables::Answer::from(decoding::decode_shares(order, shares, out))
 }
 
 #[unsafe(no_mangle)]
@@ -74,14 +77,14 @@ pub extern "C" fn masks_run(
         outputs.new
         result }
 {
-    running::run_table(table, inputs, random, values, outputs)
+    tables::Answer::from(running::run_table(table, inputs, random, values, outputs))
 }
 
 #[unsafe(no_mangle)]
 pub extern "C" fn masks_marks_of(table: &[u8], order: u8, wire: u32) -> construction::Marks
     ensures { MarksSay isw (probe_marks isw) table.now order wire result }
 {
-    origins::wire_marks(construction::And::Isw, table, order, wire)
+    construction::Marks::from(origins::wire_marks(And::Isw, table, order, wire))
 }
 
 #[unsafe(no_mangle)]
@@ -109,32 +112,28 @@ pub extern "C" fn masks_map(
         other.new
         result }
 {
-    mapping::map_tape(
-        construction::And::Isw,
-        table,
-        order,
+    let given = Given {
         first,
         second,
         tape,
         probes,
-        mapped,
-        one,
-        other,
-    )
+    };
+    tables::Answer::from(mapping::map_tape(And::Isw, table, order, &given, mapped, one, other))
 }
 
+// The calls from here on are those above with the other AND: one call for each of them is what include/masks.h has.
 #[unsafe(no_mangle)]
 pub extern "C" fn masks_mask_dom(table: &[u8], order: u8, out: &mut [u8]) -> tables::Answer
     ensures { MaskSays dom table.now order out.old out.new result }
 {
-    masking::mask_table(construction::And::Dom, table, order, out)
+    tables::Answer::from(masking::mask_table(And::Dom, table, order, out))
 }
 
 #[unsafe(no_mangle)]
 pub extern "C" fn masks_marks_of_dom(table: &[u8], order: u8, wire: u32) -> construction::Marks
     ensures { MarksSay dom (probe_marks dom) table.now order wire result }
 {
-    origins::wire_marks(construction::And::Dom, table, order, wire)
+    construction::Marks::from(origins::wire_marks(And::Dom, table, order, wire))
 }
 
 #[unsafe(no_mangle)]
@@ -162,16 +161,11 @@ pub extern "C" fn masks_map_dom(
         other.new
         result }
 {
-    mapping::map_tape(
-        construction::And::Dom,
-        table,
-        order,
+    let given = Given {
         first,
         second,
         tape,
         probes,
-        mapped,
-        one,
-        other,
-    )
+    };
+    tables::Answer::from(mapping::map_tape(And::Dom, table, order, &given, mapped, one, other))
 }
