@@ -119,12 +119,9 @@ pub fn put_gate(ops: &mut [u8], at: usize, left: usize, right: usize)
     fields::put_field(ops, at + 2, right);
 }
 
-// One of two numbers, by a test.
+// One of two numbers, by a test. As a call it is a choice between two values, not a branch, in loops over gates of any kinds.
 pub fn either(test: bool, yes: usize, no: usize) -> usize
     ensures { result ≡ cond test yes no }
 {
-    if test {
-        return yes;
-    }
-    no
+    if test { yes } else { no }
 }
