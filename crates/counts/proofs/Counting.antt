@@ -65,7 +65,13 @@ block_start e = record {
   third = counting_start (ap (λ (x : DThreeKinds.ThreeKinds). x.third) e);
 }
 
-module _ {ks : List DKind.Kind} {gs : List Gate} {from i : ℕ} {c : DThreeKinds.ThreeKinds} {u v w : ℕ} (B : Block ks gs from i c u v w) where
+module _
+    {ks : List DKind.Kind}
+    {gs : List Gate}
+    {from i : ℕ}
+    {c : DThreeKinds.ThreeKinds}
+    {u v w : ℕ}
+    (B : Block ks gs from i c u v w) where
   -- what one gate adds to each
   pub block_turn :
       {kind : Kind} {u' v' w' : ℕ} → i < length gs → kind ≡ (get_or gs i no_gate).kind

@@ -19,7 +19,9 @@ use Rattle.list_lines.specs.Listed.{Listed, line_at}
 
 -- a number of 16 bits and what follows it
 five : (v : ℕ) (ys : List ℕ) → v < 65536 → length (decimal v ++ ys) ≤ 5 + length ys
-five v ys h = omega (arith, length-append (decimal v) ys, ap length (decimal_is v (omega arith)), length-decimal-le 5 v (omega arith) (omega arith) (omega arith))
+five v ys h =
+    let short = length-decimal-le 5 v (omega arith) (omega arith) (omega arith) in
+    omega (arith, length-append (decimal v) ys, ap length (decimal_is v (omega arith)), short)
 
 two_short : (x y : ℕ) → x < 65536 → y < 65536 → length (decimal x ++ (32 ∷ 119 ∷ (decimal y ++ (10 ∷ [])))) ≤ 13
 two_short x y h i = omega (arith, five x (32 ∷ 119 ∷ (decimal y ++ (10 ∷ []))) h, five y (10 ∷ []) i)

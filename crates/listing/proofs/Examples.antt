@@ -5,7 +5,8 @@ use mathlib.Core.List.{[], ◌∷◌, ◌++◌, flatten}
 use Rattle.tables.specs.Tables.{gates_from, words_from, table_of, gates_fault, outputs_fault, table_fault}
 use Rattle.text.specs.Text.{digits, line_of}
 use Rattle.list_lines.specs.Lines.{gate_lines, output_lines}
-use Rattle.list_lines.proofs.Examples.{two_line, and_line, not_line, xor_line, random_line, constant_line, or_line, out_line, and_table, kinds_table}
+use Rattle.list_lines.proofs.Examples.{two_line, and_line, not_line, xor_line, random_line, constant_line, or_line, out_line}
+use Rattle.list_lines.proofs.Examples.{and_table, kinds_table}
 use Rattle.listing.specs.Listing.{table_text}
 
 -- document 01's AND

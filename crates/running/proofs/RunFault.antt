@@ -46,7 +46,8 @@ few_randoms s h e =
       accepted_few s h,
     )
 
-pub randoms_are : (s : List ℕ) {c : DThreeKinds.ThreeKinds} → c ≡ three_of random_first (table_of s).gates → c.first ≡ randoms (table_of s).gates
+pub randoms_are :
+    (s : List ℕ) {c : DThreeKinds.ThreeKinds} → c ≡ three_of random_first (table_of s).gates → c.first ≡ randoms (table_of s).gates
 randoms_are s e = ap (λ (x : DThreeKinds.ThreeKinds). x.first) e ∙ count_randoms (table_of s).gates
 
 -- the inputs are counted wrong, the random bits are, or neither

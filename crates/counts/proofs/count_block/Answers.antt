@@ -16,7 +16,8 @@ loop-g-preserved c =
     let all = c.args.gates.now.all in
     let inside = gate_inside all c.loop-g-test.true c.requires.1 in
     let block =
-    block_turn c.loop-g.invariant.0 inside c.at-byte.ensures.kind c.is_kind-first.ensures c.is_kind-second.ensures c.is_kind-third.ensures in
+    block_turn c.loop-g.invariant.0 inside c.at-byte.ensures.kind
+    c.is_kind-first.ensures c.is_kind-second.ensures c.is_kind-third.ensures in
     let few = block_small all block (omega arith) in
     (block, few.0, few.1, few.2)
 

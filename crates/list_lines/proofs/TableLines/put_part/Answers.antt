@@ -34,7 +34,8 @@ returns-then-j-count c =
 pub put_output-requires : goal.put_output-requires
 put_output-requires c =
     let lines = c.args.self.now in
-    let line = output_line_lem lines.table.now lines.listed c.args.j c.field-count.ensures.0 c.if-j-count.false c.requires.0 c.at-2.ensures.0 in
+    let line =
+    output_line_lem lines.table.now lines.listed c.args.j c.field-count.ensures.0 c.if-j-count.false c.requires.0 c.at-2.ensures.0 in
     omega (arith, c.requires.1, ap length line)
 
 pub returns : goal.returns
