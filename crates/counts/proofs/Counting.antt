@@ -2,12 +2,11 @@
 -- Assumes nothing.
 use mathlib.Core.Path.{◌≡◌, refl, ap, ◌∙◌}
 use mathlib.Core.List.{List, [], ◌∷◌}
-use Prim.Native.Nat.{ℕ, ◌+◌, ◌≤◌, ◌<◌, min}
+use Prim.Native.Nat.{ℕ, ◌+◌, ◌≤◌, ◌<◌}
 use native.Mathlib.Numerals.{add-one}
 use native.Mathlib.Omega.{arith}
 use lib.ListN.{length, get_or, take}
 use lib.Seq.{take_all, length-take-le}
-use Rattle.std.proofs.lemmas.List.{take_min}
 use Rattle.tables.specs.declared.Counts as DCounts
 use Rattle.tables.specs.declared.Kind as DKind
 use Rattle.tables.specs.declared.Kind.TheVariants.{Not, Xor, And, Random, Constant, Or}
@@ -99,13 +98,6 @@ pub none_counted :
     (ks : List DKind.Kind) (gs : List Gate) → record { first = 0; second = 0; third = 0 } ≡ three_of ks (take 0 gs)
 unfolding total
 none_counted ks gs = refl
-
--- a block of 224 gates ends where the next begins, or with the gates
-pub next_counted :
-    (ks : List DKind.Kind) (gs : List Gate) (next : ℕ) {g to : ℕ} {c : DThreeKinds.ThreeKinds} → length gs ≡ g → to ≡ min next g
-    → c ≡ three_of ks (take to gs) → c ≡ three_of ks (take next gs)
-next_counted ks gs next e m h =
-    h ∙ ap {A = List Gate} {B = DThreeKinds.ThreeKinds} (three_of ks) (rw (m, ← e) (take_min next gs))
 
 -- where there are no more than i gates, those before number i are all
 pub all_counted :

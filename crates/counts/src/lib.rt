@@ -65,7 +65,7 @@ pub fn count_three(gates: &fields::Gates, kinds: [Kind; 3]) -> ThreeKinds
         third: 0,
     };
     for from in (0..gates.count).step_by(BLOCK) {
-        let to = (from + BLOCK).min(gates.count);
+        let to = from + BLOCK.min(gates.count - from);
         counts = count_block(gates, kinds, from, to, counts);
     }
     counts

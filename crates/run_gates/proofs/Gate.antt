@@ -1,17 +1,16 @@
 -- A gate's value by its kind and the truth tables.
 -- Assumes nothing.
-use mathlib.Core.Path.{◌≡◌, refl, ◌∙◌}
+use mathlib.Core.Path.{◌≡◌, refl, sym, ap, ◌∙◌}
 use mathlib.Core.List.{List}
 use Prim.Native.Nat.{ℕ, zero, suc, ◌+◌, ◌-◌, ◌*◌, ◌/◌, ◌%◌, ◌^◌, ◌≤◌}
 use native.Mathlib.Nat.{add-zero}
 use native.Mathlib.Omega.{arith}
 use lib.ListN.{get_or}
 use Rattle.run_gates.specs.declared.Drawn as DDrawn
+use Rattle.tables.specs.declared.GateFields as DGateFields
 use Rattle.tables.specs.declared.Kind as DKind
 use Rattle.tables.specs.declared.Kind.TheVariants.{Not, Xor, And, Random, Constant, Or}
-use denote.Enum.Declared.{tag_of}
-use Rattle.tables.specs.contracts.Kind.{the_type}
-use Rattle.tables.specs.Tables.{kind_byte}
+use Rattle.tables.specs.Tables.{RANDOM, CONSTANT, kind_byte, kind_of}
 use Rattle.tables.specs.Kinds.{kind_is}
 use Rattle.tables.specs.Runs.{driven, drawn}
 use Rattle.run_gates.specs.RunGates.{GateReady, GateSays}
@@ -55,27 +54,42 @@ drawn_none Random h = absurd (h refl)
 drawn_none Constant h = refl
 drawn_none Or h = refl
 
+-- the byte of the kind that a byte states
+byte_again : (b : ℕ) → kind_byte (kind_of b) ≡ b
+byte_again zero = refl
+byte_again (suc zero) = refl
+byte_again (suc (suc zero)) = refl
+byte_again (suc (suc (suc zero))) = refl
+byte_again (suc (suc (suc (suc zero)))) = refl
+byte_again (suc (suc (suc (suc (suc zero))))) = refl
+byte_again (suc (suc (suc (suc (suc (suc b)))))) = refl
+
 -- a random gate takes the next bit, a constant is its left operand; any other goes by the truth tables
-pub says_random :
-    {l a b : ℕ} {rs : List ℕ} {c : ℕ} {r : DDrawn.Drawn} → r.value ≡ get_or rs c 0 → r.next ≡ c + 1 → GateSays Random l a b rs c r
-says_random v n = record { value = λ m u p q. v; next = n }
+module _
+    {x : DGateFields.GateFields}
+    {a b : ℕ}
+    {rs : List ℕ}
+    {c : ℕ}
+    {r : DDrawn.Drawn}
+    (k : DKind.Kind)
+    (named : kind_is k ≡ kind_of x.kind) where
+  pub says_random : k ≡ Random → r.value ≡ get_or rs c 0 → r.next ≡ c + 1 → GateSays x a b rs c r
+  says_random is v n =
+      let kind : kind_of x.kind ≡ RANDOM = sym named ∙ ap kind_is is in
+      record { value = λ m u p q. rw kind v; next = rw kind n }
 
-pub says_constant : {l a b : ℕ} {rs : List ℕ} {c : ℕ} {r : DDrawn.Drawn} → r.value ≡ l % 2 → r.next ≡ c → GateSays Constant l a b rs c r
-says_constant v n = record { value = λ m u p q. v; next = rw add-zero n }
+  pub says_constant : k ≡ Constant → r.value ≡ x.left % 2 → r.next ≡ c → GateSays x a b rs c r
+  says_constant is v n =
+      let kind : kind_of x.kind ≡ CONSTANT = sym named ∙ ap kind_is is in
+      record { value = λ m u p q. rw kind v; next = rw (kind, add-zero) n }
 
--- the number of a kind's variant is its byte
-pub tag_is : (k : DKind.Kind) → tag_of the_type k ≡ kind_byte (kind_is k)
-tag_is Not = refl
-tag_is Xor = refl
-tag_is And = refl
-tag_is Random = refl
-tag_is Constant = refl
-tag_is Or = refl
-
-pub says_truth :
-    {k : DKind.Kind} {l a b : ℕ} {rs : List ℕ} {c : ℕ} {r : DDrawn.Drawn} → GateReady k a b rs c
-    → (k ≡ Random → ⊥) → (k ≡ Constant → ⊥) → r.value ≡ truth k a b → r.next ≡ c → GateSays k l a b rs c r
-says_truth {k} ready h j v n = record {
-  value = λ m u p q. v ∙ truth_driven k _ _ h j (ready.left h j) ready.right _ m _ u p q;
-  next = rw (drawn_none k h, add-zero) n;
-}
+  pub says_truth :
+      GateReady x a b rs c → (k ≡ Random → ⊥) → (k ≡ Constant → ⊥)
+      → r.value ≡ 14682211 / 2 ^ (4 * x.kind + 2 * a + b) % 2 → r.next ≡ c → GateSays x a b rs c r
+  says_truth ready h j v n =
+      let byte : x.kind ≡ kind_byte (kind_is k) = sym (byte_again x.kind) ∙ ap kind_byte (sym named) in
+      let row : r.value ≡ truth k a b = rw byte at v in
+      record {
+        value = λ m u p q. row ∙ rw (← named) (truth_driven k _ _ h j (ready.left k named h j) ready.right _ m _ u p q);
+        next = rw (← named, drawn_none k h, add-zero) n;
+      }

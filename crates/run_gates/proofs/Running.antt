@@ -236,28 +236,28 @@ module _
     byte_small = known_small x.kind (rw is.kind left_sound.0.0)
 
     -- its kind, as the code names it
-    module _ {k : DKind.Kind} (named : kind_is k ≡ kind_of x.kind) where
-      left_earlier : (k ≡ Random → ⊥) → (k ≡ Constant → ⊥) → x.left < n + i
-      unfolding Earlier
-      left_earlier h j =
-          reads_left k (n + i) x.left x.right h j
-          (rw (named, is.kind, is.left, is.right) (sound_earlier (n + i) (this ∷ later) left_sound).0)
+    left_earlier : (k : DKind.Kind) → kind_is k ≡ kind_of x.kind → (k ≡ Random → ⊥) → (k ≡ Constant → ⊥) → x.left < n + i
+    unfolding Earlier
+    left_earlier k named h j =
+        reads_left k (n + i) x.left x.right h j
+        (rw (named, is.kind, is.left, is.right) (sound_earlier (n + i) (this ∷ later) left_sound).0)
 
-      pub gate_ready : GateReady k (get_or vs x.left 0) (get_or vs x.right 0) rs c
-      gate_ready = record {
-        left = λ h j. value_bit x.left (left_earlier h j);
-        right = value_bit x.right right_earlier;
-        random = λ e. random_there (sym (named ∙ is.kind) ∙ ap kind_is e);
-        few = omega (arith, left_few);
-      }
+    pub gate_ready : GateReady x (get_or vs x.left 0) (get_or vs x.right 0) rs c
+    gate_ready = record {
+      known = byte_small;
+      left = λ k named h j. value_bit x.left (left_earlier k named h j);
+      right = value_bit x.right right_earlier;
+      random = λ e. random_there (sym is.kind ∙ e);
+      few = omega (arith, left_few);
+    }
 
-      pub gate_turn :
-          {d : DDrawn.Drawn} → GateSays k x.left (get_or vs x.left 0) (get_or vs x.right 0) rs c d
-          → Running t rs start n (set vs (n + i) d.value) d.next (i + 1)
-      gate_turn says =
-          rw add-one (running_turn
-          (rw (named, is.kind, is.left) at (says.value this.right (λ w. get_or vs w 0) refl (rw is.right)) ∙ drives)
-          (rw (named, is.kind) at says.next))
+    pub gate_turn :
+        {d : DDrawn.Drawn} → GateSays x (get_or vs x.left 0) (get_or vs x.right 0) rs c d
+        → Running t rs start n (set vs (n + i) d.value) d.next (i + 1)
+    gate_turn says =
+        rw add-one (running_turn
+        (rw (is.kind, is.left) at (says.value this.right (λ w. get_or vs w 0) refl (rw is.right)) ∙ drives)
+        (rw is.kind at says.next))
 
 pub running_end :
     {s : List ℕ} {g : ℕ} {rs start : List ℕ} {n : ℕ} {vs : List ℕ} {c i : ℕ} → HasGates s g → Running (table_of s) rs start n vs c i

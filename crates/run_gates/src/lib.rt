@@ -8,7 +8,7 @@ ghost use Rattle.tables.specs.Packing.{unpacked};
 ghost use Rattle.tables.specs.Says.{over};
 ghost use Rattle.run_gates.specs.RunGates.{GateReady, GateSays, RunReady};
 
-use tables::Kind;
+use tables::{GateFields, Kind};
 
 // A gate's value and the number of the next random bit.
 #[derive(Clone, Copy)]
@@ -21,23 +21,22 @@ struct Drawn {
 // No match on these four: kinds in random order make a branch on them guess wrong.
 const TRUTH: u32 = 0xE00863;
 
-// What a gate drives, from its left operand and its operands' values.
-#[tactic(auto, using(crate::proofs::Gate::says_random, crate::proofs::Gate::says_constant, crate::proofs::Gate::says_truth))]
-fn gate_value(kind: Kind, left: usize, a: u8, b: u8, random: &[u8], at: usize) -> Drawn
-    requires { GateReady kind a b (unpacked random.now) at }
-    ensures { GateSays kind left a b (unpacked random.now) at result }
+// What a gate drives, from its operands' values. The row is by the kind's byte: a kind made a byte again costs the loop some steps.
+fn gate_value(gate: GateFields, a: u8, b: u8, random: &[u8], at: usize) -> Drawn
+    requires { GateReady gate a b (unpacked random.now) at }
+    ensures { GateSays gate a b (unpacked random.now) at result }
 {
-    match kind {
+    match gate.known_kind() {
         Kind::Random => Drawn {
             value: bits::tape_bit(random, at),
             next: at + 1,
         },
         Kind::Constant => Drawn {
-            value: (left % 2) as u8,
+            value: (gate.left % 2) as u8,
             next: at,
         },
         _ => {
-            let row = 4 * (kind as u8) + 2 * a + b;
+            let row = 4 * gate.kind + 2 * a + b;
             Drawn {
                 value: ((TRUTH >> row) % 2) as u8,
                 next: at,
@@ -57,17 +56,8 @@ pub fn run_gates(gates: &fields::Gates, inputs: usize, random: &[u8], values: &m
 {
     let mut next: usize = 0;
     for g in 0..gates.count {
-        let x = gates.at(g);
-        let left = x.left;
-        let right = x.right;
-        let turn = gate_value(
-            x.known_kind(),
-            left,
-            values[left],
-            values[right],
-            random,
-            next,
-        );
+        let gate = gates.at(g);
+        let turn = gate_value(gate, values[gate.left], values[gate.right], random, next);
         values[inputs + g] = turn.value;
         next = turn.next;
     }
