@@ -1,8 +1,8 @@
 // Text in a lent buffer: bytes, numbers in decimal, and the line of a refusal.
 #![tactic(auto)]
 
-// A call takes a place and answers the next one. No struct of a buffer and its place, and no `write!` into it: the calls promise which bytes
-// stand at which place of a lent buffer that has room for them, where those two would have to say so of themselves and could fail.
+// A call takes a place and answers the next one. No struct of a buffer and its place, and no `write!` into it: the calls promise which
+// bytes stand at which place of a lent buffer that has room for them, where those two would have to say so of themselves and could fail.
 
 ghost use Rattle.std.specs.Prelude.{◌≡◌, [], ◌∷◌, ◌++◌, ◌+◌, ◌≤◌, length};
 ghost use Rattle.text.specs.Text.{decimal, refusal_line, Puts, PutsAll};
