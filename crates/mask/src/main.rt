@@ -10,9 +10,10 @@
 use std::io;
 
 // Writes the line of a refusal on standard error.
-fn report(rt: &HostRuntime, number: u32, place: u32) -> io::Result<()> {
+#[tactic(auto, using(text::proofs::Writing::refusal_long))]
+fn report(rt: &HostRuntime, refusal: tables::Refusal) -> io::Result<()> {
     let mut line = [0u8; 64];
-    let long = text::put_refusal(&mut line, number, place);
+    let long = text::put_refusal(&mut line, refusal.number() as u32, refusal.place());
     rt.stderr().write_all(&line[..long])
 }
 
@@ -22,12 +23,10 @@ fn write_masked(
     input: &[u8],
     masked: &mut [u8; tables::LONGEST],
 ) -> io::Result<()> {
-    let answer = masking::mask_input(input, masked);
-    if answer.number != 0 {
-        return report(rt, answer.number as u32, answer.place);
+    match masking::mask_input(input, masked) {
+        Ok(long) => rt.write_all(&masked[..long as usize]),
+        Err(refusal) => report(rt, refusal),
     }
-    let long = answer.value as usize;
-    rt.write_all(&masked[..long])
 }
 
 fn main(rt: HostRuntime) -> io::Result<()> {
