@@ -10,7 +10,7 @@ ghost use Rattle.mask_pairs.specs.PairRoom.{PairRoom, PairNo};
 ghost use Rattle.layout.specs.Layout.{share_wires, pair_gates};
 
 // Writes the operands of a pair's five wires, from wire w on.
-fn write_five(and: construction::And, ops: &mut [u8], at: usize, w: usize, x: layout::PairShares)
+fn write_pair(and: construction::And, ops: &mut [u8], at: usize, w: usize, x: layout::PairShares)
     requires { PairRoom w x at ops.old }
     ensures { ops.new
         ≡ put_at at (pair_bytes (map ((gadget_of and).gates w x.ai x.bj x.aj x.bi) all_five)) ops.old }
@@ -21,22 +21,6 @@ fn write_five(and: construction::And, ops: &mut [u8], at: usize, w: usize, x: la
     layout::put_gate(ops, at + 8, w + form.third.left, w + form.third.right);
     layout::put_gate(ops, at + 12, x.aj, x.bi);
     layout::put_gate(ops, at + 16, w + form.fifth.left, w + form.fifth.right);
-}
-
-// The same. Each AND has its own call, so that the compiler knows the form where it writes: without, masking takes longer.
-fn write_pair(and: construction::And, ops: &mut [u8], at: usize, w: usize, x: layout::PairShares)
-    requires { PairRoom w x at ops.old }
-    ensures { ops.new
-        ≡ put_at at (pair_bytes (map ((gadget_of and).gates w x.ai x.bj x.aj x.bi) all_five)) ops.old }
-{
-    match and {
-        construction::And::Isw => {
-            write_five(construction::And::Isw, ops, at, w, x);
-        }
-        construction::And::Dom => {
-            write_five(construction::And::Dom, ops, at, w, x);
-        }
-    }
 }
 
 // The pair after a pair of n shares.

@@ -1,4 +1,4 @@
--- `mask_pairs::write_five` meets its contract: five gates, one after the other, by the form of the AND's pairs.
+-- `mask_pairs::write_pair` meets its contract: five gates, one after the other, by the form of the AND's pairs.
 -- Assumes nothing.
 use mathlib.Core.Path.{refl, ap, ◌∙◌}
 use mathlib.Core.List.{List, ◌++◌}
@@ -7,7 +7,7 @@ use native.Mathlib.Omega.{arith}
 use Rattle.tables.specs.Tables.{Gate, two, pair_bytes}
 use Rattle.tables.specs.Inside.{put_at}
 use Rattle.tables.proofs.Put.{put_then}
-use Rattle.mask_pairs.proofs.write_five.Goals as goal
+use Rattle.mask_pairs.proofs.write_pair.Goals as goal
 
 pub returns : goal.returns
 unfolding pair_bytes
