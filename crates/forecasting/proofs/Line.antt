@@ -3,10 +3,10 @@
 use mathlib.Core.Path.{◌≡◌, refl, ◌∙◌}
 use mathlib.Core.Bool.{Bool, true, false, cond}
 use mathlib.Core.List.{List, [], ◌∷◌, ◌++◌}
-use Prim.Native.Nat.{ℕ, ◌-◌, ◌≤◌, ◌<◌}
+use Prim.Native.Nat.{ℕ, ◌≤◌, ◌<◌}
 use native.Mathlib.Omega.{arith}
 use borrow.Author.Tests.{lt-ltb, le-ltb}
-use lib.ListN.{length, get_or, take, drop}
+use lib.ListN.{length, get_or, drop}
 use lib.Dec.{eqb}
 use Rattle.std.specs.Prelude.{Result, Ok, Err}
 use Rattle.tables.specs.declared.Refusal as DRefusal
@@ -16,7 +16,6 @@ use Rattle.tables.proofs.Answers.{refusal_fails}
 use Rattle.construction.specs.declared.Figures as DFigures
 use Rattle.construction.specs.Told.{sizes_of}
 use Rattle.tables.specs.Tables.{wires, table_of, table_bytes}
-use Rattle.tables.proofs.Cut.{input_empty, input_part}
 use Rattle.construction.specs.declared.Sizes as DSizes
 use Rattle.construction.specs.Shares.{shares_of}
 use Rattle.construction.specs.Gadgets.{isw}
@@ -65,13 +64,14 @@ line_forecast s r h F =
 pub line_empty :
     (s : List ℕ) (r : Result DFigures.Figures DRefusal.Refusal) → length s ≡ 0 → ForecastSays isw s 0 (sizes_of r)
     → told_line r ≡ forecast_line s
-line_empty s r e F = line_forecast s r (omega (arith, e)) (input_empty (λ t o. ForecastSays isw t o (sizes_of r)) s e F)
+line_empty [] r e F = line_forecast [] r (omega arith) F
+line_empty (x ∷ s) r e F = absurd (omega arith)
 
 -- the order byte and what follows it
 pub line_part :
-    (s : List ℕ) (r : Result DFigures.Figures DRefusal.Refusal) → length s ≤ 65536
-    → ForecastSays isw (take (length s - 1) (drop 1 s)) (get_or s 0 0) (sizes_of r) → told_line r ≡ forecast_line s
-line_part s r h F = line_forecast s r h (input_part (λ t o. ForecastSays isw t o (sizes_of r)) s F)
+    (x : ℕ) (s : List ℕ) (r : Result DFigures.Figures DRefusal.Refusal) → length (x ∷ s) ≤ 65536
+    → ForecastSays isw s x (sizes_of r) → told_line r ≡ forecast_line (x ∷ s)
+line_part x s r h F = line_forecast (x ∷ s) r h F
 
 pub ruleset input_laws = (line_long, line_empty, line_part)
 

@@ -60,10 +60,10 @@ fn input_forecast(input: &[u8]) -> Result<Figures, Refusal>
     if input.len() > 65536 {
         return Err(Refusal::NoRoom);
     }
-    if input.is_empty() {
-        return forecast_sizes(input, 0);
+    match input.split_first() {
+        None => forecast_sizes(input, 0),
+        Some((order, table)) => forecast_sizes(table, *order),
     }
-    forecast_sizes(&input[1..], input[0])
 }
 
 // Writes the forecast program's line for an input, and answers its length; where it does not fit, writes nothing and answers 0.

@@ -3,18 +3,18 @@
 use mathlib.Core.Path.{◌≡◌, sym, ap, ◌∙◌}
 use mathlib.Core.Bool.{Bool, true, false, cond}
 use mathlib.Core.List.{List, [], ◌∷◌, ◌++◌}
-use Prim.Native.Nat.{ℕ, zero, suc, ◌*◌, ◌-◌, ◌≤◌, ◌<◌}
+use Prim.Native.Nat.{ℕ, zero, suc, ◌*◌, ◌≤◌, ◌<◌}
 use native.Mathlib.Omega.{arith}
 use lib.ListN.{length, get_or, take, drop}
 use Rattle.tables.specs.declared.Refusal as DRefusal
-use Rattle.std.specs.Prelude.{Result, Ok, Err}
+use Rattle.std.specs.Prelude.{Ok, Err}
 use Rattle.tables.specs.Refusals.{Fault, passed}
 use Rattle.tables.specs.Refusing.{fault_of}
 use Rattle.tables.specs.Tables.{table_of, table_long, table_fault}
 use Rattle.tables.proofs.Tests.{first_refused}
 use Rattle.tables.proofs.Answers.{refused_fails}
 use Rattle.tables.proofs.Accept.{accepted_plain}
-use Rattle.tables.proofs.Cut.{cut_fault, cut_refused, input_empty, input_part}
+use Rattle.tables.proofs.Cut.{cut_fault, cut_refused}
 use Rattle.text.specs.Text.{decimal, line_of, refusal_line}
 use Rattle.text.proofs.Writing.{number_long, refusal_long}
 use Rattle.construction.specs.Shares.{shares_of}
@@ -36,10 +36,7 @@ line_refused :
 unfolding table_line
 line_refused s o e = rw e
 
--- what is told of a table: a refusal of 1 to 7, or its six figures
-abbrev pub ToldSix : Type 0
-ToldSix = Result DSix.Six DRefusal.Refusal
-
+-- what is told of a table that 1 to 7 refuse
 pub told_refused : (s : List ℕ) (o : ℕ) (e : DRefusal.Refusal) → maskable_fault s o ≡ fault_of e → told_line (Err e) ≡ table_line s o
 told_refused s o e h =
     (λ j. refusal_line (sym h j).number (sym h j).place) ∙ sym (line_refused s o (refused_fails e h))
@@ -57,15 +54,6 @@ told_six {s} {o} {y} {z} T F =
     F.bytes ∙ (λ j. table_long (length m.gates) (outputs j)) in
     rw (maskable_passed S)
     (λ j. six_line (F.shares j) (F.wires j) (F.tape j) (bytes j) ((F.outputs ∙ outputs) j) (F.largest j))
-
--- "No input counts as order 0 and an empty table"
-pub told_empty : (s : List ℕ) (r : ToldSix) → length s ≡ 0 → told_line r ≡ table_line s 0 → told_line r ≡ printed s
-told_empty s r e h = input_empty (λ t o. told_line r ≡ table_line t o) s e h
-
--- the order byte and what follows it
-pub told_part :
-    (s : List ℕ) (r : ToldSix) → told_line r ≡ table_line (take (length s - 1) (drop 1 s)) (get_or s 0 0) → told_line r ≡ printed s
-told_part s r h = input_part (λ t o. told_line r ≡ table_line t o) s h
 
 -- 66 bytes hold the line
 six_short : (a b c d e f : ℕ) → length (six_line a b c d e f) ≤ 66

@@ -65,14 +65,13 @@ fn tell_table(table: &[u8], order: u8) -> Result<Six, Refusal>
 }
 
 // What is told of an input: an order byte, then a table.
-#[tactic(auto, using(crate::proofs::Line::told_empty, crate::proofs::Line::told_part))]
 fn tell_input(input: &[u8]) -> Result<Six, Refusal>
     ensures { told_line result ≡ printed input.now }
 {
-    if input.is_empty() {
-        return tell_table(input, 0);
+    match input.split_first() {
+        None => tell_table(input, 0),
+        Some((order, table)) => tell_table(table, *order),
     }
-    tell_table(&input[1..], input[0])
 }
 
 // Puts the last three figures of a line, and answers its length.
