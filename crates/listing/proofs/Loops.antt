@@ -9,16 +9,13 @@ use native.Mathlib.Omega.{arith}
 use lib.ListN.{length, get_or, drop, length-append, drop_of_length-le}
 use lib.Seq.{drop-cons}
 use Rattle.tables.specs.Inside.{put_at}
-use Rattle.tables.proofs.Put.{Writing, put_length, writing_start, writing_long, writing_piece, writing_end}
+use Rattle.tables.proofs.Put.{Writing, writing_piece, writing_end}
 use Rattle.text.specs.Text.{Puts}
 
 -- the lines from number j on are left, and those before it take up `at` bytes
 pub record Left (ls : List (List ℕ)) (j at : ℕ) : Type 0 where
   pub within : j ≤ length ls
   pub sum : at + length (flatten (drop j ls)) ≡ length (flatten ls)
-
-pub left_start : (ls : List (List ℕ)) → Left ls 0 0
-left_start ls = record { within = omega arith; sum = zero-add _ }
 
 flatten_step : (ls : List (List ℕ)) (j : ℕ) → j < length ls → flatten (drop j ls) ≡ get_or ls j [] ++ flatten (drop (suc j) ls)
 unfolding flatten
@@ -47,13 +44,7 @@ pub record Putting (ls : List (List ℕ)) (b out : List ℕ) (j at : ℕ) : Type
   pub writing : Writing (put_at 0 (flatten ls) b) at (flatten (drop j ls)) out
 
 module _ {ls : List (List ℕ)} {b : List ℕ} (room : length (flatten ls) ≤ length b) where
-  pub putting_start : Putting ls b b 0 0
-  putting_start = record { rest = left_start ls; writing = writing_start 0 (flatten ls) b (omega (arith, room)) }
-
   module _ {out : List ℕ} {j at : ℕ} (P : Putting ls b out j at) where
-    pub putting_long : length out ≡ length b
-    putting_long = writing_long P.writing ∙ put_length 0 (flatten ls) b (omega (arith, room))
-
     pub putting_turn : {out' : List ℕ} {r : ℕ} → j < length ls → Puts at (get_or ls j []) out out' r → Putting ls b out' (j + 1) r
     putting_turn h Q =
         let next = Q.next in

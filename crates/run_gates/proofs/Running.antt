@@ -20,7 +20,7 @@ use Rattle.tables.specs.Runs.{driven, drawn, run_from, randoms}
 use Rattle.tables.specs.Says.{over}
 use Rattle.tables.specs.Inside.{Bits, put_at, HasGates, GateIs}
 use Rattle.run_gates.specs.RunGates.{GateReady, GateSays, RunReady}
-use Rattle.tables.proofs.Put.{Writing, writing_kept, writing_byte, writing_end, over_length}
+use Rattle.tables.proofs.Put.{Writing, writing_kept, writing_byte, writing_end}
 use Rattle.tables.proofs.Run.{Solves, Reads, Earlier, driven_local, run_length, run_bits, run_solves}
 use Rattle.tables.proofs.Accept.{inputs_of, gates_of_length, gates_are, accepted, accepted_few}
 use Rattle.tables.proofs.Accept.{operands_below}
@@ -101,9 +101,6 @@ module _ {s rs vs : List ℕ} {n g : ℕ} (gates : HasGates s g) (r : RunReady s
 
   ran_fits : length (ran_from (table_of s) rs vs n) ≤ length vs
   ran_fits = omega (arith, ran_long, gates_are gates, r.room)
-
-  pub running_long : length (over (ran_from (table_of s) rs vs n) vs) ≡ length vs
-  running_long = over_length (ran_from (table_of s) rs vs n) vs ran_fits
 
   pub running_start : Running (table_of s) rs vs n vs 0 0
   running_start =
