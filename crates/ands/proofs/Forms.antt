@@ -2,7 +2,7 @@
 -- Assumes nothing.
 use mathlib.Core.Path.{◌≡◌, refl}
 use mathlib.Core.Bool.{Bool, true, false, cond}
-use Prim.Native.Nat.{ℕ, ◌+◌, ◌<◌}
+use Prim.Native.Nat.{ℕ, ◌+◌, ◌*◌, ◌≤◌, ◌<◌}
 use native.Mathlib.Omega.{arith}
 use lib.Dec.{eqb}
 use Rattle.tables.specs.Runs.{xor}
@@ -16,18 +16,27 @@ at_0 : (w : ℕ) → w + 0 ≡ w
 at_0 w = omega arith
 
 abbrev isw_form : DPairForm.PairForm
-isw_form = record { third = record { left = 0; right = 1 }; fifth = record { left = 2; right = 3 }; low = 0; high = 4; both = true }
+isw_form = record { third = record { left = 0; right = 1 }; fifth = record { left = 2; right = 3 }; low = 0; high = 4; both = 1 }
 
 abbrev dom_form : DPairForm.PairForm
-dom_form = record { third = record { left = 1; right = 0 }; fifth = record { left = 3; right = 0 }; low = 2; high = 4; both = false }
+dom_form = record { third = record { left = 1; right = 0 }; fifth = record { left = 3; right = 0 }; low = 2; high = 4; both = 0 }
 
--- what a pair of document 01 flips
-isw_flip : (k i j p q : ℕ) → isw.flip k i j p q ≡ form_flip isw_form k i j p q
-isw_flip k i j p q = go (eqb i k) (eqb j k)
+-- what a pair flips
+isw_flip : (k i j p q : ℕ) → q ≤ 1 → isw.flip k i j p q ≡ form_flip isw_form k i j p q
+isw_flip k i j p q h = go (eqb i k) (eqb j k)
   where
-    go : (t u : Bool) → cond t (xor p q) 0 ≡ cond t (xor p q) (cond u 0 0)
-    go t true = refl
-    go t false = refl
+    go : (t u : Bool) → cond t (xor p q) 0 ≡ cond t (xor (1 * p) q) (cond u (0 * p) 0)
+    go true u = omega arith
+    go false true = omega arith
+    go false false = refl
+
+dom_flip : (k i j p q : ℕ) → q ≤ 1 → dom.flip k i j p q ≡ form_flip dom_form k i j p q
+dom_flip k i j p q h = go (eqb i k) (eqb j k)
+  where
+    go : (t u : Bool) → cond t q (cond u p 0) ≡ cond t (xor (0 * p) q) (cond u (1 * p) 0)
+    go true u = omega arith
+    go false true = omega arith
+    go false false = refl
 
 pub isw_form_lem : FormSays isw isw_form
 isw_form_lem =
@@ -38,9 +47,10 @@ isw_form_lem =
       low = refl;
       high = refl;
       marks = isw_marks_lem;
+      both = omega arith;
       third_adds = λ w v. rw (at_0 w) refl;
-      fifth_adds = λ w v e. rw e refl;
-      flip = λ k i j p q h. isw_flip k i j p q;
+      fifth_adds = λ w v e. rw e (omega arith);
+      flip = isw_flip;
     }
 
 pub dom_form_lem : FormSays dom dom_form
@@ -52,9 +62,10 @@ dom_form_lem =
       low = refl;
       high = refl;
       marks = dom_marks_lem;
+      both = omega arith;
       third_adds = λ w v. rw (at_0 w) (omega arith);
       fifth_adds = λ w v e. rw (at_0 w) (omega arith);
-      flip = λ k i j p q h. refl;
+      flip = dom_flip;
     }
 
 -- the wires that rows add are two of the five

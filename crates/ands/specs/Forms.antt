@@ -2,7 +2,7 @@
 -- What sets one AND apart from another, as the code keeps it: wires of a pair by their place among the five, from 0, and whether the
 -- fifth adds both products.
 -- Assumes nothing.
-use Rattle.std.specs.Prelude.{◌≡◌, cond, List, [], ◌∷◌, map, ℕ, ◌+◌, ◌≤◌, ◌<◌, eqb, Option, None, Some}
+use Rattle.std.specs.Prelude.{◌≡◌, cond, List, [], ◌∷◌, map, ℕ, ◌+◌, ◌-◌, ◌*◌, ◌≤◌, ◌<◌, eqb, Option, None, Some}
 use Rattle.tables.specs.Tables.{XOR, AND, RANDOM, Gate, gate}
 use Rattle.tables.specs.Runs.{xor}
 use Rattle.construction.specs.declared.And as DAnd
@@ -23,7 +23,7 @@ form_gates r w ai bj aj bi =
 
 -- what a pair of shares i and j flips, p and q being whether a_i·b_j and a_j·b_i differ
 abbrev pub form_flip : DPairForm.PairForm → ℕ → ℕ → ℕ → ℕ → ℕ → ℕ
-form_flip r k i j p q = cond (eqb i k) (cond r.both (xor p q) q) (cond (eqb j k) (cond r.both 0 p) 0)
+form_flip r k i j p q = cond (eqb i k) (xor (r.both * p) q) (cond (eqb j k) ((1 - r.both) * p) 0)
 
 -- the share j whose pairs (i, j) may be flipped though i is not the free share k: k, or none
 abbrev pub upper_flipped : DAnd.And → ℕ → Option ℕ
@@ -38,10 +38,11 @@ pub record FormSays (G : Gadget) (r : DPairForm.PairForm) : Type 0 where
   pub low : r.low ≡ index_of G.low
   pub high : r.high ≡ index_of G.high
   pub marks : (i j : ℕ) → i < j → (f : Five) → (with_pins G).marks i j f ≡ pair_marks r.low i j (index_of f)
-  -- whatever the values are, the third wire adds the first two, the fifth the first, the fourth and, where `both` holds, the second
+  pub both : r.both ≤ 1
+  -- whatever the values are, the third wire adds the first two, the fifth the first, the fourth and, where `both` is 1, the second
   pub third_adds :
       (w : ℕ) (v : ℕ → ℕ) → xor (v (w + r.third.left)) (v (w + r.third.right)) ≡ xor (v w) (v (w + 1))
   pub fifth_adds :
       (w : ℕ) (v : ℕ → ℕ) → v (w + 2) ≡ xor (v w) (v (w + 1))
-      → xor (v (w + r.fifth.left)) (v (w + r.fifth.right)) ≡ xor (xor (v w) (cond r.both (v (w + 1)) 0)) (v (w + 3))
+      → xor (v (w + r.fifth.left)) (v (w + r.fifth.right)) ≡ xor (xor (v w) (r.both * v (w + 1))) (v (w + 3))
   pub flip : (k i j p q : ℕ) → q ≤ 1 → G.flip k i j p q ≡ form_flip r k i j p q

@@ -2,17 +2,16 @@
 -- Assumes nothing.
 use mathlib.Core.Path.{◌≡◌, refl, sym, ap, subst, ◌∙◌}
 use mathlib.Core.List.{List, [], ◌∷◌, ◌++◌, map}
-use mathlib.Core.Bool.{Bool, true, false, cond}
-use Prim.Native.Nat.{ℕ, ◌+◌, ◌≤◌, ◌<◌}
+use Prim.Native.Nat.{ℕ, ◌+◌, ◌*◌, ◌≤◌, ◌<◌}
 use native.Mathlib.Omega.{arith}
-use lib.Bits.{bit_xor}
+use lib.Bits.{bit_and, bit_xor}
 use lib.ListN.{length, get_or, set}
 use lib.Seq.{get_or-set_same, get_or-set_other}
 use Rattle.tables.specs.Tables.{XOR, AND, RANDOM, Gate, gate, total}
 use Rattle.tables.specs.Runs.{xor, randoms}
 use Rattle.tables.specs.Inside.{ran_on, RunsTo}
 use Rattle.tables.proofs.Lists.{bits_nil, bits_cons}
-use Rattle.tables.proofs.Run.{bit_xor_lem}
+use Rattle.tables.proofs.Run.{bit_mul, bit_xor_lem, bit_and_lem}
 use Rattle.tables.proofs.Ran.{Ran, ran_one, ran_keep, ran_start, ran_more, runs_less, runs_bit}
 use Rattle.ands.specs.declared.PairForm as DPairForm
 use Rattle.layout.specs.declared.PairShares as DPairShares
@@ -95,8 +94,8 @@ module _
             unfolding total
             ran_4 = gate_more ran_3 (gate AND s.aj s.bi) 1 refl e₄ (omega arith) (omega arith)
 
-            pub ready_5 : RunsTo (w + 4) 1 b₄
-            ready_5 = ran_4.ready
+            pub ready_5 : RunsTo (w + 4) 1 b₄ × (r.both ≤ 1)
+            ready_5 = (ran_4.ready, F.both)
 
             kept : (p : ℕ) → p < w + 3 → get_or b₄ p 0 ≡ get_or b₃ p 0
             kept p h =
@@ -130,14 +129,12 @@ pair_bits {w} {b = b} R P = record { cross = (at P.cross.0, at P.cross.1); back 
 
 -- the sum that the fifth wire is set to
 pub fifth_is :
-    (both : Bool) (w : ℕ) (b : List ℕ) → RunsTo (w + 4) 1 b
-    → bit_xor (bit_xor (get_or b w 0) (cond both (get_or b (w + 1) 0) 0)) (get_or b (w + 3) 0) ≡ fifth_value both w (λ p. get_or b p 0)
-fifth_is both w b R =
+    (both w : ℕ) (b : List ℕ) → RunsTo (w + 4) 1 b → both ≤ 1
+    → bit_xor (bit_xor (get_or b w 0) (bit_and both (get_or b (w + 1) 0))) (get_or b (w + 3) 0) ≡ fifth_value both w (λ p. get_or b p 0)
+fifth_is both w b R h =
     let first = runs_bit R w (omega arith) in
-    let second : cond both (get_or b (w + 1) 0) 0 ≤ 1 = at_most both (runs_bit R (w + 1) (omega arith)) in
+    let second = runs_bit R (w + 1) (omega arith) in
     let fourth = runs_bit R (w + 3) (omega arith) in
-    ap (λ (x : ℕ). bit_xor x (get_or b (w + 3) 0)) (bit_xor_lem _ _ first second) ∙ bit_xor_lem _ _ (omega arith) fourth
-  where
-    at_most : {x : ℕ} (t : Bool) → x ≤ 1 → cond t x 0 ≤ 1
-    at_most true h = h
-    at_most false h = omega arith
+    let product = bit_mul both (get_or b (w + 1) 0) h second in
+    rw (bit_and_lem both (get_or b (w + 1) 0) h second)
+    (ap (λ (x : ℕ). bit_xor x (get_or b (w + 3) 0)) (bit_xor_lem _ _ first product) ∙ bit_xor_lem _ _ (omega arith) fourth)

@@ -1,6 +1,6 @@
 -- For contracts inside the library only: no promise of a call cites this. A pair of shares in both runs of the map.
 -- Assumes nothing.
-use Rattle.std.specs.Prelude.{Bool, cond, List, ℕ, ◌+◌, ◌≤◌, ◌<◌, length, get_or}
+use Rattle.std.specs.Prelude.{List, ℕ, ◌+◌, ◌*◌, ◌≤◌, ◌<◌, length, get_or}
 use Rattle.tables.specs.Runs.{xor}
 use Rattle.layout.specs.declared.PairShares as DPairShares
 use Rattle.construction.specs.Gadgets.{Gadget, differs}
@@ -21,8 +21,8 @@ pub record PairBefore (w : ℕ) (s : DPairShares.PairShares) : Type 0 where
   pub back : (s.aj < w) × (s.bi < w)
 
 -- what the fifth wire of a pair drives, by the values of the first, the second and the fourth
-abbrev pub fifth_value : Bool → ℕ → (ℕ → ℕ) → ℕ
-fifth_value both w v = xor (xor (v w) (cond both (v (w + 1)) 0)) (v (w + 3))
+abbrev pub fifth_value : ℕ → ℕ → (ℕ → ℕ) → ℕ
+fifth_value both w v = xor (xor (v w) (both * v (w + 1))) (v (w + 3))
 
 -- whether the product of the wires l and r differs between the runs x and y
 abbrev pub wires_differ : List ℕ → List ℕ → ℕ → ℕ → ℕ

@@ -11,14 +11,13 @@ ghost use Rattle.construction.specs.Gadgets.{all_five, gadget_of};
 ghost use Rattle.secrecy.specs.Both.{BothFlip, BothReady};
 ghost use Rattle.map_pair.specs.Crossing.{fifth_value, wires_differ, pair_flips, BitAt, PairBits, PairBefore};
 
-// The fifth wire of a pair in one run, where w is the first: it adds the first, the fourth and, where `both` holds, the second.
+// The fifth wire of a pair in one run, where w is the first: it adds the first, the fourth and, where both is 1, the second.
 #[tactic(auto, using(crate::proofs::Five::fifth_is))]
-fn run_fifth(run: &mut [u8], w: usize, both: bool)
-    requires { RunsTo (w + 4) 1 run.old }
+fn run_fifth(run: &mut [u8], w: usize, both: u8)
+    requires { RunsTo (w + 4) 1 run.old × (both ≤ 1) }
     ensures { run.new ≡ set run.old (w + 4) (fifth_value both w (λ p. get_or run.old p 0)) }
 {
-    let second = if both { run[w + 1] } else { 0 };
-    run[w + 4] = run[w] ^ second ^ run[w + 3];
+    run[w + 4] = run[w] ^ (both & run[w + 1]) ^ run[w + 3];
 }
 
 // The five wires of a pair in one run, from wire w on, with the pair's random bit. The third adds the first two, in whichever order its
@@ -63,7 +62,8 @@ fn flip_pair(
         × (unpacked mapped.new
         ≡ set (unpacked mapped.old) at (xor (get_or (unpacked mapped.old) at 0) result)) }
 {
-    if (i != k) & (ands::upper_flipped(and, k) != Some(j)) {
+    // 0 for none, as no share j is 0, and both tests in one: the loop over pairs is slower where Options are compared.
+    if (i != k) & (j != ands::upper_flipped(and, k).unwrap_or(0)) {
         return 0;
     }
     let p = product_differs(one, other, shares.ai, shares.bj);
