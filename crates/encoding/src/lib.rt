@@ -50,7 +50,7 @@ fn encode_one(order: usize, secret: u8, tape: &[u8], from: usize, out: &mut [u8]
     for s in 0..bits {
         let bit = bits::tape_bit(tape, from + s);
         out[s] = bit;
-        last = last ^ bit;
+        last ^= bit;
     }
     out[bits] = last;
 }

@@ -56,15 +56,15 @@ module _ (o w : ℕ) (ps : List ℕ) (few : length ps ≤ o) where
   unfolding probes_fault
   some_few = rw (le-ltb o (length ps) few)
 
-  pub probes_pass : position outside ps ≡ None → probes_fault o w ps ≡ none
-  probes_pass e =
+  pub all_wires : position outside ps ≡ None → probes_fault o w ps ≡ none
+  all_wires e =
       let j = position_or_len outside ps in
       let far : length ps ≤ j = ltb-false j (length ps) (position_none (ltb j (length ps)) j e) in
       some_few
       ∙ probe_none ps w (λ k q. leb-false w (get_or ps k 0) (fails_before_first outside ps k 0 (omega arith))) 0
 
-  pub probes_stop : (j : ℕ) → position outside ps ≡ Some j → probes_fault o w ps ≡ fault 13 j
-  probes_stop j e =
+  pub one_outside : (j : ℕ) → position outside ps ≡ Some j → probes_fault o w ps ≡ fault 13 j
+  one_outside j e =
       let first = position-Some outside ps j 0 e in
       some_few
       ∙ (rw zero-add at

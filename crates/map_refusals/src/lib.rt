@@ -52,7 +52,7 @@ fn first_outside(wires: usize, probes: &[u32]) -> Option<usize>
 }
 
 // The probes: more than the order, then one that is no wire of the masked table.
-#[tactic(auto, using(crate::proofs::Faults::probes_pass, crate::proofs::Faults::probes_stop), unfolding(secrecy::specs::Says::probes_fault))]
+#[tactic(auto, using(crate::proofs::Faults::all_wires, crate::proofs::Faults::one_outside), unfolding(secrecy::specs::Says::probes_fault))]
 fn probes_fault(order: u8, wires: usize, probes: &[u32]) -> Result<(), Refusal>
     ensures { Refused (probes_fault order wires probes.now) result }
 {

@@ -78,7 +78,9 @@ module _ (A : DAnd.And) (s : List ℕ) (o : ℕ) (xs ys ts ps : List ℕ) (a b c
     probes_ready = rw wires_are probes.1
 
     free :
-        Free (shares_of o) (carried (probe_marks (gadget_of A)) o (table_of s) ps) (free_share (probe_marks (gadget_of A)) o (table_of s) ps)
+        Free (shares_of o)
+        (carried (probe_marks (gadget_of A)) o (table_of s) ps)
+        (free_share (probe_marks (gadget_of A)) o (table_of s) ps)
     free =
         let table = (plain_passed (gadget_of A) s o good.plain).plain in
         free_of (hiding A) (table_of s) o (covers_pins (lawful A) (table_of s) o table) table ps good.probes

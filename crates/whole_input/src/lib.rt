@@ -18,6 +18,7 @@ pub fn read_full<R: Read>(reader: &mut R, buf: &mut [u8]) -> io::Result<usize>
     ensures bytes { IfOk result (λ n. Consumes (R.remaining reader.old) (R.remaining reader.new) (take n buf.new)) }
     ensures whole { IfOk result (λ n. n < length buf.new → IsAtEnd (R.remaining reader.new)) }
 {
+    // Counted by hand: each read says how many bytes it put, and std's own way to read to the end allocates.
     let mut done = 0;
     while done < buf.len() {
         let n = reader.read(&mut buf[done..])?;
