@@ -11,7 +11,8 @@ use lib.ListN.{length, get_or, length-append, length-map}
 use Rattle.tables.specs.Tables.{NOT, XOR, AND, CONSTANT, OR, Gate, gate}
 use Rattle.construction.specs.Shares.{up_from, in_turn, Pair, pair_of, pairs, tri, pair_at, row}
 use Rattle.construction.specs.Gadgets.{first, Gadget}
-use Rattle.construction.specs.Wires.{Part, sum, in_and, Origin, and_part, xor_share, constant_share, or_part, driver_of, wire, share, first_on, pair_wires}
+use Rattle.construction.specs.Wires.{Part, sum, in_and, Origin, and_part, xor_share, constant_share, or_part, driver_of, wire, share}
+use Rattle.construction.specs.Wires.{first_on, pair_wires}
 use Rattle.construction.specs.Wires.{adding, pair_wire, row_wires, and_wires, and_shares, and_cost, new_wires}
 use Rattle.layout.specs.Layout.{pieces_from, sum_gates, high_gates, low_gates, row_gates, rows_gates}
 use Rattle.layout.specs.Layout.{xor_gates, constant_gates, and_gates, or_gates}

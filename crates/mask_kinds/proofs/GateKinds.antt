@@ -4,7 +4,8 @@ use mathlib.Core.Path.{◌≡◌, refl, sym, ap, ap₂, ◌∙◌}
 use mathlib.Core.List.{List, [], ◌∷◌, ◌++◌, map, map-append}
 use Prim.Native.Nat.{ℕ, zero, suc, ◌+◌, ◌-◌, ◌*◌, ◌≤◌, ◌<◌}
 use native.Mathlib.Omega.{arith}
-use lib.ListN.{length, get_or, take, drop, set, replicate, length-set, length-append, length-map, length-replicate, replicate-append-replicate}
+use lib.ListN.{length, get_or, take, drop, set, replicate, length-set, length-append, length-map, length-replicate}
+use lib.ListN.{replicate-append-replicate}
 use lib.Seq.{drop-drop}
 use borrow.Rule.Slice.PartMut.{mid_of, put_mid, mid_len}
 use denote.Enum.Declared.{tag_of}
@@ -18,7 +19,8 @@ use Rattle.tables.proofs.Format.{kinds_long}
 use Rattle.tables.proofs.Put.{put_length, put_set, put_past, put_then}
 use Rattle.construction.specs.Shares.{in_turn, pairs, tri, pair_at}
 use Rattle.construction.specs.Gadgets.{Gadget}
-use Rattle.construction.specs.Wires.{and_part, Wire, driver_of, share, first_on, pair_wire, and_shares, and_cost, new_wires, new_shares, cost}
+use Rattle.construction.specs.Wires.{and_part, Wire, driver_of, share, first_on, pair_wire, and_shares, and_cost, new_wires}
+use Rattle.construction.specs.Wires.{new_shares, cost}
 use Rattle.construction.specs.Wires.{masked}
 use Rattle.construction.proofs.Lawful.{Lawful}
 use Rattle.layout.specs.Layout.{pieces_from, pair_gates, sum_gates, high_gates, row_gates, rows_gates, and_gates}

@@ -17,7 +17,8 @@ pub written_where :
     → o ≡ o' → ops' ≡ put_at at (pair_bytes (gates m (share_wires m o.left) (share_wires m o.right))) ops
     → ops' ≡ put_at at (operand_bytes (new_wires G kind value n g w (share_wires n o'.left) (share_wires n o'.right))) ops
 written_where G kind value n g w at ops {m} {o} {o'} gates are shares same e =
-    let bytes : ℕ → DOperands.Operands → List ℕ = λ k p. put_at at (pair_bytes (gates k (share_wires k p.left) (share_wires k p.right))) ops in
+    let bytes : ℕ → DOperands.Operands → List ℕ =
+    λ k p. put_at at (pair_bytes (gates k (share_wires k p.left) (share_wires k p.right))) ops in
     e
     ∙ ap₂ bytes shares same
     ∙ ap {A = List Gate} {B = List ℕ} (λ gs. put_at at (pair_bytes gs) ops) (sym (are (share_wires n o'.left) (share_wires n o'.right)))

@@ -30,7 +30,8 @@ pair_first (suc zero) h = absurd (omega arith)
 pair_first (suc (suc n)) h = record { rising = omega arith; inside = omega arith; place = refl }
 
 pub pair_next :
-    {n c : ℕ} {p : DSharePair.SharePair} → PairNo n c p → p.upper + 1 < n → PairNo n (suc c) (record { lower = p.lower; upper = p.upper + 1 })
+    {n c : ℕ} {p : DSharePair.SharePair} → PairNo n c p → p.upper + 1 < n
+    → PairNo n (suc c) (record { lower = p.lower; upper = p.upper + 1 })
 pair_next {n} {c} {p} P h = record {
   rising = omega (arith, P.rising);
   inside = h;

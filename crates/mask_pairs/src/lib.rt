@@ -50,9 +50,8 @@ pub fn write_pairs(
 ) -> usize
     requires { (w + 5 * tri reads.shares ≤ 65536) × (at + 20 * tri reads.shares ≤ length ops.old) }
     ensures { (result ≡ w + 5 * tri reads.shares)
-        × (ops.new
-        ≡ put_at at (pair_bytes (in_turn 5 w (pairs reads.shares)
-        (pair_gates (gadget_of and) (share_wires reads.shares reads.operands.left) (share_wires reads.shares reads.operands.right)))) ops.old) }
+        × (ops.new ≡ put_at at (pair_bytes (in_turn 5 w (pairs reads.shares) (pair_gates (gadget_of and)
+        (share_wires reads.shares reads.operands.left) (share_wires reads.shares reads.operands.right)))) ops.old) }
 {
     let m = gate_costs::pair_count(reads.shares);
     let mut p = construction::SharePair { lower: 0, upper: 1 };

@@ -6,4 +6,6 @@ use Rattle.layout.proofs.Bytes.{PutPieces}
 use Rattle.mask_kinds.proofs.write_rows_kinds.Given as goal
 
 abbrev pub invariant-loop-i : goal.invariant-loop-i
-invariant-loop-i l = PutPieces l.n l.at l.n (λ _. row_kinds l.n) l.initial.kinds (l.at + l.n * l.i) l.i l.kinds × XorsFrom (l.at + l.n * l.i) l.kinds
+invariant-loop-i l =
+    PutPieces l.n l.at l.n (λ _. row_kinds l.n) l.initial.kinds (l.at + l.n * l.i) l.i l.kinds
+    × XorsFrom (l.at + l.n * l.i) l.kinds

@@ -24,7 +24,9 @@ invariant_of-inverted c =
 pub returns : goal.returns
 returns c =
     let n = c.args.reads.shares in
-    or_bytes (gadget_of c.args.and) n c.args.w c.args.at (share_wires n c.args.reads.operands.left) (share_wires n c.args.reads.operands.right) c.args.ops.now
+    let A = share_wires n c.args.reads.operands.left in
+    let B = share_wires n c.args.reads.operands.right in
+    or_bytes (gadget_of c.args.and) n c.args.w c.args.at A B c.args.ops.now
     {u = c.args.w + 1}
     c.requires.0
     c.requires.2

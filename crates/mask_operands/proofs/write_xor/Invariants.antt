@@ -8,4 +8,7 @@ use Rattle.mask_operands.proofs.write_xor.Given as goal
 
 abbrev pub invariant-loop-s : goal.invariant-loop-s
 invariant-loop-s l =
-    PutPieces 4 l.at l.reads.shares (λ s. pair_bytes (xor_gates (share_wires l.reads.shares l.reads.operands.left) (share_wires l.reads.shares l.reads.operands.right) s)) l.initial.ops (l.at + 4 * l.s) l.s l.ops
+    let n = l.reads.shares in
+    let A = share_wires n l.reads.operands.left in
+    let B = share_wires n l.reads.operands.right in
+    PutPieces 4 l.at n (λ s. pair_bytes (xor_gates A B s)) l.initial.ops (l.at + 4 * l.s) l.s l.ops

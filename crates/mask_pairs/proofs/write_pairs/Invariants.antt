@@ -12,6 +12,9 @@ use Rattle.mask_pairs.proofs.write_pairs.Given as goal
 
 abbrev pub invariant-loop-c : goal.invariant-loop-c
 invariant-loop-c l =
-    PutPieces 20 l.at (tri l.reads.shares) (λ m. pair_bytes (pair_gates (gadget_of l.and) (share_wires l.reads.shares l.reads.operands.left) (share_wires l.reads.shares l.reads.operands.right) (l.w + 5 * m) (pair_number l.reads.shares m))) l.initial.ops
+    let n = l.reads.shares in
+    let A = share_wires n l.reads.operands.left in
+    let B = share_wires n l.reads.operands.right in
+    PutPieces 20 l.at (tri n) (λ m. pair_bytes (pair_gates (gadget_of l.and) A B (l.w + 5 * m) (pair_number n m))) l.initial.ops
     (l.at + 20 * l.c) l.c l.ops
-    × (l.c < tri l.reads.shares → PairNo l.reads.shares l.c l.p)
+    × (l.c < tri n → PairNo n l.c l.p)

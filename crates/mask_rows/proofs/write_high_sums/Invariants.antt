@@ -10,5 +10,6 @@ use Rattle.mask_rows.proofs.write_high_sums.Given as goal
 
 abbrev pub invariant-loop-j : goal.invariant-loop-j
 invariant-loop-j l =
-    PutPieces 4 l.at l.i (λ m. pair_bytes (sum_gates l.last (λ j. l.w + 5 * pair_at l.n j l.i + l.form.high) m)) l.initial.ops (l.at + 4 * l.j) l.j l.ops
+    PutPieces 4 l.at l.i (λ m. pair_bytes (sum_gates l.last (λ j. l.w + 5 * pair_at l.n j l.i + l.form.high) m)) l.initial.ops
+    (l.at + 4 * l.j) l.j l.ops
     × Upright l.n l.w l.i l.j l.z

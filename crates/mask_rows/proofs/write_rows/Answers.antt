@@ -21,13 +21,19 @@ row-bytes G n w v A B i h = omega (arith, pairs_long (row_gates G n w (v + n * i
 pub loop-i-init : goal.loop-i-init
 loop-i-init c =
     let a = c.args in
-    put_pieces_start _ a.at _ _ _ _ (row-bytes (gadget_of a.and) a.reads.shares a.w a.v (share_wires a.reads.shares a.reads.operands.left) (share_wires a.reads.shares a.reads.operands.right))
+    let n = a.reads.shares in
+    let A = share_wires n a.reads.operands.left in
+    let B = share_wires n a.reads.operands.right in
+    put_pieces_start _ a.at _ _ _ _ (row-bytes (gadget_of a.and) n a.w a.v A B)
     (omega arith) (omega (arith, c.requires.2))
 
 pub loop-i-preserved : goal.loop-i-preserved
 loop-i-preserved c =
     let a = c.args in
-    let long = row-bytes (gadget_of a.and) a.reads.shares a.w a.v (share_wires a.reads.shares a.reads.operands.left) (share_wires a.reads.shares a.reads.operands.right) _ c.loop-i-test.true in
+    let n = a.reads.shares in
+    let A = share_wires n a.reads.operands.left in
+    let B = share_wires n a.reads.operands.right in
+    let long = row-bytes (gadget_of a.and) n a.w a.v A B _ c.loop-i-test.true in
     put_pieces_turn c.loop-i.invariant _ _ c.loop-i-test.true long refl c.write_row.ensures (omega arith)
 
 pub returns : goal.returns

@@ -9,5 +9,8 @@ use Rattle.mask_rows.proofs.write_rows.Given as goal
 
 abbrev pub invariant-loop-i : goal.invariant-loop-i
 invariant-loop-i l =
-    PutPieces (4 * l.reads.shares) l.at l.reads.shares (λ i. pair_bytes (row_gates (gadget_of l.and) l.reads.shares l.w (l.v + l.reads.shares * i) (share_wires l.reads.shares l.reads.operands.left) (share_wires l.reads.shares l.reads.operands.right) i)) l.initial.ops
-    (l.at + 4 * (l.reads.shares * l.i)) l.i l.ops
+    let n = l.reads.shares in
+    let A = share_wires n l.reads.operands.left in
+    let B = share_wires n l.reads.operands.right in
+    PutPieces (4 * n) l.at n (λ i. pair_bytes (row_gates (gadget_of l.and) n l.w (l.v + n * i) A B i)) l.initial.ops
+    (l.at + 4 * (n * l.i)) l.i l.ops
