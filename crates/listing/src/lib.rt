@@ -39,6 +39,7 @@ fn put_lines(out: &mut [u8], lines: &TableLines) -> usize
 }
 
 // Writes the line of a refusal at the front of the lent bytes, and answers its length; 0 where it does not fit.
+// A buffer with its length beside: nothing is allocated.
 fn list_refusal(found: tables::Refusal, out: &mut [u8]) -> usize
     ensures { PutsAll (refusal_line (fault_of found).number (fault_of found).place) out.old out.new result }
 {
