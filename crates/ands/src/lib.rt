@@ -51,16 +51,14 @@ pub fn pair_flip(and: construction::And, k: usize, i: usize, j: usize, p: u8, q:
     requires { (p ≤ 1) × (q ≤ 1) }
     ensures { (result ≡ (gadget_of and).flip k i j p q) × (result ≤ 1) }
 {
-    match and {
-        construction::And::Isw => if i == k { p ^ q } else { 0 },
-        construction::And::Dom => if i == k {
-            q
-        } else if j == k {
-            p
-        } else {
-            0
-        },
+    let form = pair_form(and);
+    if i == k {
+        return (form.both & p) ^ q;
     }
+    if form.both == 0 && j == k {
+        return p;
+    }
+    0
 }
 
 // The share j whose pairs (i, j) may be flipped though i is not the free share k: k, or none.
@@ -68,8 +66,9 @@ pub fn upper_flipped(and: construction::And, k: usize) -> Option<usize>
     ensures { (result ≡ upper_flipped and k)
         × ((i j p q : ℕ) → q ≤ 1 → (i ≡ k → ⊥) → (result ≡ Some j → ⊥) → 0 ≡ (gadget_of and).flip k i j p q) }
 {
-    match and {
-        construction::And::Isw => None,
-        construction::And::Dom => Some(k),
+    let form = pair_form(and);
+    if form.both == 0 {
+        return Some(k);
     }
+    None
 }
