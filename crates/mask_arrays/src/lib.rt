@@ -8,7 +8,8 @@ ghost use Rattle.construction.specs.Gadgets.{gadget_of};
 ghost use Rattle.construction.specs.Wires.{masked_table};
 ghost use Rattle.planning.specs.Plans.{plan_bytes};
 
-// Masks a table of at most N wires.
+// Masks a table of at most N wires. It is not inlined, so that a call reserves the stack of the array that it needs, and no other's.
+#[inline(never)]
 fn mask_sized<const N: usize>(and: construction::And, planned: &planning::Planned, out: &mut [u8])
     requires { (planned.now.plan.inputs + planned.now.plan.gates ≤ N) × (N ≤ 65536) × (plan_bytes planned.now.plan ≤ length out.old) }
     ensures { out.new
@@ -23,47 +24,21 @@ fn mask_sized<const N: usize>(and: construction::And, planned: &planning::Planne
     mask_bytes::mask_with(and, planned, &mut places, out);
 }
 
-// Masks a table of any size.
-fn mask_any(and: construction::And, planned: &planning::Planned, out: &mut [u8])
-    requires { plan_bytes planned.now.plan ≤ length out.old }
-    ensures { out.new
-        ≡ over (table_bytes (masked_table (gadget_of and) planned.now.plan.order (table_of planned.now.table.now))) out.old }
-{
-    let wires = share_places::plain_wires(planned);
-    if wires <= 2048 {
-        mask_sized::<2048>(and, planned, out);
-        return;
-    }
-    if wires <= 16384 {
-        mask_sized::<16384>(and, planned, out);
-        return;
-    }
-    mask_sized::<65536>(and, planned, out);
-}
-
-// Masks with little stack where the table is tiny: to reserve that of a large one takes time even where it is not used.
-fn mask_lean(and: construction::And, planned: &planning::Planned, out: &mut [u8])
-    requires { plan_bytes planned.now.plan ≤ length out.old }
-    ensures { out.new
-        ≡ over (table_bytes (masked_table (gadget_of and) planned.now.plan.order (table_of planned.now.table.now))) out.old }
-{
-    if share_places::plain_wires(planned) <= 256 {
-        mask_sized::<256>(and, planned, out);
-        return;
-    }
-    mask_any(and, planned, out);
-}
-
-// Writes the masked table of a plan into a buffer that has room for it. A function that is called in two places stays one of its
-// own, and its stack is reserved only where it is called.
+// Writes the masked table of a plan into a buffer that has room for it. To clear a large array, and to reserve its stack, takes time:
+// a table has the smallest of four that has room for its wires.
 pub fn mask_into(and: construction::And, planned: &planning::Planned, out: &mut [u8])
     requires { plan_bytes planned.now.plan ≤ length out.old }
     ensures { out.new
         ≡ over (table_bytes (masked_table (gadget_of and) planned.now.plan.order (table_of planned.now.table.now))) out.old }
 {
-    if share_places::plain_wires(planned) <= 2048 {
-        mask_lean(and, planned, out);
-        return;
+    let wires = share_places::plain_wires(planned);
+    if wires <= 256 {
+        mask_sized::<256>(and, planned, out);
+    } else if wires <= 2048 {
+        mask_sized::<2048>(and, planned, out);
+    } else if wires <= 16384 {
+        mask_sized::<16384>(and, planned, out);
+    } else {
+        mask_sized::<65536>(and, planned, out);
     }
-    mask_any(and, planned, out);
 }
