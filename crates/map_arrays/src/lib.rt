@@ -11,16 +11,16 @@ fn map_sized<const N: usize>(
     and: construction::And,
     planned: &planning::Planned,
     k: usize,
-    first: &[u8],
-    second: &[u8],
-    tape: &[u8],
+    given: &secrecy::Given,
     mapped: &mut [u8],
     one: &mut [u8],
     other: &mut [u8],
 )
-    requires { WorkReady planned.now.plan k first.now second.now tape.now mapped.old one.old other.old
+    requires { WorkReady planned.now.plan k given.now.first.now given.now.second.now given.now.tape.now
+        mapped.old one.old other.old
         × (planned.now.plan.inputs + planned.now.plan.gates ≤ N) × (N ≤ 65536) }
-    ensures { WorkSays (gadget_of and) planned.now.table.now planned.now.plan.order k first.now second.now tape.now
+    ensures { WorkSays (gadget_of and) planned.now.table.now planned.now.plan.order k
+        given.now.first.now given.now.second.now given.now.tape.now
         mapped.old mapped.new one.old one.new other.old other.new }
 {
     let none = share_places::KeptPlaces {
@@ -33,9 +33,7 @@ fn map_sized<const N: usize>(
         and,
         planned,
         k,
-        first,
-        second,
-        tape,
+        given,
         &mut places,
         mapped,
         one,
@@ -49,25 +47,25 @@ pub fn map_work(
     and: construction::And,
     planned: &planning::Planned,
     k: usize,
-    first: &[u8],
-    second: &[u8],
-    tape: &[u8],
+    given: &secrecy::Given,
     mapped: &mut [u8],
     one: &mut [u8],
     other: &mut [u8],
 )
-    requires { WorkReady planned.now.plan k first.now second.now tape.now mapped.old one.old other.old }
-    ensures { WorkSays (gadget_of and) planned.now.table.now planned.now.plan.order k first.now second.now tape.now
+    requires { WorkReady planned.now.plan k given.now.first.now given.now.second.now given.now.tape.now
+        mapped.old one.old other.old }
+    ensures { WorkSays (gadget_of and) planned.now.table.now planned.now.plan.order k
+        given.now.first.now given.now.second.now given.now.tape.now
         mapped.old mapped.new one.old one.new other.old other.new }
 {
     let wires = share_places::plain_wires(planned);
     if wires <= 256 {
-        map_sized::<256>(and, planned, k, first, second, tape, mapped, one, other);
+        map_sized::<256>(and, planned, k, given, mapped, one, other);
     } else if wires <= 2048 {
-        map_sized::<2048>(and, planned, k, first, second, tape, mapped, one, other);
+        map_sized::<2048>(and, planned, k, given, mapped, one, other);
     } else if wires <= 16384 {
-        map_sized::<16384>(and, planned, k, first, second, tape, mapped, one, other);
+        map_sized::<16384>(and, planned, k, given, mapped, one, other);
     } else {
-        map_sized::<65536>(and, planned, k, first, second, tape, mapped, one, other);
+        map_sized::<65536>(and, planned, k, given, mapped, one, other);
     }
 }

@@ -44,15 +44,13 @@ fn flip_shares(shares: usize, k: usize, first: &[u8], second: &[u8], run: &mut [
 pub fn begin_runs(
     order: usize,
     k: usize,
-    first: &[u8],
-    second: &[u8],
-    tape: &[u8],
+    given: &secrecy::Given,
     mapped: &mut [u8],
     one: &mut [u8],
     other: &mut [u8],
 )
-    requires { BeginReady order k first.now second.now tape.now mapped.old one.old other.old }
-    ensures { BegunSays order k first.now second.now tape.now
+    requires { BeginReady order k given.now.first.now given.now.second.now given.now.tape.now mapped.old one.old other.old }
+    ensures { BegunSays order k given.now.first.now given.now.second.now given.now.tape.now
         mapped.old
         mapped.new
         one.old
@@ -61,10 +59,10 @@ pub fn begin_runs(
         other.new }
 {
     let n = 2 * order + 1;
-    let shares = n * first.len();
-    encoding::encode_all(order, first, tape, one);
-    mapped[..tape.len()].copy_from_slice(tape);
-    flip_inputs(order, k, first, second, mapped);
+    let shares = n * given.first.len();
+    encoding::encode_all(order, given.first, given.tape, one);
+    mapped[..given.tape.len()].copy_from_slice(given.tape);
+    flip_inputs(order, k, given.first, given.second, mapped);
     other[..shares].copy_from_slice(&one[..shares]);
-    flip_shares(n, k, first, second, other);
+    flip_shares(n, k, given.first, given.second, other);
 }

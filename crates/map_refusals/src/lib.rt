@@ -7,16 +7,8 @@ ghost use Rattle.construction.specs.declared.And as DAnd;
 ghost use Rattle.construction.specs.Gadgets.{gadget_of};
 ghost use Rattle.secrecy.specs.Says.{supply_fault, probes_fault, room_fault, call_fault, map_fault};
 
+use secrecy::Given;
 use tables::Refusal;
-
-// What a mapping call is given besides a table and an order: both secrets, a tape and the probes.
-#[derive(Clone, Copy)]
-pub struct Given<'a> {
-    pub first: &'a [u8],
-    pub second: &'a [u8],
-    pub tape: &'a [u8],
-    pub probes: &'a [u32],
-}
 
 // How long the buffers are that a mapping call is lent: for the mapped tape, and for the values of each run.
 #[derive(Clone, Copy)]

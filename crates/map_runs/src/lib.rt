@@ -11,22 +11,22 @@ pub fn map_with(
     and: construction::And,
     planned: &planning::Planned,
     k: usize,
-    first: &[u8],
-    second: &[u8],
-    tape: &[u8],
+    given: &secrecy::Given,
     places: &mut [share_places::KeptPlaces],
     mapped: &mut [u8],
     one: &mut [u8],
     other: &mut [u8],
 )
-    requires { WorkReady planned.now.plan k first.now second.now tape.now mapped.old one.old other.old
+    requires { WorkReady planned.now.plan k given.now.first.now given.now.second.now given.now.tape.now
+        mapped.old one.old other.old
         × Room (planned.now.plan.inputs + planned.now.plan.gates) places.old }
-    ensures { WorkSays (gadget_of and) planned.now.table.now planned.now.plan.order k first.now second.now tape.now
+    ensures { WorkSays (gadget_of and) planned.now.table.now planned.now.plan.order k
+        given.now.first.now given.now.second.now given.now.tape.now
         mapped.old mapped.new one.old one.new other.old other.new }
 {
     let order = planned.plan.order;
     let split = 2 * order * planned.plan.inputs;
     share_places::locate(planned, places);
-    map_inputs::begin_runs(order, k, first, second, tape, mapped, one, other);
-    map_gates::map_gates(and, planned, k, places, tape, split, mapped, one, other);
+    map_inputs::begin_runs(order, k, given, mapped, one, other);
+    map_gates::map_gates(and, planned, k, places, given.tape, split, mapped, one, other);
 }

@@ -26,6 +26,6 @@ map_gates-requires c =
 pub returns : goal.returns
 returns c =
     work_done c.args.and c.args.planned.now.ready c.requires.0 c.begin_runs.ensures _ c.map_gates.ensures
-    (λ i. omega (arith, c.type_inv.tape i))
+    c.args.given.now.bytes
     (λ i. grind arith)
     (λ i. omega (arith, c.type_inv.mapped i))
