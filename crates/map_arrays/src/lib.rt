@@ -29,16 +29,7 @@ fn map_sized<const N: usize>(
         step: 0,
     };
     let mut places = [none; N];
-    map_runs::map_with(
-        and,
-        planned,
-        k,
-        given,
-        &mut places,
-        mapped,
-        one,
-        other,
-    );
+    map_runs::map_with(and, planned, k, given, &mut places, mapped, one, other);
 }
 
 // The mapped tape and both runs, where nothing is refused; k is the free share. A table has the smallest of four arrays that has room

@@ -28,5 +28,7 @@ pub fn map_with(
     let split = 2 * order * planned.plan.inputs;
     share_places::locate(planned, places);
     map_inputs::begin_runs(order, k, given, mapped, one, other);
-    map_gates::map_gates(and, planned, k, places, given.tape, split, mapped, one, other);
+    map_gates::map_gates(
+        and, planned, k, places, given.tape, split, mapped, one, other,
+    );
 }

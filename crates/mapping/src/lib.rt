@@ -7,7 +7,8 @@ ghost use Rattle.construction.specs.Wires.{probe_marks};
 ghost use Rattle.secrecy.specs.Says.{MapSays};
 
 use construction::And;
-use map_refusals::{Given, Lent};
+use map_refusals::Lent;
+use secrecy::Given;
 use tables::Refusal;
 
 // Maps a tape from the first secret to the second so that every probe keeps its value: the mapped tape, both runs' values, and
@@ -42,16 +43,6 @@ pub fn map_tape(
     };
     let planned = map_refusals::map_fault(table, order, given, lent)?;
     let k = probes::free_share(and, &planned, given.probes);
-    map_arrays::map_work(
-        and,
-        &planned,
-        k,
-        given.first,
-        given.second,
-        given.tape,
-        mapped,
-        one,
-        other,
-    );
+    map_arrays::map_work(and, &planned, k, given, mapped, one, other);
     Ok(k as u32)
 }

@@ -10,7 +10,7 @@ ghost use Rattle.secrecy.specs.Says.{MapSays};
 ghost use Rattle.masks_c.specs.Version.{version};
 
 use construction::And;
-use map_refusals::Given;
+use secrecy::Given;
 
 // The version of include/masks.h, 0.6.0, as one number.
 const VERSION: u32 = 6000;
