@@ -1,4 +1,5 @@
-// What a gate costs once it is masked, in wires and in random bits.
+// What a gate costs once it is masked, in wires and in random bits. The bound n ≤ 31 stays in the contracts, here and above: n is a plain
+// number in every definition, and a struct for it would be taken apart in each clause.
 #![tactic(auto)]
 
 ghost use Rattle.std.specs.Prelude.{◌≡◌, ◌≤◌, ℕ, get_or};

@@ -1,4 +1,5 @@
-// What gates of a masked table drive in one run, each value after those so far.
+// What gates of a masked table drive in one run, each value after those so far. `RunsTo` and `SharesBefore`, here and in the crates above,
+// stay in the contracts: they relate a run, a wire and operands, and the wire is another at each call, so that no value's type keeps them.
 #![tactic(auto)]
 
 ghost use Rattle.std.specs.Prelude.{◌≡◌, [], ◌∷◌, ◌≤◌, ◌<◌};

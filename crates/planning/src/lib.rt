@@ -70,7 +70,7 @@ fn random_fault(gates: &fields::Gates, randoms: usize) -> Result<(), Refusal>
         return Ok(());
     }
     for g in 0..gates.count {
-        if gates.at(g).kind == 3 {
+        if gates.at(g).kind == Kind::Random as u8 {
             return Err(Refusal::Random { gate: g as u32 });
         }
     }
