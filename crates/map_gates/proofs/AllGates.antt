@@ -57,7 +57,10 @@ Going G t n k ts at₀ m₀ x₀ y₀ g w at m x y =
     let w₀ = n * t.inputs in
     let rs = first_bits t n ts at₀ in
     let ss = second_bits G t n k ts at₀ x₀ y₀ in
-    Stepping G t n k ts (flips_at at₀ (flipped rs ss) m₀) (ran_on (all_gates G t n) rs w₀ x₀) (ran_on (all_gates G t n) ss w₀ y₀) g w at m x y
+    Stepping G t n k ts (flips_at at₀ (flipped rs ss) m₀)
+    (ran_on (all_gates G t n) rs w₀ x₀)
+    (ran_on (all_gates G t n) ss w₀ y₀)
+    g w at m x y
 
 pub steps_start :
     {G : Gadget} → Lawful G → {s : List ℕ} {p : DPlan.Plan} (k : ℕ) {w at : ℕ} {ts m x y : List ℕ} → PlanReady s p → w ≡ p.shares * p.inputs
@@ -144,7 +147,8 @@ module _ {G : Gadget} (L : Lawful G) {s : List ℕ} {p : DPlan.Plan} {k : ℕ} {
               subst (λ (ws : List ℕ). share ws i < w) (left_are (turn_early facts c))
               (before this.left (omega (arith, turn_early facts c, is.left)) i l);
           right = λ i l.
-              subst (λ (ws : List ℕ). share ws i < w) (right_are facts.right) (before this.right (omega (arith, facts.right, is.right)) i l);
+              subst (λ (ws : List ℕ). share ws i < w) (right_are facts.right)
+              (before this.right (omega (arith, facts.right, is.right)) i l);
         };
         wires = facts.fits;
         both = rw is.kind (gates_ready L here);
@@ -169,7 +173,8 @@ module _ {G : Gadget} (L : Lawful G) {s : List ℕ} {p : DPlan.Plan} {k : ℕ} {
       ∙ rw (is.kind, is.left) in
       let flips : gate_flips G (kind_is r.kind) n k (share_wires n o.left) (share_wires n o.right) v u ≡ gate_flips G kind n k l e v u =
       gate_flips_read G (kind_is r.kind) n k _ l _ e v u read read' ∙ rw is.kind in
-      let of_shares : BothFlip (map driver_of (new_wires G kind this.left n g w l e)) (gate_flips G kind n k l e v u) ts at w m m' x x' y y' =
+      let of_shares
+      : BothFlip (map driver_of (new_wires G kind this.left n g w l e)) (gate_flips G kind n k l e v u) ts at w m m' x x' y y' =
       subst₂ (λ (gs : List Gate) (fs : List ℕ). BothFlip gs fs ts at w m m' x x' y y') gates flips ran_free in
       let next : S ++ (new_shares kind n w (get_or S this.left []) ∷ []) ≡ shares_to n t (suc g) =
       rw P.wire (sym (shares_to_next n t g inside)) in

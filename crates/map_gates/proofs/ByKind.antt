@@ -70,7 +70,8 @@ module _ (G : Gadget) (left n k g w : ℕ) (o : DOperands.Operands) (ts : List �
 
   product_of :
       (or : Bool) {m m' x x' y y' : List ℕ}
-      → BothFlip (product_gates G or n w a b) (gate_flips G (product_kind or) n k a b (λ p. get_or x p 0) (λ p. get_or y p 0)) ts at w m m' x x' y y'
+      → BothFlip (product_gates G or n w a b)
+      (gate_flips G (product_kind or) n k a b (λ p. get_or x p 0) (λ p. get_or y p 0)) ts at w m m' x x' y y'
       → GateRan G (product_kind or) left n k g w o ts at m m' x x' y y'
   product_of true {m} {m'} {x} {x'} {y} {y'} ran =
       subst

@@ -13,7 +13,8 @@ use Rattle.tables.specs.Packing.{packed, unpacked, tape_of}
 use Rattle.tables.specs.Says.{over}
 use Rattle.tables.specs.Inside.{Bits, ran_on, RunsTo}
 use Rattle.tables.proofs.Lists.{all_append, bits_back, drop_take}
-use Rattle.tables.proofs.Packing.{unpacked_length, unpacked_bits, tape_long_lem, tape_bits, packed_tape, packed_bytes, bytes_all, bytes_same, packed_over}
+use Rattle.tables.proofs.Packing.{unpacked_length, unpacked_bits, tape_long_lem, tape_bits, packed_tape, packed_bytes}
+use Rattle.tables.proofs.Packing.{bytes_all, bytes_same, packed_over}
 use Rattle.tables.proofs.Run.{run_length}
 use Rattle.tables.proofs.Ran.{ran_is}
 use Rattle.tables.proofs.Accept.{Plain}
@@ -308,7 +309,8 @@ module _
         flips_are : unpacked m₂ ≡ flips_at 0 flips U
         flips_are =
             ran.mapped
-            ∙ ap₂ (λ (i : ℕ) (l : List ℕ). flips_at i (flipped rs rest) l) {x = split} {y = 0 + length fs} (omega (arith, fs_long)) begun.mapped
+            ∙ ap₂ (λ (i : ℕ) (l : List ℕ). flips_at i (flipped rs rest) l)
+            {x = split} {y = 0 + length fs} (omega (arith, fs_long)) begun.mapped
             ∙ flips_at_append 0 fs (flipped rs rest) U (omega (arith, fs_long, U-long, split_fits, W.mapped))
 
         -- the bytes of the tape, of what is lent and of what is left are bytes

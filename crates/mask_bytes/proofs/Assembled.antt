@@ -121,7 +121,13 @@ module _ (a : DAnd.And) {s : List ℕ} {p : DPlan.Plan} (R : PlanReady s p) wher
         → total (λ k. cost k p.shares) (stretch (table_of s) 0 p.gates) ≡ length (mid_of 6 (6 + gates_of p - 6) b)
     kinds_asked W =
         let room = writing_fits W (kind_bytes m.gates) _ refl in
-        omega (arith, whole_cost, kinds_long m.gates, gates_count, mid_len 6 (6 + gates_of p) b (omega (arith, kinds_long m.gates, gates_count)))
+        omega (
+          arith,
+          whole_cost,
+          kinds_long m.gates,
+          gates_count,
+          mid_len 6 (6 + gates_of p) b (omega (arith, kinds_long m.gates, gates_count)),
+        )
 
     pub operands_asked :
         Writing whole (6 + gates_of p) (pair_bytes m.gates ++ word_bytes m.outputs) b

@@ -75,7 +75,12 @@ pub outputs_pieces :
 outputs_pieces t n m e = outputs_from (all_shares n t) m 0 t.outputs (omega arith)
 
 -- where the array says that output o's shares are
-module _ {s : List ℕ} {p : DPlan.Plan} {places : List DKeptPlaces.KeptPlaces} (R : PlanReady s p) (L : Located (table_of s) p.shares places) where
+module _
+    {s : List ℕ}
+    {p : DPlan.Plan}
+    {places : List DKeptPlaces.KeptPlaces}
+    (R : PlanReady s p)
+    (L : Located (table_of s) p.shares places) where
   pub read_low : {q : ℕ} {a : DPlaces.Places} → q < p.inputs + p.gates → a ≡ places_at places q → LowShares p.shares a
   read_low {q} h e = subst {A = DPlaces.Places} (LowShares p.shares) (sym e) (located_low R L q h)
 

@@ -35,7 +35,8 @@ pub returns-in-Constant : goal.returns-in-Constant
 returns-in-Constant c g =
     let s = c.args in
     rw c.in-Constant.is
-    (constant_gate (gadget_of s.and) s.gate.left s.n s.k g s.w (operands_at s.places.now s.gate.left s.gate.right) (unpacked s.tape.now) s.at
+    (constant_gate (gadget_of s.and) s.gate.left s.n s.k g s.w (operands_at s.places.now s.gate.left s.gate.right)
+    (unpacked s.tape.now) s.at
     c.run_constants.ensures c.run_constants-in-Constant.ensures)
 
 pub returns-in-And : goal.returns-in-And

@@ -31,7 +31,8 @@ map_gate-requires c =
 
 pub overflow_add-w : goal.overflow_add-w
 overflow_add-w c =
-    let ready = step_ready (lawful c.args.and) c.args.planned.now.ready c.loop-g.invariant c.loop-g-test.true c.plain_gate-gate.ensures c.requires.0 in
+    let R = c.args.planned.now.ready in
+    let ready = step_ready (lawful c.args.and) R c.loop-g.invariant c.loop-g-test.true c.plain_gate-gate.ensures c.requires.0 in
     omega (arith, ready.wires, c.of-w.ensures ∙ ap (λ (n : ℕ). cost (kind_is c.plain_gate-gate.result.kind) n) c.new-costs.ensures)
 
 pub gate_draws-next-requires : goal.gate_draws-next-requires
@@ -39,7 +40,8 @@ gate_draws-next-requires c = (plan_sized c.args.planned.now.ready).few
 
 pub overflow_add-next : goal.overflow_add-next
 overflow_add-next c =
-    let ready = step_ready (lawful c.args.and) c.args.planned.now.ready c.loop-g.invariant c.loop-g-test.true c.plain_gate-gate.ensures c.requires.0 in
+    let R = c.args.planned.now.ready in
+    let ready = step_ready (lawful c.args.and) R c.loop-g.invariant c.loop-g-test.true c.plain_gate-gate.ensures c.requires.0 in
     omega (arith, ready.both.few, c.gate_draws-next.ensures)
 
 pub loop-g-preserved : goal.loop-g-preserved

@@ -8,4 +8,5 @@ use Rattle.mask_parts.proofs.write_kinds.Given as goal
 
 abbrev pub invariant-loop-g : goal.invariant-loop-g
 invariant-loop-g l =
-    Kinds (table_of l.planned.table.now) l.n (gate_kinds l.n (stretch (table_of l.planned.table.now) l.from l.to)) l.initial.kinds l.to l.g l.at l.kinds
+    let t = table_of l.planned.table.now in
+    Kinds t l.n (gate_kinds l.n (stretch t l.from l.to)) l.initial.kinds l.to l.g l.at l.kinds

@@ -54,7 +54,8 @@ overflow_mul-at c =
 
 pub overflow_add-at : goal.overflow_add-at
 overflow_add-at c =
-    let room = operands_room c.args.planned.now.ready c.loop-g.invariant c.loop-g-test.true c.requires.2 c.plain_gate-gate.ensures c.requires.0 in
+    let R = c.args.planned.now.ready in
+    let room = operands_room R c.loop-g.invariant c.loop-g-test.true c.requires.2 c.plain_gate-gate.ensures c.requires.0 in
     omega (
       arith,
       room,
