@@ -1,5 +1,5 @@
-// The mapped tape and both runs, with an array of the size that a table needs, in which it is noted where shares are. The secrets, the
-// tape and the buffers are lent one by one, as in `map_pair`.
+// The mapped tape and both runs, with an array of the size that a table needs, in which it is noted where shares are. The buffers are
+// lent one by one, as in `map_pair`.
 #![tactic(auto)]
 
 ghost use Rattle.std.specs.Prelude.{◌+◌, ◌≤◌};

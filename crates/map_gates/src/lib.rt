@@ -38,7 +38,8 @@ fn map_and(
     ensures { BothFlip
         (and_gates (gadget_of and) n w (share_wires n operands.left) (share_wires n operands.right))
         (map
-        (wires_flip (gadget_of and) k (share_wires n operands.left) (share_wires n operands.right) (λ p. get_or one.old p 0) (λ p. get_or other.old p 0))
+        (wires_flip (gadget_of and) k (share_wires n operands.left) (share_wires n operands.right)
+        (λ p. get_or one.old p 0) (λ p. get_or other.old p 0))
         (pairs n))
         (unpacked tape.now) at w
         (unpacked mapped.old) (unpacked mapped.new) one.old

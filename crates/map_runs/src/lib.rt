@@ -1,5 +1,5 @@
-// The mapped tape and both runs, where mapping is not refused and the free share is known. The secrets, the tape and the buffers are
-// lent one by one, as in `map_pair`.
+// The mapped tape and both runs, where mapping is not refused and the free share is known. The buffers are lent one by one, as in
+// `map_pair`.
 #![tactic(auto)]
 
 ghost use Rattle.std.specs.Prelude.{◌+◌};
