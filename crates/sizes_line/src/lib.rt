@@ -83,7 +83,8 @@ fn put_later(out: &mut [u8], at: usize, six: Six) -> usize
     text::put_two(out, next, b" ", six.outputs, b" ", six.largest)
 }
 
-// Puts the line of the six figures, and answers its length.
+// Puts the line of the six figures, and answers its length. Not one function with the forecast's four, over a slice of numbers: its room
+// would be a sum over the slice, where here it is the line's own text, which `printed` defines.
 fn put_six(out: &mut [u8], six: Six) -> usize
     requires { length (six_text six) ≤ length out.old }
     ensures { Puts 0 (six_text six) out.old out.new result }
