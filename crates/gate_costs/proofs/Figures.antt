@@ -1,9 +1,10 @@
 -- Bounds of a gate's figures at 31 shares at most.
 -- Assumes nothing.
-use Prim.Native.Nat.{ℕ, ◌*◌, ◌≤◌}
+use mathlib.Core.Path.{◌≡◌, refl}
+use Prim.Native.Nat.{ℕ, zero, suc, ◌*◌, ◌≤◌, ◌<◌}
 use native.Mathlib.Nat.{mul-le-mul, mul-le-mul_right}
 use native.Mathlib.Omega.{arith}
-use Rattle.tables.specs.Tables.{Kind, NOT, XOR, AND, RANDOM, CONSTANT, OR, UNKNOWN}
+use Rattle.tables.specs.Tables.{Kind, kind_of, NOT, XOR, AND, RANDOM, CONSTANT, OR, UNKNOWN}
 use Rattle.construction.specs.Shares.{tri}
 use Rattle.construction.specs.Wires.{cost}
 use Rattle.construction.specs.Counts.{draws}
@@ -42,3 +43,13 @@ draws_small RANDOM n h = omega arith
 draws_small CONSTANT n h = omega arith
 draws_small OR n h = tri_small n h
 draws_small (UNKNOWN k) n h = omega arith
+
+-- a byte of no kind draws nothing
+pub unknown_draws : (b n : ℕ) → 5 < b → 0 ≡ draws (kind_of b) n
+unknown_draws zero n h = absurd (omega arith)
+unknown_draws (suc zero) n h = absurd (omega arith)
+unknown_draws (suc (suc zero)) n h = absurd (omega arith)
+unknown_draws (suc (suc (suc zero))) n h = absurd (omega arith)
+unknown_draws (suc (suc (suc (suc zero)))) n h = absurd (omega arith)
+unknown_draws (suc (suc (suc (suc (suc zero))))) n h = absurd (omega arith)
+unknown_draws (suc (suc (suc (suc (suc (suc b)))))) n h = refl

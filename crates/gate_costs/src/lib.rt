@@ -80,13 +80,25 @@ impl GateCosts {
     }
 }
 
-// How many random bits a plain gate draws once it is masked.
-pub fn gate_draws(kind: Kind, n: usize) -> usize
+// How many random bits a plain gate of a kind draws once it is masked.
+pub fn kind_draws(kind: Kind, n: usize) -> usize
     requires { n ≤ 31 }
     ensures { result ≡ draws (kind_is kind) n }
 {
     match kind {
         Kind::And | Kind::Or => pair_count(n),
         _ => 0,
+    }
+}
+
+// The same by a kind's byte: it promises an answer for every byte, a byte of no kind too.
+#[tactic(auto, using(crate::proofs::Figures::unknown_draws))]
+pub fn gate_draws(kind: u8, n: usize) -> usize
+    requires { n ≤ 31 }
+    ensures { result ≡ draws (kind_of kind) n }
+{
+    match Kind::try_from(kind) {
+        Ok(kind) => kind_draws(kind, n),
+        Err(_) => 0,
     }
 }

@@ -201,6 +201,6 @@ pub fn map_gates(
         let gate = share_places::plain_gate(planned, g);
         map_gate(and, gate, k, n, w, places, tape, next, mapped, one, other);
         w += costs.of(gate.kind);
-        next += gate_costs::gate_draws(gate.kind, n);
+        next += gate_costs::kind_draws(gate.kind, n);
     }
 }

@@ -97,8 +97,8 @@ fn gate_totals(counts: tables::Counts, n: usize) -> Totals
             + times(counts.ands, gate_costs::gate_cost(Kind::And, n))
             + times(counts.constants, gate_costs::gate_cost(Kind::Constant, n))
             + times(counts.ors, gate_costs::gate_cost(Kind::Or, n)),
-        draws: times(counts.ands, gate_costs::gate_draws(Kind::And, n))
-            + times(counts.ors, gate_costs::gate_draws(Kind::Or, n)),
+        draws: times(counts.ands, gate_costs::gate_draws(Kind::And as u8, n))
+            + times(counts.ors, gate_costs::gate_draws(Kind::Or as u8, n)),
     }
 }
 

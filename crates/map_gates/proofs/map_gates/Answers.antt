@@ -35,14 +35,14 @@ overflow_add-w c =
     let ready = step_ready (lawful c.args.and) R c.loop-g.invariant c.loop-g-test.true c.plain_gate-gate.ensures c.requires.0 in
     omega (arith, ready.wires, c.of-w.ensures ∙ ap (λ (n : ℕ). cost (kind_is c.plain_gate-gate.result.kind) n) c.new-costs.ensures)
 
-pub gate_draws-next-requires : goal.gate_draws-next-requires
-gate_draws-next-requires c = (plan_sized c.args.planned.now.ready).few
+pub kind_draws-next-requires : goal.kind_draws-next-requires
+kind_draws-next-requires c = (plan_sized c.args.planned.now.ready).few
 
 pub overflow_add-next : goal.overflow_add-next
 overflow_add-next c =
     let R = c.args.planned.now.ready in
     let ready = step_ready (lawful c.args.and) R c.loop-g.invariant c.loop-g-test.true c.plain_gate-gate.ensures c.requires.0 in
-    omega (arith, ready.both.few, c.gate_draws-next.ensures)
+    omega (arith, ready.both.few, c.kind_draws-next.ensures)
 
 pub loop-g-preserved : goal.loop-g-preserved
 loop-g-preserved c =
@@ -50,7 +50,7 @@ loop-g-preserved c =
     (c.map_gate.ensures c.loop-g.g)
     (omega arith)
     (c.of-w.ensures ∙ ap (λ (n : ℕ). cost (kind_is c.plain_gate-gate.result.kind) n) c.new-costs.ensures)
-    c.gate_draws-next.ensures
+    c.kind_draws-next.ensures
 
 pub shape_of-mapped : goal.shape_of-mapped
 shape_of-mapped c =
