@@ -1,4 +1,5 @@
-// Encoding secrets into shares.
+// Encoding secrets into shares. `order ≤ 15` stays in the contracts, here and in map_inputs: an order is a plain number in every
+// definition, and a struct for it would be taken apart in each clause.
 #![tactic(auto)]
 
 ghost use Rattle.std.specs.Prelude.{◌≡◌, [], ◌∷◌, ◌+◌, ◌*◌, ◌^◌, ◌≤◌, ◌<◌, length, drop};

@@ -13,7 +13,7 @@ use std::io;
 #[tactic(auto, using(text::proofs::Writing::refusal_long))]
 fn report(rt: &HostRuntime, refusal: tables::Refusal) -> io::Result<()> {
     let mut line = [0u8; 64];
-    let long = text::put_refusal(&mut line, refusal.number() as u32, refusal.place());
+    let long = text::put_refusal(&mut line, refusal);
     rt.stderr().write_all(&line[..long])
 }
 
