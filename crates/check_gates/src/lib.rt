@@ -83,11 +83,12 @@ fn gates_good(gates: &fields::Gates, inputs: usize) -> bool
     requires { inputs + gates.now.count ≤ 65535 }
     ensures { result ≡ true → gates_fault 0 inputs (table_of gates.now.table.now).gates ≡ none }
 {
+    let gap = 65536 - inputs as u32;
     let mut flaws: u32 = 0;
     let mut largest: u8 = 0;
     for g in 0..gates.count {
         let x = gates.at(g);
-        flaws |= gate_flaws(x, 65536 - (inputs + g) as u32);
+        flaws |= gate_flaws(x, gap - g as u32);
         largest = largest.max(x.kind);
     }
     (flaws == 0) & (largest <= Kind::Or as u8)

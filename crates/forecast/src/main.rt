@@ -1,5 +1,6 @@
 // Reads an order byte and then a table from standard input, and prints the line of its forecast. A read or a write that fails ends it
 // with the error, status 1.
+// Buffers have their lengths beside, since nothing is allocated.
 #![tactic(auto)]
 
 use std::io;

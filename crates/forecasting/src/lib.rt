@@ -67,6 +67,7 @@ fn input_forecast(input: &[u8]) -> Result<Figures, Refusal>
 }
 
 // Writes the forecast program's line for an input, and answers its length; where it does not fit, writes nothing and answers 0.
+// A buffer with its length beside: nothing is allocated.
 #[tactic(auto, using(crate::proofs::Line::line_fits))]
 pub fn forecast_line(input: &[u8], out: &mut [u8]) -> usize
     ensures { LineSays input.now out.old out.new result }

@@ -5,6 +5,7 @@
 // sizes or else 1 by the length (`cut_masked` of the crate masking). On the stack are about 1.3 MB: 458,749 bytes of input, 458,746 of
 // output, 393,216 of masking's own arrays. A masked table has at most 65,535 wires and 65,535 outputs, which the longest table's bytes
 // hold.
+// Buffers have their lengths beside, since nothing is allocated.
 #![tactic(auto)]
 
 use std::io;

@@ -3,6 +3,7 @@
 // first 458,747 bytes have the same text, 2 by the sizes or else 1 by the length (`cut_listed` of the crate listing). ROOM bytes hold
 // every text (`text_short`). A read or a write that fails ends it with the error, status 1. On the stack are about 3.4 MB: 458,747 bytes
 // of input and 2,949,120 of text.
+// Buffers have their lengths beside, since nothing is allocated.
 #![tactic(auto)]
 
 use std::io;

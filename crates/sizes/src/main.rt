@@ -3,6 +3,7 @@
 // `refused`, number, place by 1 to 7. One byte more than an order byte and the longest table have is read: a longer input and its first
 // 458,748 bytes have the same line, 2 by the sizes or else 1 by the length (`cut_printed` of the crate sizes_line). A read or a write
 // that fails ends it with the error, status 1.
+// Buffers have their lengths beside, since nothing is allocated.
 #![tactic(auto)]
 
 use std::io;

@@ -107,6 +107,7 @@ fn put_told(out: &mut [u8], told: Result<Six, Refusal>) -> usize
 }
 
 // Writes the sizes program's line for an input, and answers its length; where it does not fit, writes nothing and answers 0.
+// A buffer with its length beside: nothing is allocated.
 #[tactic(auto, using(crate::proofs::Line::line_fits))]
 pub fn sizes_line(input: &[u8], out: &mut [u8]) -> usize
     ensures { SizesSay input.now out.old out.new result }

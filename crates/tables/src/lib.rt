@@ -127,7 +127,7 @@ impl From<Result<u32, Refusal>> for Answer {
     }
 }
 
-// A gate as a table states it: its kind's byte and its operands.
+// A gate as a table states it: its kind's byte, since a table that is not yet checked may state a byte of no kind, and its operands.
 #[derive(Clone, Copy)]
 pub struct GateFields {
     pub kind: u8,
@@ -147,7 +147,8 @@ impl GateFields {
             2 => Kind::And,
             3 => Kind::Random,
             4 => Kind::Constant,
-            _ => Kind::Or,
+            5 => Kind::Or,
+            _ => unreachable!(),
         }
     }
 }
