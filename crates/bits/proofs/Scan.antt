@@ -31,7 +31,7 @@ bad_none [] h i = refl
 bad_none (b ∷ bs) h i =
     rw (le-leb b 1 (h 0 (omega arith))) (bad_none bs (λ k q. h (suc k) (omega arith)) (suc i))
 
-bad_found :
+pub bad_found :
     (bs : List ℕ) (r : ℕ) → r < length bs → AtMost bs 1 r → 1 < get_or bs r 0 → (i : ℕ)
     → bad_bit i bs ≡ fault 11 (i + r)
 unfolding bad_bit

@@ -19,7 +19,7 @@ use Rattle.tables.specs.Refusing.{fault_of}
 use Rattle.tables.specs.Tables.{kind_of, gate, no_gate, gate_of, table_of, operands_of, operands_ok, gate_fault, gates_fault}
 use Rattle.tables.specs.Inside.{GateIs, HasGates}
 use Rattle.tables.proofs.Accept.{gates_are}
-use Rattle.tables.proofs.Answers.{first_of}
+use Rattle.tables.proofs.Answers.{refused_first}
 use Rattle.tables.proofs.Bad.{or_covers}
 
 -- an `or` is 0 only where each part is
@@ -84,7 +84,7 @@ module _
   pub gates_good_found :
       (e : DRefusal.Refusal) → gate_fault g (w + g) (gate (kind_of x.kind) x.left x.right) ≡ fault_of e
       → gates_fault 0 w (table_of s).gates ≡ fault_of e
-  gates_good_found e h = gates_good_here ∙ first_of _ e h
+  gates_good_found e h = gates_good_here ∙ refused_first _ e h
 
 pub gates_good_end :
     {s : List ℕ} {n w g : ℕ} → HasGates s n → GatesGood s w g → n ≤ g → gates_fault 0 w (table_of s).gates ≡ none

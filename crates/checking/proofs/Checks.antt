@@ -13,10 +13,10 @@ use borrow.Author.Tests.{lt-ltb, le-ltb, eq-eqb, ne_eqb}
 use Rattle.std.specs.Prelude.{Ok, Err}
 use Rattle.tables.specs.declared.Refusal as DRefusal
 use Rattle.tables.specs.Refusals.{fault, none, or_else}
-use Rattle.tables.specs.Refusing.{fault_of}
+use Rattle.tables.specs.Refusing.{fault_of, answer_of}
 use Rattle.tables.specs.Tables.{word, table_of, table_long, gates_fault, outputs_fault, sizes_bad, table_fault}
 use Rattle.tables.specs.Says.{CheckSays}
-use Rattle.tables.specs.Inside.{HasOutputs, answer_of}
+use Rattle.tables.specs.Inside.{HasOutputs}
 use Rattle.tables.proofs.Accept.{outputs_are, accepted_long, wires_of}
 use Rattle.tables.proofs.Answers.{none_passed, answered_refused, answered_done}
 

@@ -4,7 +4,8 @@
 ghost use Rattle.std.specs.Prelude.{◌≤◌};
 ghost use Rattle.tables.specs.Tables.{table_of, outputs_fault, table_fault};
 ghost use Rattle.tables.specs.Says.{CheckSays};
-ghost use Rattle.tables.specs.Inside.{Refused, answer_of};
+ghost use Rattle.tables.specs.Refusing.{answer_of};
+ghost use Rattle.tables.specs.Inside.{Refused};
 
 use fields::{Gates, Outputs};
 use tables::Refusal;

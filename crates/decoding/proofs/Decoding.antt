@@ -13,7 +13,8 @@ use Rattle.std.specs.Prelude.{Ok}
 use Rattle.std.specs.List.{fold}
 use Rattle.tables.specs.Refusals.{none}
 use Rattle.tables.specs.Runs.{xor}
-use Rattle.tables.specs.Inside.{Bits, answer_of}
+use Rattle.tables.specs.Refusing.{answer_of}
+use Rattle.tables.specs.Inside.{Bits}
 use Rattle.tables.specs.Says.{over}
 use Rattle.tables.proofs.Put.{put_zero, put_set, put_append, over_length}
 use Rattle.tables.proofs.Answers.{none_passed, writes_done}

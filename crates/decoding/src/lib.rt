@@ -2,7 +2,8 @@
 #![tactic(auto)]
 
 ghost use Rattle.std.specs.Prelude.{◌≡◌, ◌+◌, ◌*◌, ◌≤◌, length, take, drop};
-ghost use Rattle.tables.specs.Inside.{Refused, Bits, answer_of};
+ghost use Rattle.tables.specs.Refusing.{answer_of};
+ghost use Rattle.tables.specs.Inside.{Refused, Bits};
 ghost use Rattle.tables.specs.Says.{over};
 ghost use Rattle.construction.specs.Codes.{xor_all, decode_from};
 ghost use Rattle.construction.specs.Says.{decode_fault, DecodeSays};
@@ -44,9 +45,10 @@ fn decode_all(shares: &[u8], n: usize, count: usize, out: &mut [u8])
     requires { (n * count ≤ length shares.now) × (count ≤ length out.old) × Bits shares.now }
     ensures { out.new ≡ over (decode_from count n shares.now) out.old }
 {
+    let mut at = 0;
     for i in 0..count {
-        let at = n * i;
         out[i] = decode_one(&shares[at..at + n]);
+        at += n;
     }
 }
 

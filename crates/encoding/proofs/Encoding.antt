@@ -15,7 +15,8 @@ use Rattle.tables.specs.Refusals.{none}
 use Rattle.tables.specs.Packing.{unpacked, tape_of}
 use Rattle.tables.specs.Runs.{xor}
 use Rattle.tables.specs.Says.{over}
-use Rattle.tables.specs.Inside.{put_at, Bits, answer_of}
+use Rattle.tables.specs.Refusing.{answer_of}
+use Rattle.tables.specs.Inside.{put_at, Bits}
 use Rattle.tables.proofs.Lists.{part, part_long, part_take}
 use Rattle.tables.proofs.Put.{put_zero, put_set, put_append, part_put, over_length}
 use Rattle.construction.specs.Shares.{shares_of}

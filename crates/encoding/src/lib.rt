@@ -5,7 +5,8 @@
 ghost use Rattle.std.specs.Prelude.{◌≡◌, [], ◌∷◌, ◌+◌, ◌*◌, ◌^◌, ◌≤◌, ◌<◌, length, drop};
 ghost use Rattle.tables.specs.Packing.{unpacked, tape_of};
 ghost use Rattle.tables.specs.Says.{over};
-ghost use Rattle.tables.specs.Inside.{Refused, Bits, answer_of};
+ghost use Rattle.tables.specs.Refusing.{answer_of};
+ghost use Rattle.tables.specs.Inside.{Refused, Bits};
 ghost use Rattle.construction.specs.Codes.{encode};
 ghost use Rattle.construction.specs.Shares.{shares_of};
 ghost use Rattle.construction.specs.Says.{encode_fault, EncodeSays};

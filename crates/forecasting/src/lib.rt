@@ -48,7 +48,7 @@ fn put_line(out: &mut [u8], forecast: Result<Figures, Refusal>) -> usize
 {
     match forecast {
         Ok(figures) => put_figures(out, figures),
-        Err(refusal) => text::put_refusal(out, refusal),
+        Err(refusal) => text::put_refusal(out, u32::from(refusal.number()), refusal.place()),
     }
 }
 

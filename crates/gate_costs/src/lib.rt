@@ -2,7 +2,7 @@
 // number in every definition, and a struct for it would be taken apart in each clause.
 #![tactic(auto)]
 
-ghost use Rattle.std.specs.Prelude.{◌≡◌, ◌≤◌, ℕ, get_or};
+ghost use Rattle.std.specs.Prelude.{◌≡◌, ◌≤◌, ℕ, length, get_or};
 ghost use Rattle.tables.specs.Tables.{kind_of};
 ghost use Rattle.tables.specs.Kinds.{kind_is};
 ghost use Rattle.construction.specs.Shares.{tri};
@@ -44,6 +44,14 @@ pub fn gate_cost(kind: Kind, n: usize) -> usize
     }
 }
 
+// What was noted of a kind, whatever was.
+pub fn noted_cost(costs: &[u16], kind: u8) -> usize
+    requires { (kind ≤ 5) × (length costs.now ≡ 6) }
+    ensures { result ≡ get_or costs.now kind 0 }
+{
+    usize::from(costs[kind as usize])
+}
+
 // What a gate of each kind costs at so many shares, by the kind's byte, so that a loop over gates has no branch where it adds costs up.
 #[derive(Clone, Copy)]
 pub struct GateCosts {
@@ -76,7 +84,7 @@ impl GateCosts {
     pub fn of(&self, kind: Kind) -> usize
         ensures { result ≡ cost (kind_is kind) self.now.shares }
     {
-        self.costs[kind as usize] as usize
+        noted_cost(&self.costs, kind as u8)
     }
 }
 

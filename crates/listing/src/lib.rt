@@ -44,7 +44,7 @@ fn list_refusal(found: tables::Refusal, out: &mut [u8]) -> usize
     ensures { PutsAll (refusal_line (fault_of found).number (fault_of found).place) out.old out.new result }
 {
     let mut line = [0u8; 64];
-    let long = text::put_refusal(&mut line, found);
+    let long = text::put_refusal(&mut line, u32::from(found.number()), found.place());
     text::put_all(out, &line[..long])
 }
 

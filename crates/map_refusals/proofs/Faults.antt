@@ -17,7 +17,7 @@ use Rattle.tables.specs.declared.Refusal as DRefusal
 use Rattle.tables.specs.Refusals.{Fault, fault, none}
 use Rattle.tables.specs.Refusing.{fault_of}
 use Rattle.tables.specs.Tables.{wires, table_of}
-use Rattle.tables.proofs.Answers.{first_of, second_of}
+use Rattle.tables.proofs.Answers.{refused_first, second_of}
 use Rattle.construction.specs.declared.And as DAnd
 use Rattle.construction.specs.Gadgets.{gadget_of}
 use Rattle.construction.specs.Wires.{masked_table, tape_long}
@@ -76,7 +76,7 @@ module _ (A : DAnd.And) (s : List ℕ) (o : ℕ) (xs ys ts ps : List ℕ) (a b c
       (e : DRefusal.Refusal) → plain_fault (gadget_of A) s o ≡ fault_of e
       → map_fault (gadget_of A) s o xs ys ts ps a b c ≡ fault_of e
   unfolding map_fault
-  map_stopped e h = first_of _ e h
+  map_stopped e h = refused_first _ e h
 
   pub map_follows :
       (s' : List ℕ) (p : DPlan.Plan) (f : Fault)

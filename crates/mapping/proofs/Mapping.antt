@@ -11,8 +11,7 @@ use lib.ListN.{length}
 use Rattle.tables.specs.declared.Answer as DAnswer
 use Rattle.tables.specs.declared.Refusal as DRefusal
 use Rattle.tables.specs.Refusals.{Fault, none}
-use Rattle.tables.specs.Refusing.{fault_of}
-use Rattle.tables.specs.Inside.{answer_of}
+use Rattle.tables.specs.Refusing.{fault_of, answer_of}
 use Rattle.tables.specs.Tables.{wires, table_of}
 use Rattle.tables.specs.Packing.{bytes_for, tape_of, spare}
 use Rattle.tables.proofs.Tests.{and_true}

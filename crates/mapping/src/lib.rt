@@ -1,7 +1,7 @@
 // Mapping a tape from one secret to another: the free share of the probes, the mapped tape and both runs.
 #![tactic(auto)]
 
-ghost use Rattle.tables.specs.Inside.{answer_of};
+ghost use Rattle.tables.specs.Refusing.{answer_of};
 ghost use Rattle.construction.specs.Gadgets.{gadget_of};
 ghost use Rattle.construction.specs.Wires.{probe_marks};
 ghost use Rattle.secrecy.specs.Says.{MapSays};

@@ -14,7 +14,7 @@ use std::io;
 #[tactic(auto, using(text::proofs::Writing::refusal_long))]
 fn report(rt: &HostRuntime, refusal: tables::Refusal) -> io::Result<()> {
     let mut line = [0u8; 64];
-    let long = text::put_refusal(&mut line, refusal);
+    let long = text::put_refusal(&mut line, u32::from(refusal.number()), refusal.place());
     rt.stderr().write_all(&line[..long])
 }
 

@@ -4,7 +4,7 @@
 ghost use Rattle.std.specs.Prelude.{◌≡◌, ◌+◌, ◌*◌, ◌≤◌, ◌<◌, length, replicate};
 ghost use Rattle.tables.specs.Inside.{put_at};
 ghost use Rattle.tables.specs.Kinds.{kind_is};
-ghost use Rattle.tables.specs.Tables.{kind_byte, AND, OR};
+ghost use Rattle.tables.specs.Tables.{AND, OR};
 ghost use Rattle.construction.specs.Wires.{cost};
 ghost use Rattle.layout.specs.Layout.{pieces_from};
 ghost use Rattle.mask_kinds.specs.Kinds.{pair_kinds, row_kinds, new_kinds, XorsFrom};
@@ -26,11 +26,11 @@ fn write_pair_kinds(kinds: &mut [u8], at: usize, m: usize)
 }
 
 // Writes the kinds of m gates of one kind.
-pub fn write_same_kinds(kind: Kind, kinds: &mut [u8], at: usize, m: usize)
+pub fn write_same_kinds(kind: u8, kinds: &mut [u8], at: usize, m: usize)
     requires { at + m ≤ length kinds.old }
-    ensures { kinds.new ≡ put_at at (replicate m (kind_byte (kind_is kind))) kinds.old }
+    ensures { kinds.new ≡ put_at at (replicate m kind) kinds.old }
 {
-    kinds[at..at + m].fill(kind as u8);
+    kinds[at..at + m].fill(kind);
 }
 
 // Writes the kinds of all rows, each its own product and then the sums, where the kinds of XOR gates stand already.
@@ -74,7 +74,7 @@ pub fn write_kinds_of(kind: Kind, n: usize, kinds: &mut [u8], at: usize)
         Kind::Not | Kind::Xor => kinds[at] = kind as u8,
         Kind::And => write_and_kinds(kinds, at, n),
         Kind::Random => {}
-        Kind::Constant => write_same_kinds(kind, kinds, at, n),
+        Kind::Constant => write_same_kinds(kind as u8, kinds, at, n),
         Kind::Or => write_or_kinds(kinds, at, n),
     }
 }

@@ -11,12 +11,11 @@ use lib.ListN.{length, get_or, take, drop}
 use Rattle.tables.specs.declared.Refusal as DRefusal
 use Rattle.tables.specs.declared.Refusal.TheVariants as Refusal
 use Rattle.tables.specs.Refusals.{Fault, none, passed, or_else}
-use Rattle.tables.specs.Refusing.{fault_of}
+use Rattle.tables.specs.Refusing.{fault_of, answer_of}
 use Rattle.tables.specs.Tables.{table_fault}
 use Rattle.tables.specs.Says.{over}
-use Rattle.tables.specs.Inside.{answer_of}
 use Rattle.tables.proofs.Tests.{first_refused}
-use Rattle.tables.proofs.Answers.{first_of, second_of, writes_refused, writes_done}
+use Rattle.tables.proofs.Answers.{refused_first, second_of, writes_refused, writes_done}
 use Rattle.tables.proofs.Cut.{cut_fault, cut_refused}
 use Rattle.construction.specs.declared.And as DAnd
 use Rattle.construction.specs.Gadgets.{Gadget, gadget_of}
@@ -31,7 +30,7 @@ pub mask_refused :
     (G : Gadget) (s : List ℕ) (o : ℕ) (b : List ℕ) (e : DRefusal.Refusal) → plain_fault G s o ≡ fault_of e
     → MaskSays G s o b b (answer_of (Err e))
 unfolding mask_fault
-mask_refused G s o b e h = writes_refused e (masked_bytes G s o) b (first_of _ e h)
+mask_refused G s o b e h = writes_refused e (masked_bytes G s o) b (refused_first _ e h)
 
 module _ (a : DAnd.And) (s : List ℕ) (o : ℕ) (s' : List ℕ) (p : DPlan.Plan)
     (R : PlanReady s' p) (es : s' ≡ s) (eo : p.order ≡ o) (none_wrong : plain_fault (gadget_of a) s o ≡ none) where

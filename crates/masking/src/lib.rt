@@ -2,7 +2,7 @@
 #![tactic(auto)]
 
 ghost use Rattle.std.specs.Prelude.{◌≡◌};
-ghost use Rattle.tables.specs.Inside.{answer_of};
+ghost use Rattle.tables.specs.Refusing.{answer_of};
 ghost use Rattle.construction.specs.Gadgets.{gadget_of};
 ghost use Rattle.construction.specs.Says.{MaskSays};
 ghost use Rattle.masking.specs.Input.{and_of, OrderedSays, InputSays};

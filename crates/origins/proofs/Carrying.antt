@@ -31,7 +31,7 @@ use Rattle.construction.specs.Wires.{masked_table, origins, origin_at, probe_mar
 use Rattle.construction.specs.Says.{plain_fault, marks_fault, MarksSay}
 use Rattle.construction.specs.Told.{second_of, marks_of}
 use Rattle.planning.specs.Plans.{PlanReady}
-use Rattle.tables.proofs.Answers.{refused_fails, first_of}
+use Rattle.tables.proofs.Answers.{refused_fails, refused_first}
 use Rattle.origins.specs.Origins.{Among, second_in, PartSays, CarriedSays, PartMarksSay, GateMarksSay, NewWireSays}
 use Rattle.gate_costs.proofs.Figures.{tri_small, square_small}
 use Rattle.construction.proofs.Lawful.{lawful}
@@ -156,7 +156,7 @@ pub marks_refused :
     → MarksSay G (probe_marks G) s o w (marks_of (Err e))
 unfolding marks_fault
 marks_refused G s o w e h =
-    let F = first_of (refused_if (leb (wires (masked_table G o (table_of s))) w) 13) e h in
+    let F = refused_first (refused_if (leb (wires (masked_table G o (table_of s))) w) 13) e h in
     let fails = refused_fails e F in
     record { number = rw F; place = rw F; first = rw fails; second = rw fails }
 
@@ -178,10 +178,11 @@ module _ (a : DAnd.And) (o w : ℕ) {s s' : List ℕ} {p : DPlan.Plan} (R : Plan
   pub marks_inside :
       {c : DCarried.Carried} → w < p.wires → CarriedSays (probe_marks (gadget_of a) p.order (table_of s') w) c
       → MarksSay (gadget_of a) (probe_marks (gadget_of a)) s o w (marks_of (Ok c))
+      × CarriedSays (probe_marks (gadget_of a) o (table_of s) w) c
   unfolding marks_fault
   marks_inside h C =
       let before : leb (wires (masked_table (gadget_of a) o (table_of s))) w ≡ false = lt-leb _ w (omega (arith, masked_wires_are)) in
       let e : marks_fault (gadget_of a) s o w ≡ none = rw (none_at, before) in
       let D = rw (same.0, same.1) at C in
       let second = second_is (probe_marks (gadget_of a) o (table_of s) w) in
-      record { number = rw e; place = rw e; first = rw e D.first; second = rw (e, D.second) second }
+      (record { number = rw e; place = rw e; first = rw e D.first; second = rw (e, D.second) second }, D)

@@ -2,7 +2,7 @@
 // together with the pins of its gate.
 #![tactic(auto)]
 
-ghost use Rattle.std.specs.Prelude.{◌*◌, ◌≤◌, ◌<◌};
+ghost use Rattle.std.specs.Prelude.{◌*◌, ◌≤◌, ◌<◌, IfOk};
 ghost use Rattle.tables.specs.Tables.{table_of, AND, OR};
 ghost use Rattle.tables.specs.Kinds.{kind_is};
 ghost use Rattle.construction.specs.Shares.{tri};
@@ -192,7 +192,8 @@ pub fn wire_marks(
     order: u8,
     wire: u32,
 ) -> Result<Carried, Refusal>
-    ensures { MarksSay (gadget_of and) (probe_marks (gadget_of and)) table.now order wire (marks_of result) }
+    ensures { MarksSay (gadget_of and) (probe_marks (gadget_of and)) table.now order wire (marks_of result)
+        × IfOk result (λ c. CarriedSays (probe_marks (gadget_of and) order (table_of table.now) wire) c) }
 {
     let planned = planning::plan_table(table, order)?;
     let w = wire as usize;

@@ -16,7 +16,7 @@ use Rattle.tables.specs.Refusals.{Fault, fault, none, passed, or_else, refused_i
 use Rattle.tables.specs.Tables.{Kind, NOT, XOR, AND, RANDOM, CONSTANT, OR, UNKNOWN, kind_of, Gate, no_gate, gate_of, Table, wires, table_of}
 use Rattle.tables.specs.Tables.{table_bytes, table_fault, is_random, random_fault}
 use Rattle.tables.specs.Refusing.{fault_of}
-use Rattle.tables.proofs.Answers.{none_passed, first_of, second_of}
+use Rattle.tables.proofs.Answers.{none_passed, refused_first, second_of}
 use Rattle.tables.specs.Counted.{counts_of}
 use Rattle.tables.proofs.Tests.{first_passed, not_refused, or_else_assoc}
 use Rattle.tables.proofs.Total.{count_plain, total_below, total_small}
@@ -163,7 +163,7 @@ tallied {s} {o} t p r T hi ho =
     } in
     (rw (t, p, r), record { accepted = accepted; tally = T; countable = countable accepted hi ho T.counts })
 
-pub ruleset tally_laws = (first_of, second_of, none_passed, accepted_long, has_gates)
+pub ruleset tally_laws = (refused_first, second_of, none_passed, accepted_long, has_gates)
 
 pub maskable_passed : {s : List ℕ} {o : ℕ} → Maskable s o → passed (maskable_fault s o) ≡ true
 maskable_passed M = rw (M.table, M.order, M.plain)
@@ -281,7 +281,7 @@ module _ {s : List ℕ} {p : DPlan.Plan} (R : PlanReady s p) where
 pub seven_refused :
     (s : List ℕ) (o : ℕ) (e : DRefusal.Refusal) → maskable_fault s o ≡ fault_of e
     → (a : DAnd.And) → plain_fault (gadget_of a) s o ≡ fault_of e
-seven_refused s o e h a = eight_last (gadget_of a) s o ∙ first_of _ e h
+seven_refused s o e h a = eight_last (gadget_of a) s o ∙ refused_first _ e h
 
 module _ {s : List ℕ} {o : ℕ} {y : DTally.Tally} {m : DMasked.Masked}
     (T : Tallied s o y) (M : MaskedBy o y.inputs y.outputs y.counts m) where

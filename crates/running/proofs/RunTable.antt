@@ -13,9 +13,9 @@ use Rattle.tables.specs.Runs.{run_from, run, read_all, outputs_of, randoms}
 use Rattle.tables.specs.Packing.{unpacked, tape_of}
 use Rattle.tables.specs.declared.Refusal as DRefusal
 use Rattle.tables.specs.Refusals.{Fault, none}
-use Rattle.tables.specs.Refusing.{fault_of}
+use Rattle.tables.specs.Refusing.{fault_of, answer_of}
 use Rattle.tables.specs.Says.{over, RunDone}
-use Rattle.tables.specs.Inside.{HasOutputs, put_at, answer_of}
+use Rattle.tables.specs.Inside.{HasOutputs, put_at}
 use Rattle.run_gates.specs.RunGates.{RunReady}
 use Rattle.running.specs.Running.{OutputsReady, ran_packed}
 use Rattle.tables.proofs.Put.{put_zero, over_length, over_over, Writing, writing_front}

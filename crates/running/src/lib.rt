@@ -6,7 +6,8 @@ ghost use Rattle.tables.specs.Refusals.{passed};
 ghost use Rattle.tables.specs.Tables.{wires, table_of, table_fault};
 ghost use Rattle.tables.specs.Runs.{outputs_of};
 ghost use Rattle.tables.specs.Says.{over, supplied_fault, lent_fault, run_fault, RunSays};
-ghost use Rattle.tables.specs.Inside.{Refused, answer_of};
+ghost use Rattle.tables.specs.Refusing.{answer_of};
+ghost use Rattle.tables.specs.Inside.{Refused};
 ghost use Rattle.running.specs.Running.{OutputsReady, ran_packed};
 
 use fields::{Gates, Outputs};

@@ -102,7 +102,7 @@ fn put_told(out: &mut [u8], told: Result<Six, Refusal>) -> usize
 {
     match told {
         Ok(six) => put_six(out, six),
-        Err(refusal) => text::put_refusal(out, refusal),
+        Err(refusal) => text::put_refusal(out, u32::from(refusal.number()), refusal.place()),
     }
 }
 

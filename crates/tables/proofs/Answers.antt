@@ -6,14 +6,14 @@ use mathlib.Core.List.{List}
 use Prim.Native.Nat.{ℕ, ◌≤◌}
 use native.Mathlib.Omega.{arith}
 use lib.ListN.{length, drop, length-append}
+use borrow.Author.Tests.{ne_eqb}
 use Rattle.std.specs.Prelude.{Ok, Err}
 use Rattle.tables.specs.declared.Answer as DAnswer
 use Rattle.tables.specs.declared.Refusal as DRefusal
 use Rattle.tables.specs.declared.Refusal.TheVariants as Refusal
 use Rattle.tables.specs.Refusals.{Fault, none, passed, or_else}
-use Rattle.tables.specs.Refusing.{fault_of}
+use Rattle.tables.specs.Refusing.{fault_of, answer_of}
 use Rattle.tables.specs.Says.{Answered, over, after_call, Writes}
-use Rattle.tables.specs.Inside.{answer_of}
 use Rattle.tables.proofs.Tests.{first_passed, first_refused}
 
 -- a refusal is no success
@@ -38,9 +38,12 @@ refused_fails e h = rw h (refusal_fails e)
 pub none_passed : {f : Fault} → f ≡ none → passed f ≡ true
 none_passed h = rw h refl
 
--- a chain of two checks, of which the first refuses, or not
-pub first_of : {f : Fault} (g : Fault) (e : DRefusal.Refusal) → f ≡ fault_of e → or_else f g ≡ fault_of e
-first_of {f} g e h = first_refused f g (refused_fails e h) ∙ h
+-- a chain of two checks, of which the first refuses, by whatever number and place; by one of the code's refusals; or not
+pub first_of : {f h : Fault} (g : Fault) → f ≡ h → (h.number ≡ 0 → ⊥) → or_else f g ≡ h
+first_of {f} {h} g e n = first_refused f g (rw e (ne_eqb h.number 0 n)) ∙ e
+
+pub refused_first : {f : Fault} (g : Fault) (e : DRefusal.Refusal) → f ≡ fault_of e → or_else f g ≡ fault_of e
+refused_first {f} g e h = first_refused f g (refused_fails e h) ∙ h
 
 pub second_of : {f g h : Fault} → f ≡ none → g ≡ h → or_else f g ≡ h
 second_of {f} {g} p h = first_passed f g (none_passed p) ∙ h

@@ -1,7 +1,6 @@
 -- For contracts inside the library only: no promise of a call cites this.
 -- Assumes nothing.
-use Rattle.std.specs.Prelude.{◌≡◌, Result, Ok, Err, MatchResult, List, ◌++◌, ℕ, ◌+◌, ◌*◌, ◌≤◌, ◌<◌, length, get_or, take, drop}
-use Rattle.tables.specs.declared.Answer as DAnswer
+use Rattle.std.specs.Prelude.{◌≡◌, Result, MatchResult, List, ◌++◌, ℕ, ◌+◌, ◌*◌, ◌≤◌, ◌<◌, length, get_or, take, drop}
 use Rattle.tables.specs.declared.GateFields as DGateFields
 use Rattle.tables.specs.declared.Refusal as DRefusal
 use Rattle.tables.specs.Refusals.{Fault, none}
@@ -21,11 +20,6 @@ Refused f r = MatchResult r (λ _. f ≡ none) (λ e. f ≡ fault_of e)
 -- the same of a check that gives a value where there is no fault, of which P holds
 abbrev pub Outcome : {A : Type 0} → Fault → (A → Type 0) → Result A DRefusal.Refusal → Type 0
 Outcome f P r = MatchResult r (λ x. (f ≡ none) × P x) (λ e. f ≡ fault_of e)
-
--- what C is told of a call: a refusal's number and place, or 0, 0 and the value
-abbrev pub answer_of : Result ℕ DRefusal.Refusal → DAnswer.Answer
-answer_of (Ok v) = record { number = 0; place = 0; value = v }
-answer_of (Err e) = record { number = (fault_of e).number; place = (fault_of e).place; value = 0 }
 
 -- xs at a place of ys
 unfoldable pub put_at : ℕ → List ℕ → List ℕ → List ℕ

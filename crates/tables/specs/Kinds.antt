@@ -1,3 +1,4 @@
+-- For contracts inside the library only: no promise of a call cites this.
 -- The code's kinds of gates, and the definition's.
 -- Assumes nothing.
 use Rattle.std.specs.Prelude.{◌≡◌, ℕ, ◌<◌, Result, MatchResult}

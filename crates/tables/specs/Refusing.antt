@@ -1,5 +1,7 @@
--- The code's refusals, by their numbers and places (document 01, "Refusals, by who can cause them").
+-- The code's refusals, by their numbers and places (document 01, "Refusals, by who can cause them"), and what C is told of a call.
 -- Assumes nothing.
+use Rattle.std.specs.Prelude.{ℕ, Result, Ok, Err}
+use Rattle.tables.specs.declared.Answer as DAnswer
 use Rattle.tables.specs.declared.Refusal as DRefusal
 use Rattle.tables.specs.declared.Refusal.TheVariants as Refusal
 use Rattle.tables.specs.Refusals.{Fault, fault}
@@ -19,3 +21,8 @@ fault_of Refusal.Counts = fault 10 0
 fault_of (Refusal.NotBit place) = fault 11 place
 fault_of Refusal.TooManyProbes = fault 12 0
 fault_of (Refusal.NoWire probe) = fault 13 probe
+
+-- what C is told of a call: a refusal's number and place, or 0, 0 and the value
+abbrev pub answer_of : Result ℕ DRefusal.Refusal → DAnswer.Answer
+answer_of (Ok v) = record { number = 0; place = 0; value = v }
+answer_of (Err e) = record { number = (fault_of e).number; place = (fault_of e).place; value = 0 }

@@ -4,8 +4,7 @@
 ghost use Rattle.std.specs.Prelude.{◌≡◌, ◌≤◌};
 ghost use Rattle.tables.specs.Tables.{kind_of};
 ghost use Rattle.tables.specs.Kinds.{kind_is, Decodes};
-ghost use Rattle.tables.specs.Refusing.{fault_of};
-ghost use Rattle.tables.specs.Inside.{answer_of};
+ghost use Rattle.tables.specs.Refusing.{fault_of, answer_of};
 
 // The bytes of the longest table: 65,534 gates and 65,535 outputs.
 pub const LONGEST: usize = 458746;

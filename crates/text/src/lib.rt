@@ -5,7 +5,6 @@
 // bytes stand at which place of a lent buffer that has room for them, where those two would have to say so of themselves and could fail.
 
 ghost use Rattle.std.specs.Prelude.{◌≡◌, [], ◌∷◌, ◌++◌, ◌+◌, ◌≤◌, length};
-ghost use Rattle.tables.specs.Refusing.{fault_of};
 ghost use Rattle.text.specs.Text.{decimal, refusal_line, Puts, PutsAll};
 
 // Puts bytes at a place, and answers the next place.
@@ -48,12 +47,11 @@ pub fn put_two(out: &mut [u8], at: usize, first: &[u8], x: u32, second: &[u8], y
 
 // Puts the line of a refusal, and answers its length.
 #[tactic(auto, unfolding(crate::specs::Text::line_of))]
-pub fn put_refusal(out: &mut [u8], refusal: tables::Refusal) -> usize
-    requires { length (refusal_line (fault_of refusal).number (fault_of refusal).place) ≤ length out.old }
-    ensures { Puts 0 (refusal_line (fault_of refusal).number (fault_of refusal).place) out.old out.new result }
+pub fn put_refusal(out: &mut [u8], number: u32, place: u32) -> usize
+    requires { length (refusal_line number place) ≤ length out.old }
+    ensures { Puts 0 (refusal_line number place) out.old out.new result }
 {
-    let number = u32::from(refusal.number());
-    put_two(out, 0, b"refused ", number, b" ", refusal.place())
+    put_two(out, 0, b"refused ", number, b" ", place)
 }
 
 // Puts all of the bytes at the front and answers how many; where they do not fit, puts nothing and answers 0.

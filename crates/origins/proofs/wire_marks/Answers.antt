@@ -5,7 +5,7 @@ use Rattle.origins.proofs.wire_marks.Goals as goal
 
 pub returns-then-planned-w : goal.returns-then-planned-w
 returns-then-planned-w c =
-    let P = c.in_ok-planned in marks_outside c.args.and _ _ P.planned.ready (P.ensures c.args.and).1 c.if-planned-w.true
+    let P = c.in_ok-planned in (marks_outside c.args.and _ _ P.planned.ready (P.ensures c.args.and).1 c.if-planned-w.true, tt)
 
 pub returns : goal.returns
 returns c =
