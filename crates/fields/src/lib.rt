@@ -35,15 +35,18 @@ pub fn put_field(out: &mut [u8], at: usize, v: usize)
     requires { (at + 1 < length out.old) × (v < 65536) }
     ensures { out.new ≡ put_at at (two v) out.old }
 {
-    put_bytes(out, at, &(v as u16).to_le_bytes());
+    out[at..at + 2].copy_from_slice(&(v as u16).to_le_bytes());
 }
 
-// Writes bytes at a place.
+// Writes bytes at a place, one by one: `copy_from_slice` would have the archive ask for memmove from outside, whose first call takes
+// more stack than include/masks.h states.
 pub fn put_bytes(out: &mut [u8], at: usize, src: &[u8])
     requires { at + length src.now ≤ length out.old }
     ensures { out.new ≡ put_at at src.now out.old }
 {
-    out[at..at + src.len()].copy_from_slice(src);
+    for i in 0..src.len() {
+        out[at + i] = src[i];
+    }
 }
 
 impl<'a> Gates<'a> {

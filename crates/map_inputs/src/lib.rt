@@ -61,8 +61,8 @@ pub fn begin_runs(
     let n = 2 * order + 1;
     let shares = n * given.first.len();
     encoding::encode_all(order, given.first, given.tape, one);
-    mapped[..given.tape.len()].copy_from_slice(given.tape);
+    fields::put_bytes(mapped, 0, given.tape);
     flip_inputs(order, k, given.first, given.second, mapped);
-    other[..shares].copy_from_slice(&one[..shares]);
+    fields::put_bytes(other, 0, &one[..shares]);
     flip_shares(n, k, given.first, given.second, other);
 }

@@ -1,16 +1,20 @@
 -- `fields::put_bytes` meets its contract.
 -- Assumes nothing.
-use mathlib.Core.Path.{◌≡◌, refl}
-use Prim.Native.Nat.{◌+◌, ◌-◌}
-use native.Mathlib.Omega.{arith}
-use lib.ListN.{length}
-use Rattle.std.proofs.Common.{drop-drop}
-use Rattle.tables.specs.Inside.{put_at}
+use native.Mathlib.Nat.{add-zero, add-suc}
+use native.Mathlib.Numerals.{add-one}
+use lib.ListN.{drop_of_length-le}
+use lib.Seq.{drop-cons}
+use Rattle.tables.proofs.Put.{writing_start, writing_inside, writing_byte, writing_end}
 use Rattle.fields.proofs.put_bytes.Goals as goal
 
+pub loop-i-init : goal.loop-i-init
+loop-i-init c = rw add-zero (writing_start _ _ _ c.requires)
+
+pub bounds-out-at : goal.bounds-out-at
+bounds-out-at c = writing_inside c.loop-i.invariant _ _ (drop-cons _ _ 0 c.loop-i-test.true)
+
+pub loop-i-preserved : goal.loop-i-preserved
+loop-i-preserved c = rw (add-one, add-suc) (writing_byte c.loop-i.invariant _ _ (drop-cons _ _ 0 c.loop-i-test.true))
+
 pub returns : goal.returns
-unfolding put_at
-returns c =
-    let at = c.args.at in
-    let n : at + length c.args.src.now - at ≡ length c.args.src.now = omega arith in
-    rw (c.copy_from_slice.ensures.after, n, drop-drop (length c.args.src.now) at c.args.out.now) refl
+returns c = writing_end c.loop-i.invariant (drop_of_length-le _ c.loop-i-test.false)
