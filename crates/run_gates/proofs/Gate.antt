@@ -1,6 +1,6 @@
 -- A gate's value by its kind and the truth tables.
 -- Assumes nothing.
-use mathlib.Core.Path.{◌≡◌, refl, sym, ap, ◌∙◌}
+use mathlib.Core.Path.{◌≡◌, refl, ap, ◌∙◌}
 use mathlib.Core.List.{List}
 use Prim.Native.Nat.{ℕ, zero, suc, ◌+◌, ◌-◌, ◌*◌, ◌/◌, ◌%◌, ◌^◌, ◌≤◌}
 use native.Mathlib.Nat.{add-zero}
@@ -10,7 +10,7 @@ use Rattle.run_gates.specs.declared.Drawn as DDrawn
 use Rattle.tables.specs.declared.GateFields as DGateFields
 use Rattle.tables.specs.declared.Kind as DKind
 use Rattle.tables.specs.declared.Kind.TheVariants.{Not, Xor, And, Random, Constant, Or}
-use Rattle.tables.specs.Tables.{RANDOM, CONSTANT, kind_byte, kind_of}
+use Rattle.tables.specs.Tables.{kind_byte, kind_of}
 use Rattle.tables.specs.Kinds.{kind_is}
 use Rattle.tables.specs.Runs.{driven, drawn}
 use Rattle.run_gates.specs.RunGates.{GateReady, GateSays}
@@ -54,42 +54,50 @@ drawn_none Random h = absurd (h refl)
 drawn_none Constant h = refl
 drawn_none Or h = refl
 
--- the byte of the kind that a byte states
-byte_again : (b : ℕ) → kind_byte (kind_of b) ≡ b
-byte_again zero = refl
-byte_again (suc zero) = refl
-byte_again (suc (suc zero)) = refl
-byte_again (suc (suc (suc zero))) = refl
-byte_again (suc (suc (suc (suc zero)))) = refl
-byte_again (suc (suc (suc (suc (suc zero))))) = refl
-byte_again (suc (suc (suc (suc (suc (suc b)))))) = refl
+-- the kind that a byte states, and its byte again
+record Stated (b : ℕ) : Type 0 where
+  kind : DKind.Kind
+  named : kind_is kind ≡ kind_of b
+  byte : b ≡ kind_byte (kind_is kind)
+
+stated : (b : ℕ) → b ≤ 5 → Stated b
+stated zero h = record { kind = Not; named = refl; byte = refl }
+stated (suc zero) h = record { kind = Xor; named = refl; byte = refl }
+stated (suc (suc zero)) h = record { kind = And; named = refl; byte = refl }
+stated (suc (suc (suc zero))) h = record { kind = Random; named = refl; byte = refl }
+stated (suc (suc (suc (suc zero)))) h = record { kind = Constant; named = refl; byte = refl }
+stated (suc (suc (suc (suc (suc zero))))) h = record { kind = Or; named = refl; byte = refl }
+stated (suc (suc (suc (suc (suc (suc b)))))) h = absurd (omega arith)
 
 -- a random gate takes the next bit, a constant is its left operand; any other goes by the truth tables
-module _
-    {x : DGateFields.GateFields}
-    {a b : ℕ}
-    {rs : List ℕ}
-    {c : ℕ}
-    {r : DDrawn.Drawn}
-    (k : DKind.Kind)
-    (named : kind_is k ≡ kind_of x.kind) where
-  pub says_random : k ≡ Random → r.value ≡ get_or rs c 0 → r.next ≡ c + 1 → GateSays x a b rs c r
-  says_random is v n =
-      let kind : kind_of x.kind ≡ RANDOM = sym named ∙ ap kind_is is in
-      record { value = λ m u p q. rw kind v; next = rw kind n }
+module _ {x : DGateFields.GateFields} {a b : ℕ} {rs : List ℕ} {c : ℕ} where
+  pub says_random :
+      {r : DDrawn.Drawn} → x.kind ≡ 3 → r.value ≡ get_or rs c 0 → r.next ≡ c + 1 → GateSays x a b rs c r
+  says_random e v n = record { value = λ m u p q. rw e v; next = rw e n }
 
-  pub says_constant : k ≡ Constant → r.value ≡ x.left % 2 → r.next ≡ c → GateSays x a b rs c r
-  says_constant is v n =
-      let kind : kind_of x.kind ≡ CONSTANT = sym named ∙ ap kind_is is in
-      record { value = λ m u p q. rw kind v; next = rw (kind, add-zero) n }
+  pub says_constant :
+      {r : DDrawn.Drawn} → x.kind ≡ 4 → r.value ≡ x.left % 2 → r.next ≡ c → GateSays x a b rs c r
+  says_constant e v n = record { value = λ m u p q. rw e v; next = rw (e, add-zero) n }
 
-  pub says_truth :
-      GateReady x a b rs c → (k ≡ Random → ⊥) → (k ≡ Constant → ⊥)
-      → r.value ≡ 14682211 / 2 ^ (4 * x.kind + 2 * a + b) % 2 → r.next ≡ c → GateSays x a b rs c r
-  says_truth ready h j v n =
-      let byte : x.kind ≡ kind_byte (kind_is k) = sym (byte_again x.kind) ∙ ap kind_byte (sym named) in
-      let row : r.value ≡ truth k a b = rw byte at v in
-      record {
-        value = λ m u p q. row ∙ rw (← named) (truth_driven k _ _ h j (ready.left k named h j) ready.right _ m _ u p q);
-        next = rw (← named, drawn_none k h, add-zero) n;
-      }
+  module _ (ready : GateReady x a b rs c) (h : x.kind ≡ 3 → ⊥) (j : x.kind ≡ 4 → ⊥) where
+    is : Stated x.kind
+    is = stated x.kind ready.known
+
+    no_random : is.kind ≡ Random → ⊥
+    no_random e = h (is.byte ∙ ap (λ k. kind_byte (kind_is k)) e)
+
+    no_constant : is.kind ≡ Constant → ⊥
+    no_constant e = j (is.byte ∙ ap (λ k. kind_byte (kind_is k)) e)
+
+    pub left_bit : a ≤ 1
+    left_bit = ready.left is.kind is.named no_random no_constant
+
+    pub says_truth :
+        {r : DDrawn.Drawn} → r.value ≡ 14682211 / 2 ^ (4 * x.kind + 2 * a + b) % 2 → r.next ≡ c → GateSays x a b rs c r
+    says_truth {r} v n =
+        let row : r.value ≡ truth is.kind a b = rw is.byte at v in
+        record {
+          value = λ m u p q.
+              row ∙ rw (← is.named) (truth_driven is.kind _ _ no_random no_constant left_bit ready.right _ m _ u p q);
+          next = rw (← is.named, drawn_none is.kind no_random, add-zero) n;
+        }

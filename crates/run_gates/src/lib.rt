@@ -18,30 +18,30 @@ struct Drawn {
 }
 
 // The truth tables of NOT, XOR, AND and OR: bit 4·kind + 2·a + b is what a gate of this kind makes of a and b.
-// No match on these four: kinds in random order make a branch on them guess wrong.
 const TRUTH: u32 = 0xE00863;
 
-// What a gate drives, from its operands' values. The row is by the kind's byte: a kind made a byte again costs the loop some steps.
+// What a gate drives, from its operands' values. The kind's byte is compared, since a match on a kind branches on all six, and kinds
+// in random order make a branch guess wrong.
 fn gate_value(gate: GateFields, a: u8, b: u8, random: &[u8], at: usize) -> Drawn
     requires { GateReady gate a b (unpacked random.now) at }
     ensures { GateSays gate a b (unpacked random.now) at result }
 {
-    match gate.known_kind() {
-        Kind::Random => Drawn {
+    if gate.kind == Kind::Random as u8 {
+        return Drawn {
             value: bits::tape_bit(random, at),
             next: at + 1,
-        },
-        Kind::Constant => Drawn {
+        };
+    }
+    if gate.kind == Kind::Constant as u8 {
+        return Drawn {
             value: (gate.left % 2) as u8,
             next: at,
-        },
-        _ => {
-            let row = 4 * gate.kind + 2 * a + b;
-            Drawn {
-                value: ((TRUTH >> row) % 2) as u8,
-                next: at,
-            }
-        }
+        };
+    }
+    let row = 4 * gate.kind + 2 * a + b;
+    Drawn {
+        value: ((TRUTH >> row) % 2) as u8,
+        next: at,
     }
 }
 
