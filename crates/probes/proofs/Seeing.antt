@@ -56,22 +56,22 @@ module _ (cs : List ℕ) (seen : List Bool) (S : Seen cs seen) (n : ℕ) (few : 
   long = length-take-le w (drop 1 seen) (omega (arith, S.long, length-drop 1 seen)) ∙ e
 
   pub free_found :
-      (r : Option ℕ)
+      {m : ℕ} (r : Option ℕ)
       → MatchOption r
       (AllWithin (λ b. b ≡ true) flags 0 (length flags))
       (λ i. (i < length flags) × HoldsAt (λ b. b ≡ false) flags i × AllWithin (λ b. b ≡ true) flags 0 i)
-      → unwrap_or r n + 1 ≡ free_from n 1 cs
-  free_found None h =
+      → m ≡ unwrap_or r n + 1 → m ≡ free_from n 1 cs
+  free_found None h e =
       let found =
       free_at n 1 n cs (omega arith) (λ j l. sym (flag j l) ∙ h j false (omega arith) (omega (arith, long)))
       (λ l. absurd (omega arith)) in
-      omega (arith, found)
-  free_found (Some i) h =
+      omega (arith, found, e)
+  free_found (Some i) h e =
       let within : i < n = omega (arith, h.0, long) in
       let found =
       free_at n 1 i cs (omega arith) (λ j l. sym (flag j (omega arith)) ∙ h.2 j false (omega arith) l)
       (λ l. sym (flag i l) ∙ h.1 false) in
-      omega (arith, found)
+      omega (arith, found, e)
 
 -- a number marked
 mark_one :
@@ -127,17 +127,17 @@ or_swap false true = refl
 or_swap false false = refl
 
 pub marking_turn :
-    (f : ℕ → List ℕ) (ps : List ℕ) (seen : List Bool) (j : ℕ) {r : DCarried.Carried} {b : ℕ}
+    (f : ℕ → List ℕ) (ps : List ℕ) (seen : List Bool) (j : ℕ) {r : DCarried.Carried} {b : ℕ} {t : Bool}
     → Seen (of_each f (take j ps)) seen → j < length ps → length (f (get_or ps j 0)) ≤ 2
-    → CarriedSays (f (get_or ps j 0)) r → b ≡ unwrap_or r.second r.first
-    → Seen (of_each f (take (j + 1) ps)) (set (set seen r.first true) b true)
-marking_turn f ps seen j {r} {b} S h two C e =
+    → CarriedSays (f (get_or ps j 0)) r → b ≡ unwrap_or r.second r.first → t ≡ true
+    → Seen (of_each f (take (j + 1) ps)) (set (set seen r.first true) b t)
+marking_turn f ps seen j {r} {b} S h two C e on =
     let ms = f (get_or ps j 0) in
     record {
       long = simp length-set S.long;
       marked = λ i l m.
           let both = mark_both seen ms i two l (omega (arith, S.long)) in
-          rw (e, C.first, C.second, both, of_each_next f ps j h, is_in_join i (of_each f (take j ps)) ms, S.marked i l m)
+          rw (e, on, C.first, C.second, both, of_each_next f ps j h, is_in_join i (of_each f (take j ps)) ms, S.marked i l m)
           (or_swap (is_in i ms) (is_in i (of_each f (take j ps))));
     }
 

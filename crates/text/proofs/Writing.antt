@@ -1,4 +1,4 @@
--- Putting text: digits from the lowest, bytes one by one, pieces one after the other, and how long they are.
+-- Putting text: a number's digits, pieces one after the other, and how long they are.
 -- Assumes nothing.
 use mathlib.Core.Path.{◌≡◌, refl, sym, ap, ◌∙◌, subst}
 use mathlib.Core.Bool.{Bool, true, false}
@@ -33,8 +33,10 @@ appends = record { one = λ k n h. rw (lt-ltb n 10 h, digits); more = λ k n h. 
 pub decimal_is : (v : ℕ) → v < 2 ^ 32 → decimal v ≡ Fmt.decimal v
 decimal_is v h = decimal_from_appends digits appends 10 v (omega arith) (length-decimal-le 10 v (omega arith) (omega arith) (omega arith))
 
-pub formatted : (v : ℕ) {text bytes : List ℕ} → text ≡ Fmt.decimal v → bytes ≡ text → v < 2 ^ 32 → bytes ≡ decimal v
-formatted v e f h = f ∙ e ∙ sym (decimal_is v h)
+-- what is formatted is v, so the bytes are v's digits
+pub formatted :
+    (v : ℕ) {w : ℕ} {text bytes : List ℕ} → w ≡ v → text ≡ Fmt.decimal w → bytes ≡ text → v < 2 ^ 32 → bytes ≡ decimal v
+formatted v same e f h = f ∙ e ∙ ap Fmt.decimal same ∙ sym (decimal_is v h)
 
 -- the same bytes
 pub puts_as : {at m : ℕ} {xs ys b c : List ℕ} → xs ≡ ys → Puts at xs b c m → Puts at ys b c m

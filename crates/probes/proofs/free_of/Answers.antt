@@ -9,8 +9,8 @@ use Rattle.probes.proofs.free_of.Goals as goal
 pub returns : goal.returns
 returns c cs S =
     let width : c.args.n + 1 - 1 ≡ c.args.n = omega arith in
-    let first =
-    IsFirst-from_position _ _ _ (λ b. b ≡ false) (λ b. b ≡ true) c.position.ensures.ran (YieldsList-from_slice _ cc)
+    free_found cs c.args.seen.now S c.args.n c.requires _ width c.position.result
+    (IsFirst-from_position _ _ _ (λ b. b ≡ false) (λ b. b ≡ true) c.position.ensures.ran (YieldsList-from_slice _ cc)
     (λ x q k. search (rules, tests))
-    (λ x q k. search (rules, tests)) in
-    rw c.unwrap_or.ensures (free_found cs c.args.seen.now S c.args.n c.requires _ width c.position.result first)
+    (λ x q k. search (rules, tests)))
+    (grind arith)

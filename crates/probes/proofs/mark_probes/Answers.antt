@@ -1,5 +1,6 @@
 -- `probes::mark_probes` meets its contract.
 -- Assumes nothing.
+use native.Mathlib.Omega.{arith}
 use Rattle.tables.specs.Tables.{table_of}
 use Rattle.tables.specs.Runs.{of_each}
 use Rattle.construction.specs.Gadgets.{gadget_of}
@@ -25,4 +26,4 @@ loop-probe-preserved c =
     let wire = probe_below planned.plan.wires ps l.probe-index c.requires some in
     let f = probe_marks (gadget_of c.args.and) planned.plan.order (table_of planned.table.now) in
     marking_turn f ps l.seen l.probe-index l.invariant some (two_carried c.args.and planned.ready wire)
-    c.marks_at-carried.ensures c.unwrap_or-second.ensures
+    c.marks_at-carried.ensures c.unwrap_or-second.ensures (grind arith)
